@@ -1,0 +1,133 @@
+-- The rewritten form of an accepted table is accepted, means the same, and is its own form. Assumes nothing.
+use mathlib.Core.Path.{_≡_, refl, sym, ap, ap₂, _∙_, subst}
+use mathlib.Core.Bool.{Bool, true, false, not, _&&_, _||_}
+use mathlib.Core.List.{List, [], _∷_, _++_}
+use Prim.Native.Nat.{ℕ, zero, suc, _+_, _-_, _*_, _/_, _%_, _^_, _≤_, _<_}
+use native.Mathlib.Omega.{arith}
+use lib.ListN.{length, getD, take, drop, length-drop}
+use lib.Seq.{length-take-le}
+use lib.Dec.{T, leb, ltb, eqb, leb→le, eqb·suc-zero}
+use mir.Facts.{and-yes}
+use Rattle.table.specs.declared.Region.{Region}
+use Rattle.table.specs.Bytes.{num, pick}
+use Rattle.table.specs.Layout.{Entry, Layout, env, low, region, unused, used}
+use Rattle.table.specs.FixedLayouts.{header, host, listKinds}
+use Rattle.table.specs.Objects.{countIn, isUsed, readBody, readEntry, usedIn}
+use Rattle.table.specs.Rules.{answer, bodyRule, consIf, done, entryRule, first, firstFail, inside, listRegions, longEnough, refsRule, usedRule}
+use Rattle.table.specs.Meaning.{meaning}
+use Rattle.table.specs.Numbers.{check, driverRule, heapIn, hostRule, records, regions, tests}
+use Rattle.laws.specs.Lawful.{Lawful}
+use Rattle.laws.specs.Standing.{Stands}
+use Rattle.laws.specs.TestLaws.{AllPass, all-pass}
+use Rattle.laws.specs.FormLaws.{ok-header, ok-host, ok-lists}
+use Rattle.laws.specs.Sound.{body-fit, entry-fit, first-both, refs-fit}
+use Rattle.laws.specs.Found.{body-found, entry-found, refs-found}
+
+-- the heap's region is the last
+tail-inside : (ls : List Layout) (t : List ℕ) (c lo hi : ℕ) (rs : List Region) → T (inside lo hi (listRegions ls t c rs)) → T (inside lo hi rs)
+unfolding listRegions
+tail-inside [] t c lo hi rs k = k
+tail-inside (l ∷ ls) t c lo hi rs k = tail-inside ls t (c + 8) lo hi rs (go (not (eqb (getD t (c + 7) 0) 0)) k)
+  where
+    r : Region
+    r = region (num t c 4) (getD t (c + 7) 0 * num t (c + 4) 2)
+
+    go : (d : Bool) → T (inside lo hi (consIf d r (listRegions ls t (c + 8) rs))) → T (inside lo hi (listRegions ls t (c + 8) rs))
+    go true u = and-yes (leb lo (r .at) && leb (r .at + r .len) hi) _ u .1
+    go false u = u
+
+last-inside : (lo hi n : ℕ) (r : Region) → T (inside lo hi (consIf (not (eqb n 0)) r [])) → 0 < n → r .at + r .len ≤ hi
+last-inside lo hi zero r k z = absurd (omega arith)
+last-inside lo hi (suc n) r k z =
+    let u : T (inside lo hi (r ∷ [])) = rw (eqb·suc-zero n) at k in
+    leb→le (r .at + r .len) hi (and-yes (leb lo (r .at)) _ (and-yes (leb lo (r .at) && leb (r .at + r .len) hi) _ u .0) .1)
+
+module _ (t : List ℕ) (b : (i : ℕ) → getD t i 0 < 256) (ok : check t ≡ done) where
+  heap : Region
+  heap = heapIn t
+
+  passed : AllPass (tests t)
+  unfolding check
+  passed = all-pass (tests t) (unfold tests in tt) (first-both t b (firstFail (tests t)) (records t (meaning t)) ok .0)
+
+  -- what the tests say of the heap
+  bounded : 0 < heap .len → heap .at + heap .len ≤ length t
+  unfolding tests heap heapIn regions
+  bounded z =
+      let p = passed in
+      let size : num t 4 4 ≤ length t = leb→le (num t 4 4) (length t) (and-yes (leb 160 (num t 4 4)) _ (p .1 .1 .0) .1) in
+      let ins = and-yes (inside (64 + num t 68 2) (num t 4 4) (regions t)) _ (and-yes (longEnough listKinds t 80) _ (and-yes (leb 32 (num t 76 2)) _ (p .1 .1 .1 .1 .1 .1 .1 .0) .1) .1) .0 in
+      let lists = and-yes (leb (64 + num t 68 2) (num t 72 4) && leb (num t 72 4 + num t 76 2) (num t 4 4)) _ ins .1 in
+      let last = tail-inside listKinds t 80 (64 + num t 68 2) (num t 4 4) _ lists in
+      omega (arith, last-inside (64 + num t 68 2) (num t 4 4) (num t 40 4) heap last z)
+
+  valid : ℕ → ℕ → Bool
+  valid = usedIn (readBody listKinds t 80)
+
+  count : ℕ → ℕ
+  count = countIn (readBody listKinds t 80)
+
+  records-done : records t (meaning t) ≡ done
+  unfolding check
+  records-done = first-both t b (firstFail (tests t)) (records t (meaning t)) ok .1
+
+  signed-done : (refsRule heap (env count 0) t 0 [] (header .refs) ≡ 0) × (first (hostRule t valid count (readEntry host t (num t 72 4))) (bodyRule valid count heap t 80 (readBody listKinds t 80)) ≡ done)
+  unfolding records driverRule meaning heap valid count
+  signed-done =
+      let u = first-both t b _ _ records-done in
+      (answer-number (refsRule heap (env count 0) t 0 [] (header .refs)) (u .0), u .1)
+    where
+      answer-number : (n : ℕ) → (pick (eqb n 0) done (answer n 0 0)) .number ≡ 0 → n ≡ 0
+      answer-number zero e = refl
+      answer-number (suc n) e = rw (eqb·suc-zero n) at e
+
+  host-used : (e : Entry host) → (hostRule t valid count e) .number ≡ 0 → T (isUsed e) × (entryRule host valid heap (env count 0) t (num t 72 4) e ≡ 0)
+  unfolding hostRule entryRule heap
+  host-used unused e = absurd (omega arith)
+  host-used (used img ss) e = (tt, go (usedRule host valid heap (env count 0) t (num t 72 4) img ss) e)
+    where
+      go : (n : ℕ) → (pick (eqb n 0) done (answer n 2 0)) .number ≡ 0 → n ≡ 0
+      go zero e = refl
+      go (suc n) e = rw (eqb·suc-zero n) at e
+
+  -- the meaning of an accepted table obeys the rules of meanings
+  pub lawful : Lawful (meaning t)
+  unfolding meaning heap valid count tests
+  lawful =
+      let h = first-both t b (hostRule t valid count (readEntry host t (num t 72 4))) _ (signed-done .1) in
+      let u = host-used (readEntry host t (num t 72 4)) (h .0) in
+      let x = entry-fit t b host ok-host valid heap bounded (env count 0) (num t 72 4) (u .1) in
+      let y = body-fit t b listKinds ok-lists valid count heap bounded 80 (h .1) in
+      record {
+        shapes = record {
+          sized = length-take-le 26 (drop 10 t) (simp length-drop (omega (arith, leb→le 160 (length t) (passed .0))));
+          signed = refs-fit t b heap bounded (header .shape .keep) 0 0 (env count 0) [] (header .refs) (ok-header .refsOk) (signed-done .0);
+          owned = x .0;
+          listed = y .0;
+        };
+        present = u .0;
+        ownedNames = x .1;
+        named = y .1;
+      }
+
+  -- and stands in it
+  pub stands : Stands t (meaning t)
+  unfolding header host meaning heap valid count tests regions
+  stands =
+      let p = passed in
+      let size : num t 4 4 ≤ length t = leb→le (num t 4 4) (length t) (and-yes (leb 160 (num t 4 4)) _ (p .1 .1 .0) .1) in
+      let low : 160 ≤ length t = leb→le 160 (length t) (p .0) in
+      let v₁ = and-yes (leb 32 (num t 76 2)) _ (p .1 .1 .1 .1 .1 .1 .1 .0) in
+      let v₂ = and-yes (longEnough listKinds t 80) _ (v₁ .1) in
+      let ins = and-yes (inside (64 + num t 68 2) (num t 4 4) (regions t)) _ (v₂ .1) .0 in
+      let lists = and-yes (leb (64 + num t 68 2) (num t 72 4) && leb (num t 72 4 + num t 76 2) (num t 4 4)) _ ins in
+      let own : num t 72 4 + num t 76 2 ≤ num t 4 4 = leb→le (num t 72 4 + num t 76 2) (num t 4 4) (and-yes (leb (64 + num t 68 2) (num t 72 4)) _ (lists .0) .1) in
+      let long : 32 ≤ num t 76 2 = leb→le 32 (num t 76 2) (v₁ .0) in
+      let h = first-both t b (hostRule t valid count (readEntry host t (num t 72 4))) _ (signed-done .1) in
+      let u = host-used (readEntry host t (num t 72 4)) (h .0) in
+      record {
+        oemAt = refl;
+        driverAt = refs-found t b heap bounded (header .shape .keep) 0 0 (env count 0) [] (header .refs) (ok-header .refsOk) (omega arith) (signed-done .0);
+        ownerAt = entry-found t b host ok-host valid heap bounded (env count 0) (num t 72 4) (omega arith) (u .1);
+        listsAt = body-found t b listKinds ok-lists valid count heap bounded 80 (64 + num t 68 2) (num t 4 4) _ size (v₂ .0) (lists .1) (h .1);
+      }

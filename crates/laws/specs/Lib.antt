@@ -1,0 +1,17 @@
+pub mod Lawful
+pub mod ByteLaws
+pub mod ImageLaws
+pub mod StoreLaws
+pub mod SlotLaws
+pub mod ListLaws
+pub mod Standing
+pub mod TestLaws
+pub mod StandLaws
+pub mod Laid
+pub mod BodyLaws
+pub mod Means
+pub mod FormLaws
+pub mod FormAccepted
+pub mod Sound
+pub mod Found
+pub mod AcceptedMeaning

@@ -1,0 +1,1 @@
+// Theorems about the definitions of table alone: they stand in specs/.

@@ -1,0 +1,142 @@
+-- "Fixed layouts", what a layout is: which bits of each byte count, which stretches are fields, where the references stand, what they refer to.
+-- Definitions only.
+use mathlib.Core.Bool.{Bool, true, false, not, _&&_}
+use mathlib.Core.List.{List, [], _∷_, _++_}
+use Prim.Native.Nat.{ℕ, zero, suc, _+_, _-_, _*_, _/_, _%_, _^_}
+use lib.ListN.{length, getD, replicate}
+use lib.Dec.{leb, eqb}
+use Rattle.table.specs.declared.Need.{Need}
+use Rattle.table.specs.declared.Region.{Region}
+use Rattle.table.specs.Bytes.{pick, part, num, bits, odd, every, same, Edit}
+
+-- A byte's bits that count: those below the modulus n (256 all, 1 none); or modulo m₀ or m₁ as bit d (a power of two) of byte f is 0 or 1
+pub data Keep : Type 0 where
+  low : ℕ → Keep
+  sel : (f d m₀ m₁ : ℕ) → Keep
+
+abbrev pub modOf : Keep → List ℕ → ℕ
+modOf (low n) w = n
+modOf (sel f d m₀ m₁) w = pick (eqb (getD w f 0 % (2 * d) / d) 0) m₀ m₁
+
+-- each byte of xs modulo what ks keeps of it; w is what the conditions look at
+abbrev pub kept : List ℕ → List Keep → List ℕ → List ℕ
+kept w [] xs = []
+kept w (k ∷ ks) [] = 0 ∷ kept w ks []
+kept w (k ∷ ks) (x ∷ xs) = x % modOf k w ∷ kept w ks xs
+
+-- a record's image: its fields, with reserved bytes and bits, ignored fields and references as zero
+unfoldable pub image : List Keep → List ℕ → List ℕ
+image ks x = kept x ks x
+
+abbrev pub region : ℕ → ℕ → Region
+region a n = record { at = a; len = n }
+
+-- A stretch of a record: a field of so many bytes; one of which only the lowest bits count; one that counts only if a bit of another byte is set; or bytes
+-- that are no field: reserved ones and references
+pub data Stretch : Type 0 where
+  field : (width : ℕ) → Stretch
+  flags : (width count : ℕ) → Stretch
+  onlyIf : (width byte bit : ℕ) → Stretch
+  blank : (width : ℕ) → Stretch
+
+-- of a field's n bytes, those of the lowest b bits
+abbrev pub lowest : ℕ → ℕ → List Keep
+lowest zero b = []
+lowest (suc n) b = low (pick (leb 8 b) 256 (2 ^ b)) ∷ lowest n (b - 8)
+
+abbrev pub keepOf : List Stretch → List Keep
+keepOf [] = []
+keepOf (field n ∷ ss) = replicate n (low 256) ++ keepOf ss
+keepOf (flags n b ∷ ss) = lowest n b ++ keepOf ss
+keepOf (onlyIf n f b ∷ ss) = replicate n (sel f (2 ^ b) 1 256) ++ keepOf ss
+keepOf (blank n ∷ ss) = replicate n (low 1) ++ keepOf ss
+
+-- the fields of the stretches that begin at place a
+abbrev pub fieldsOf : ℕ → List Stretch → List Region
+fieldsOf a [] = []
+fieldsOf a (field n ∷ ss) = region a n ∷ fieldsOf (a + n) ss
+fieldsOf a (flags n b ∷ ss) = region a n ∷ fieldsOf (a + n) ss
+fieldsOf a (onlyIf n f b ∷ ss) = region a n ∷ fieldsOf (a + n) ss
+fieldsOf a (blank n ∷ ss) = fieldsOf (a + n) ss
+
+-- A record's own bytes: which bits count, its fields, the bytes that have one right value (ID, version, type), its index (length 0: none), its flags, and the
+-- lowest bits of the two-bit fields among these
+pub record Shape : Type 0 where
+  pub keep : List Keep
+  pub fields : List Region
+  pub fixed : List Edit
+  pub index : Region
+  pub flags : Region
+  pub pairs : List ℕ
+
+abbrev pub shaped : List Stretch → List Edit → Region → Region → List ℕ → Shape
+shaped ss es i f ps = record { keep = keepOf ss; fields = fieldsOf 0 ss; fixed = es; index = i; flags = f; pairs = ps }
+
+-- Where a record stands: its position (0 outside lists), and how many records of each kind there are
+pub record Env : Type 0 where
+  pub position : ℕ
+  pub count : ℕ → ℕ
+
+abbrev pub env : (ℕ → ℕ) → ℕ → Env
+env count n = record { position = n; count = count }
+
+abbrev pub isValid : Shape → List ℕ → Bool
+isValid s img = odd (getD img (s .flags .at) 0)
+
+abbrev pub fixedRight : List Edit → List ℕ → Bool
+fixedRight [] img = true
+fixedRight (e ∷ es) img = same (part img (e .at) (length (e .put))) (e .put) && fixedRight es img
+
+-- no two-bit field is 3
+abbrev pub pairsRight : Shape → List ℕ → Bool
+pairsRight s img = every (λ lo. not (eqb (bits (s .flags .at) (s .flags .len) (lo + 1) lo img) 3)) (s .pairs)
+
+-- ID, version and type, index and two-bit fields of a record's image
+unfoldable pub isRight : Shape → Env → List ℕ → Bool
+isRight s e img = fixedRight (s .fixed) img && (eqb (num img (s .index .at) (s .index .len)) (e .position) && pairsRight s img)
+
+-- The references of a record kind, by ascending offset: to an object of plain bytes, or to a heap record with references of its own. `need img` says whether
+-- the reference counts, by the record's image; `rule e b` is a further rule of a present object's bytes (0: good, else the number returned)
+pub data Refs : Type 0 where
+  none : Refs
+  plain : (p : ℕ) (need : List ℕ → Need) (rule : Env → List ℕ → ℕ) (rest : Refs) → Refs
+  nest : (p : ℕ) (need : List ℕ → Need) (shape : Shape) (own rest : Refs) → Refs
+
+abbrev pub offsets : Refs → List ℕ
+offsets none = []
+offsets (plain p need rule rest) = p ∷ offsets rest
+offsets (nest p need shape own rest) = p ∷ offsets rest
+
+-- What the references of a kind give: the bytes of a plain object ([]: absent); of a heap record nothing, or its image and what its own references give
+pub data Slots : Refs → Type 0 where
+  nil : Slots none
+  bytes : {p : ℕ} {need : List ℕ → Need} {rule : Env → List ℕ → ℕ} {rest : Refs} → List ℕ → Slots rest → Slots (plain p need rule rest)
+  gone : {p : ℕ} {need : List ℕ → Need} {shape : Shape} {own rest : Refs} → Slots rest → Slots (nest p need shape own rest)
+  rec : {p : ℕ} {need : List ℕ → Need} {shape : Shape} {own rest : Refs} → List ℕ → Slots own → Slots rest → Slots (nest p need shape own rest)
+
+-- the object at reference q, [] where it is absent or no plain object
+unfoldable pub slotAt : {rs : Refs} → ℕ → Slots rs → List ℕ
+slotAt q nil = []
+slotAt q (bytes {p = p} x ss) = pick (eqb q p) x (slotAt q ss)
+slotAt q (gone ss) = slotAt q ss
+slotAt q (rec img own ss) = slotAt q ss
+
+-- A record kind: its own bytes, its references, and the rule of its indexes (`used k n` says that position n of kind k is used)
+pub record Layout : Type 0 where
+  pub kind : ℕ
+  pub shape : Shape
+  pub refs : Refs
+  pub names : (ℕ → ℕ → Bool) → List ℕ → Slots refs → Bool
+
+abbrev pub baseOf : Layout → ℕ
+baseOf l = length (l .shape .keep)
+
+-- A record of a list: unused, or its image and its objects
+pub data Entry (l : Layout) : Type 0 where
+  unused : Entry l
+  used : List ℕ → Slots (l .refs) → Entry l
+
+-- A list of entries for each of some kinds
+pub data Body : List Layout → Type 0 where
+  stop : Body []
+  more : {l : Layout} {ls : List Layout} → List (Entry l) → Body ls → Body (l ∷ ls)

@@ -1,0 +1,10 @@
+pub mod Bytes
+pub mod Layout
+pub mod FixedLayouts
+pub mod Objects
+pub mod Rules
+pub mod Meaning
+pub mod Numbers
+pub mod Reads
+pub mod Rewriting
+pub mod Builder
