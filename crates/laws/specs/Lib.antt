@@ -15,3 +15,11 @@ pub mod FormAccepted
 pub mod Sound
 pub mod Found
 pub mod AcceptedMeaning
+pub mod DemandThree
+pub mod ToldLaws
+pub mod Blank
+pub mod Turns
+pub mod Runs
+pub mod Filling
+pub mod Sealing
+pub mod DemandTwo

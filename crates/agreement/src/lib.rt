@@ -1,0 +1,1 @@
+// That definitions and second program agree stands in specs/.

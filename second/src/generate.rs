@@ -1,0 +1,179 @@
+//! Random meanings.
+
+use crate::discovery::Discovery;
+use crate::host::Host;
+use crate::interface::{Info, Interface};
+use crate::meaning::{Entry, Meaning, Origin};
+use crate::random::Random;
+use crate::record::Bytes;
+use crate::security::{Policy, Security};
+use crate::subsystem::{Extended, Subsystem};
+
+fn object(random: &mut Random) -> Bytes<'static> {
+    let longest = *random.pick(&[2, 9, 9, 40]);
+    let length = 1 + random.below(longest);
+    random.bytes(length).into()
+}
+
+fn maybe(random: &mut Random) -> Option<Bytes<'static>> {
+    random.flag().then(|| object(random))
+}
+
+/// Positions from 1 on that are used.
+fn used_positions<R>(list: &[Entry<R>]) -> Vec<u8> {
+    let places = (1..).zip(list);
+    places
+        .filter_map(|(position, entry)| entry.used().map(|_| position))
+        .collect()
+}
+
+/// An optional index: 0, or one of the positions.
+fn zero_or_one_of(random: &mut Random, positions: &[u8]) -> u8 {
+    if positions.is_empty() || random.one_in(3) {
+        0
+    } else {
+        *random.pick(positions)
+    }
+}
+
+fn list<R>(random: &mut Random, make: impl Fn(&mut Random) -> R) -> Vec<Entry<R>> {
+    let count = *random.pick(&[0, 1, 1, 2, 2, 3, 4]);
+    let entry = |_| match random.one_in(4) {
+        true => Entry::Unused,
+        false => Entry::Used(make(random)),
+    };
+    (0..count).map(entry).collect()
+}
+
+/// A list of records that each need one of the interfaces.
+fn dependent_list<R>(
+    random: &mut Random,
+    interfaces: &[u8],
+    make: impl Fn(&mut Random) -> R,
+) -> Vec<Entry<R>> {
+    if interfaces.is_empty() {
+        (0..random.below(3)).map(|_| Entry::Unused).collect()
+    } else {
+        list(random, make)
+    }
+}
+
+/// A random meaning; every index in it names a used record.
+pub fn random_meaning(random: &mut Random) -> Meaning<'static> {
+    let origin = Origin::read(&random.bytes(64));
+    let driver_signature = maybe(random);
+    let host = random_host(random);
+    let interfaces = list(random, random_interface);
+    let valid_interfaces = used_positions(&interfaces);
+    let securities = list(random, random_security);
+    let valid_securities = used_positions(&securities);
+    let discoveries = dependent_list(random, &valid_interfaces, |random| Discovery {
+        interface: *random.pick(&valid_interfaces),
+        security: zero_or_one_of(random, &valid_securities),
+        address: maybe(random),
+        name: maybe(random),
+    });
+    let valid_discoveries = used_positions(&discoveries);
+    let subsystems = dependent_list(random, &valid_interfaces, |random| {
+        let discovery = zero_or_one_of(random, &valid_discoveries);
+        let security = zero_or_one_of(random, &valid_securities);
+        random_subsystem(random, &valid_interfaces, security, discovery)
+    });
+    Meaning {
+        origin,
+        driver_signature,
+        host,
+        interfaces,
+        subsystems,
+        securities,
+        discoveries,
+    }
+}
+
+fn random_host(random: &mut Random) -> Host<'static> {
+    Host {
+        id_configured: random.flag(),
+        name_configured: random.flag(),
+        primary: random.below(3) as u8,
+        id: random.array(),
+        name: object(random),
+    }
+}
+
+fn random_interface(random: &mut Random) -> Interface<'static> {
+    let info = Info {
+        default_route: random.flag(),
+        pci_routing: random.word() as u32,
+        mac_address: random.array(),
+        vlan: random.word() as u16,
+        ip_origin: random.byte(),
+        ip_address: random.array(),
+        prefix_length: random.byte(),
+        gateway: random.array(),
+        route_metric: random.word() as u16,
+        primary_dns: random.array(),
+        secondary_dns: random.array(),
+        dhcp_server: random.flag().then(|| random.array()),
+        host_name: maybe(random),
+    };
+    Interface { info }
+}
+
+/// Security index 0 stands for no security.
+fn random_subsystem(
+    random: &mut Random,
+    interfaces: &[u8],
+    security: u8,
+    discovery: u8,
+) -> Subsystem<'static> {
+    let secondary: Vec<u8> = (0..random.below(4))
+        .map(|_| *random.pick(interfaces))
+        .collect();
+    Subsystem {
+        not_bootable: random.flag(),
+        root_path_used: random.flag(),
+        separate_discovery: random.flag(),
+        discovered: random.flag(),
+        availability: random.below(3) as u8,
+        transport_flags_used: random.flag(),
+        header_digest: random.flag(),
+        data_digest: random.flag(),
+        discovery,
+        address: object(random),
+        service: object(random),
+        port: random.word() as u16,
+        namespace: random.word() as u32,
+        identifier_type: random.byte(),
+        identifier: random.array(),
+        security: (security != 0).then_some(security),
+        primary_interface: *random.pick(interfaces),
+        secondary_interfaces: (!secondary.is_empty()).then(|| secondary.into()),
+        name: object(random),
+        extended: random.flag().then(|| Extended {
+            queue_size_configured: random.flag(),
+            controller: random.word() as u16,
+            queue_size: random.word() as u16,
+            root_path: maybe(random),
+        }),
+    }
+}
+
+fn random_policy(random: &mut Random) -> Option<Policy<'static>> {
+    random.flag().then(|| Policy {
+        origin: 1 + random.below(2) as u8,
+        list: object(random),
+    })
+}
+
+fn random_security(random: &mut Random) -> Security<'static> {
+    Security {
+        authentication: random.below(3) as u8,
+        channel: random.below(3) as u8,
+        algorithms: random_policy(random),
+        protocols: random_policy(random),
+        ciphers: maybe(random),
+        groups: maybe(random),
+        hashes: maybe(random),
+        keypath: maybe(random),
+    }
+}

@@ -1,0 +1,36 @@
+//! An independent reading of the rules for NVMe boot firmware tables.
+//!
+//! Tables are read into typed structs that can hold nothing but what a table
+//! says. The check is whether that reading succeeds, and the one form, the
+//! rewriter and the builder are all written from those structs.
+
+pub mod answer;
+pub mod builder;
+pub mod cases;
+pub mod damage;
+pub mod discovery;
+pub mod faults;
+pub mod form;
+pub mod frame;
+pub mod generate;
+pub mod goods;
+pub mod host;
+pub mod interface;
+pub mod layout;
+pub mod meaning;
+pub mod random;
+pub mod read;
+pub mod record;
+pub mod retell;
+pub mod samples;
+pub mod security;
+pub mod state;
+pub mod subsystem;
+pub mod vectors;
+pub mod wire;
+
+pub use answer::Answer;
+pub use form::{form, form_length, rewrite};
+pub use meaning::{check, meaning, Entry, Meaning};
+pub use read::{field, object, record, Field, Image};
+pub use state::State;

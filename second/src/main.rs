@@ -1,0 +1,109 @@
+//! Checks and rewrites tables, and writes the files others compare with.
+
+use second::{check, rewrite};
+use std::fs;
+use std::path::{Path, PathBuf};
+use std::process::ExitCode;
+
+const HELP: &str = "\
+second: an independent reading of NVMe boot firmware tables
+
+  second check FILE           print the table's number, kind and position
+  second form FILE OUT        write the table's one form
+  second vectors write DIR    write DIR/tables.txt
+  second vectors check DIR    say whether DIR/tables.txt is what would be written
+  second cases write FILE     write sample cases for a proof assistant
+  second cases check FILE     say whether FILE is what would be written
+";
+
+fn main() -> ExitCode {
+    let arguments: Vec<String> = std::env::args().skip(1).collect();
+    let words: Vec<&str> = arguments.iter().map(String::as_str).collect();
+    match run(&words) {
+        Ok(()) => ExitCode::SUCCESS,
+        Err(complaint) => {
+            eprintln!("{complaint}");
+            ExitCode::FAILURE
+        }
+    }
+}
+
+fn run(words: &[&str]) -> Result<(), String> {
+    match words {
+        ["check", file] => print_check(Path::new(file)),
+        ["form", file, output] => write_form(Path::new(file), Path::new(output)),
+        ["vectors", action, directory] => {
+            let file = Path::new(directory).join("tables.txt");
+            keep(action, file, second::vectors::text())
+        }
+        ["cases", action, file] => keep(action, PathBuf::from(file), second::cases::text()),
+        [] | ["help" | "--help" | "-h"] => {
+            print!("{HELP}");
+            Ok(())
+        }
+        _ => Err(HELP.to_string()),
+    }
+}
+
+fn read(file: &Path) -> Result<Vec<u8>, String> {
+    fs::read(file).map_err(|fault| format!("{}: {fault}", file.display()))
+}
+
+fn write(file: &Path, bytes: &[u8]) -> Result<(), String> {
+    fs::write(file, bytes).map_err(|fault| format!("{}: {fault}", file.display()))
+}
+
+fn print_check(file: &Path) -> Result<(), String> {
+    let answer = check(&read(file)?);
+    println!("{} {} {}", answer.number, answer.kind, answer.position);
+    Ok(())
+}
+
+fn write_form(file: &Path, output: &Path) -> Result<(), String> {
+    let mut form = vec![0; second::frame::GREATEST_LENGTH];
+    let (answer, length) = rewrite(&read(file)?, &mut form);
+    if answer.is_done() {
+        write(output, &form[..length])
+    } else {
+        Err(format!(
+            "{}: refused with {} {} {}",
+            file.display(),
+            answer.number,
+            answer.kind,
+            answer.position
+        ))
+    }
+}
+
+/// Writes a file, or checks that it is as it would be written.
+fn keep(action: &str, file: PathBuf, text: String) -> Result<(), String> {
+    match action {
+        "write" => write(&file, text.as_bytes()),
+        "check" => compare(&file, &text),
+        _ => Err(HELP.to_string()),
+    }
+}
+
+fn compare(file: &Path, expected: &str) -> Result<(), String> {
+    let bytes = read(file)?;
+    let found = String::from_utf8_lossy(&bytes);
+    if found == expected {
+        return Ok(());
+    }
+    let same = found
+        .lines()
+        .zip(expected.lines())
+        .take_while(|(f, e)| f == e);
+    let line = same.count();
+    let start = |text: &str| -> String {
+        let line = text.lines().nth(line).unwrap_or("the end of the file");
+        line.chars().take(60).collect()
+    };
+    Err(format!(
+        "{}: line {} is not what would be written: found {:?}, expected {:?}",
+        file.display(),
+        line + 1,
+        start(&found),
+        start(expected)
+    ))
+}

@@ -1,0 +1,145 @@
+//! What all records have in common, whatever their kind.
+
+use crate::answer::number;
+use crate::frame::Frame;
+use crate::interface::Info;
+use crate::subsystem::Extended;
+use crate::wire::{u16_at, u32_at};
+use std::borrow::Cow;
+
+/// An object's bytes: borrowed from a table, or made up by a generator.
+pub type Bytes<'a> = Cow<'a, [u8]>;
+
+/// The only transport type there is: NVMe/TCP.
+pub const TCP: u8 = 3;
+
+/// Inside a record every fault has the record's own kind and position, so
+/// only the number is handed on.
+pub type Number = u8;
+
+/// Where a record's objects come from: a table's heap, or a builder's caller.
+pub trait Objects<'a> {
+    /// The object for the reference field at this offset, if present.
+    fn optional(&self, field: usize) -> Result<Option<Bytes<'a>>, Number>;
+
+    /// The heap record for the field, with the source of its own objects.
+    fn heap_record(&self, field: usize) -> Result<(Bytes<'a>, Box<dyn Objects<'a> + 'a>), Number>;
+
+    fn required(&self, field: usize) -> Result<Bytes<'a>, Number> {
+        self.optional(field)?.ok_or(number::REFERENCE)
+    }
+
+    /// Where the condition fails, the field is ignored and not looked at.
+    fn required_when(&self, condition: bool, field: usize) -> Result<Option<Bytes<'a>>, Number> {
+        if condition {
+            self.required(field).map(Some)
+        } else {
+            Ok(None)
+        }
+    }
+}
+
+/// What a reference field of a record refers to.
+pub enum Target<'r, 'a> {
+    Absent,
+    Object(&'r Bytes<'a>),
+    Info(&'r Info<'a>),
+    Extended(&'r Extended<'a>),
+}
+
+impl<'r, 'a> Target<'r, 'a> {
+    pub fn optional(object: &'r Option<Bytes<'a>>) -> Self {
+        object.as_ref().map_or(Target::Absent, Target::Object)
+    }
+
+    /// The heap bytes of the target and of what a heap record refers to.
+    pub fn length(&self) -> usize {
+        match self {
+            Target::Absent => 0,
+            Target::Object(object) => object.len(),
+            Target::Info(info) => Info::SIZE + heap_length(*info),
+            Target::Extended(extended) => Extended::SIZE + heap_length(*extended),
+        }
+    }
+}
+
+/// One kind of record, as a struct of what it says.
+pub trait Record<'a>: Sized {
+    const ID: u8;
+    /// The base size: the least a record of this kind takes.
+    const SIZE: usize;
+    /// The byte whose bit 0 is the valid bit.
+    const VALID_AT: usize;
+
+    /// Writes what is the same in every valid record at this position.
+    fn stamp(bytes: &mut [u8], position: u16);
+
+    /// Reads a valid record with its objects; indexes of others are not
+    /// looked up.
+    fn read(bytes: &[u8], position: u16, objects: &dyn Objects<'a>) -> Result<Self, Number>;
+
+    /// Whether every index in the record names a valid record.
+    fn indexes_hold(&self, _frame: &Frame) -> bool {
+        true
+    }
+
+    /// Writes all fields that are no references. Reserved bits and bytes,
+    /// and fields that are ignored, stay as they were.
+    fn write_fields(&self, position: u16, bytes: &mut [u8]);
+
+    /// The reference fields that count, by offset, with what they refer to.
+    fn targets(&self) -> Vec<(usize, Target<'_, 'a>)>;
+
+    /// The length of the field at this offset; none for references.
+    fn field_length(offset: u32) -> Option<usize>;
+
+    /// The object at this reference field: the outer `None` where there is
+    /// no such field, the inner one where it is absent or unused.
+    fn object<'r>(record: Option<&'r Self>, offset: u32) -> Option<Option<&'r Bytes<'a>>>;
+
+    fn is_valid(bytes: &[u8]) -> bool {
+        bytes[Self::VALID_AT] & 1 == 1
+    }
+}
+
+/// The heap bytes that belong to a record.
+pub fn heap_length<'a, R: Record<'a>>(record: &R) -> usize {
+    let targets = record.targets();
+    targets.iter().map(|(_, target)| target.length()).sum()
+}
+
+/// A record of a table, whose objects lie in the table's heap.
+pub struct InTable<'a> {
+    pub frame: Frame<'a>,
+    pub record: &'a [u8],
+}
+
+impl<'a> InTable<'a> {
+    fn part(&self, field: usize) -> Result<Option<&'a [u8]>, Number> {
+        let offset = u32_at(self.record, field);
+        let length = u16_at(self.record, field + 4);
+        match (offset, length) {
+            (0, 0) => Ok(None),
+            (0, _) | (_, 0) => Err(number::REFERENCE),
+            _ => match self.frame.heap_part(offset, length) {
+                Some(part) => Ok(Some(part)),
+                None => Err(number::REFERENCE),
+            },
+        }
+    }
+}
+
+impl<'a> Objects<'a> for InTable<'a> {
+    fn optional(&self, field: usize) -> Result<Option<Bytes<'a>>, Number> {
+        Ok(self.part(field)?.map(Cow::Borrowed))
+    }
+
+    fn heap_record(&self, field: usize) -> Result<(Bytes<'a>, Box<dyn Objects<'a> + 'a>), Number> {
+        let record = self.part(field)?.ok_or(number::REFERENCE)?;
+        let inner = InTable {
+            frame: self.frame,
+            record,
+        };
+        Ok((Cow::Borrowed(record), Box::new(inner)))
+    }
+}
