@@ -102,14 +102,14 @@ fn place<'a, R: Record<'a>>(
     told: &[u8],
     objects: &Told<'a>,
 ) -> Result<State, Answer> {
-    if !state.is_begun() || state.turn != R::ID {
+    if !state.is_begun() || state.turn != u16::from(R::ID) {
         return Err(OUT_OF_TURN);
     }
     let position = state.position;
     let bytes = stamped::<R>(told, position);
     let record =
         R::read(&bytes, position, objects).map_err(|number| Answer::at(number, R::ID, position))?;
-    let mut heap = Heap::starting_at(state.used as usize);
+    let mut heap = Heap::starting_at(state.used);
     let bytes = lay_out(&record, position, &mut heap);
     judge_end(buffer, heap.end())?;
     put(buffer, record_start::<R>(state.counts, position), &bytes);
@@ -230,7 +230,7 @@ pub fn leave(buffer: &mut [u8], state: State) -> (Answer, State) {
     if !state.is_begun() || !state.is_in_list() {
         return (OUT_OF_TURN, state);
     }
-    let used = state.used as usize;
+    let used = state.used;
     let outcome = judge_end(buffer, used).map(|()| state.next(used));
     handed_back(state, outcome)
 }
@@ -241,7 +241,7 @@ pub fn finish(buffer: &mut [u8], state: State) -> (Answer, State) {
     if !state.is_begun() || state.turn != READY {
         return (OUT_OF_TURN, state);
     }
-    let used = state.used as usize;
+    let used = state.used;
     if let Err(answer) = judge_end(buffer, used) {
         return (answer, state);
     }

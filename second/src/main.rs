@@ -12,6 +12,8 @@ second: an independent reading of NVMe boot firmware tables
   second form FILE OUT        write the table's one form
   second vectors write DIR    write DIR/tables.txt
   second vectors check DIR    say whether DIR/tables.txt is what would be written
+  second samples write DIR    write the sample tables DIR/*.nbft
+  second samples check DIR    say whether they are what would be written
   second cases write FILE     write sample cases for a proof assistant
   second cases check FILE     say whether FILE is what would be written
 ";
@@ -34,9 +36,13 @@ fn run(words: &[&str]) -> Result<(), String> {
         ["form", file, output] => write_form(Path::new(file), Path::new(output)),
         ["vectors", action, directory] => {
             let file = Path::new(directory).join("tables.txt");
-            keep(action, file, second::vectors::text())
+            keep(action, file, second::vectors::text().as_bytes())
         }
-        ["cases", action, file] => keep(action, PathBuf::from(file), second::cases::text()),
+        ["samples", action, directory] => samples(action, Path::new(directory)),
+        ["cases", action, file] => {
+            let text = second::cases::text();
+            keep(action, PathBuf::from(file), text.as_bytes())
+        }
         [] | ["help" | "--help" | "-h"] => {
             print!("{HELP}");
             Ok(())
@@ -75,21 +81,34 @@ fn write_form(file: &Path, output: &Path) -> Result<(), String> {
     }
 }
 
+/// The tables that ship as files: the smallest, and one as a machine's
+/// firmware would leave it.
+fn samples(action: &str, directory: &Path) -> Result<(), String> {
+    let machine = second::form(&second::samples::machine());
+    keep(
+        action,
+        directory.join("smallest.nbft"),
+        &second::samples::smallest(),
+    )?;
+    keep(action, directory.join("machine.nbft"), &machine)
+}
+
 /// Writes a file, or checks that it is as it would be written.
-fn keep(action: &str, file: PathBuf, text: String) -> Result<(), String> {
+fn keep(action: &str, file: PathBuf, bytes: &[u8]) -> Result<(), String> {
     match action {
-        "write" => write(&file, text.as_bytes()),
-        "check" => compare(&file, &text),
+        "write" => write(&file, bytes),
+        "check" => compare(&file, bytes),
         _ => Err(HELP.to_string()),
     }
 }
 
-fn compare(file: &Path, expected: &str) -> Result<(), String> {
-    let bytes = read(file)?;
-    let found = String::from_utf8_lossy(&bytes);
-    if found == expected {
+fn compare(file: &Path, bytes: &[u8]) -> Result<(), String> {
+    let present = read(file)?;
+    if present == bytes {
         return Ok(());
     }
+    let found = String::from_utf8_lossy(&present);
+    let expected = String::from_utf8_lossy(bytes);
     let same = found
         .lines()
         .zip(expected.lines())
@@ -104,6 +123,6 @@ fn compare(file: &Path, expected: &str) -> Result<(), String> {
         file.display(),
         line + 1,
         start(&found),
-        start(expected)
+        start(&expected)
     ))
 }

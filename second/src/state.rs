@@ -12,16 +12,20 @@ use crate::record::Record;
 #[derive(Clone, Copy, Debug, Default, PartialEq, Eq)]
 pub struct State {
     /// 0 for the empty state, a record's kind, `READY` or `FINISHED`.
-    pub turn: u8,
+    pub turn: u16,
     /// The list position to come, 0 outside lists.
     pub position: u16,
     pub counts: [u8; 4],
-    pub used: u32,
+    pub used: usize,
 }
 
 /// All positions are told, and only finish can come.
-pub const READY: u8 = 7;
-pub const FINISHED: u8 = 8;
+pub const READY: u16 = 7;
+pub const FINISHED: u16 = 8;
+
+const HOST: u16 = Host::ID as u16;
+const FIRST_LIST: u16 = Interface::ID as u16;
+const LAST_LIST: u16 = Discovery::ID as u16;
 
 impl State {
     pub const EMPTY: State = State {
@@ -34,10 +38,10 @@ impl State {
     /// The state after begin.
     pub fn begun(counts: [u8; 4], used: usize) -> State {
         State {
-            turn: Host::ID,
+            turn: HOST,
             position: 0,
             counts,
-            used: used as u32,
+            used,
         }
     }
 
@@ -50,14 +54,15 @@ impl State {
 
     /// Whether this is a possible begun state.
     pub fn is_begun(self) -> bool {
-        let used = self.used as usize;
-        self.position_is_possible() && records_end(self.counts) <= used && used <= GREATEST_LENGTH
+        self.position_is_possible()
+            && records_end(self.counts) <= self.used
+            && self.used <= GREATEST_LENGTH
     }
 
     fn position_is_possible(self) -> bool {
         match self.turn {
-            Host::ID | READY => self.position == 0,
-            Interface::ID..=Discovery::ID => {
+            HOST | READY => self.position == 0,
+            FIRST_LIST..=LAST_LIST => {
                 1 <= self.position && self.position <= self.count_of(self.turn)
             }
             _ => false,
@@ -65,16 +70,15 @@ impl State {
     }
 
     pub fn is_in_list(self) -> bool {
-        matches!(self.turn, Interface::ID..=Discovery::ID)
+        matches!(self.turn, FIRST_LIST..=LAST_LIST)
     }
 
-    fn count_of(self, kind: u8) -> u16 {
-        self.counts[usize::from(kind - Interface::ID)].into()
+    fn count_of(self, list: u16) -> u16 {
+        self.counts[usize::from(list - FIRST_LIST)].into()
     }
 
     /// The state after the record whose turn it was.
     pub fn next(self, used: usize) -> State {
-        let used = used as u32;
         if self.is_in_list() && self.position < self.count_of(self.turn) {
             return State {
                 position: self.position + 1,
@@ -82,9 +86,9 @@ impl State {
                 ..self
             };
         }
-        let mut later = self.turn + 1..=Discovery::ID;
-        let (turn, position) = match later.find(|kind| self.count_of(*kind) != 0) {
-            Some(kind) => (kind, 1),
+        let mut later = self.turn + 1..=LAST_LIST;
+        let (turn, position) = match later.find(|list| self.count_of(*list) != 0) {
+            Some(list) => (list, 1),
             None => (READY, 0),
         };
         State {

@@ -139,7 +139,7 @@ fn a_builder_run_leaves_exactly_the_form() {
         let mut buffer = vec![0xEE; expected.len() + random.below(9)];
         let (answer, state) = make_all(&calls(&mut random, &told), &mut buffer);
         assert_eq!(answer, Answer::DONE);
-        assert_eq!((state.turn, state.used), (FINISHED, expected.len() as u32));
+        assert_eq!((state.turn, state.used), (FINISHED, expected.len()));
         assert_eq!(buffer[..expected.len()], expected);
         assert!(buffer[expected.len()..].iter().all(|byte| *byte == 0xEE));
     }

@@ -334,7 +334,7 @@ fn impossible_states(good: State) -> Vec<State> {
     let position = |position| State { position, ..good };
     let used = |used| State { used, ..good };
     let mut states = vec![position(0), position(2), used(191), used(65_537)];
-    states.extend([0, 1, 2, 4, 7, 8, 9, 255].map(turn));
+    states.extend([0, 1, 2, 4, 7, 8, 9, 255, 259, 65535].map(turn));
     states
 }
 

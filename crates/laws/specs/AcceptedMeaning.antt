@@ -52,7 +52,7 @@ module _ (t : List ℕ) (b : (i : ℕ) → getD t i 0 < 256) (ok : check t ≡ d
 
   -- what the tests say of the heap
   bounded : 0 < heap .len → heap .at + heap .len ≤ length t
-  unfolding tests heap heapIn regions
+  unfolding tests heap heapIn regions host
   bounded z =
       let p = passed in
       let size : num t 4 4 ≤ length t = leb→le (num t 4 4) (length t) (and-yes (leb 160 (num t 4 4)) _ (p .1 .1 .0) .1) in

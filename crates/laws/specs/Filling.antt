@@ -330,18 +330,18 @@ list-open buf s b m o l k x told b′ z p byte put =
     let l₁ : length (splice b (length X) R) ≡ length b = length-splice b (length X) R (omega arith) in
     let l₂ : length (splice (splice b (length X) R) u H) ≡ length (splice b (length X) R) = length-splice (splice b (length X) R) u H (omega arith) in
     place-open buf b (next s (sizeOf ss)) (withLists m b′) img ss (placeOf s l) (length X) (s .used) u a q (
-      record {
-        shaped = list-shaped buf s b m o l ok (entryOf l s x told) b′ i put g′;
-        counted = f .lengths ∙ o .counted ∙ sym (next-counts s (sizeOf ss) .0);
-        size = next-counts s (sizeOf ss) .1 ∙ omega arith;
-        short = omega arith;
-        room = omega arith;
-        laid = rw e₂ (placed-holds b X zs Y R H (length X) u refl (sym n) (lR ∙ sym lz) (omega arith) (rw e₁ at (o .laid)));
-        tail = rw t (placed-tail b R H (length X) u (u + sizeOf ss) (omega arith) (omega arith) (omega arith) ∙ drop-further b buf u (u + sizeOf ss) (omega arith) (o .tail));
-        started = lt .0;
-        unfinished = lt .1;
-        untold = lt .2;
-      })
+    record {
+      shaped = list-shaped buf s b m o l ok (entryOf l s x told) b′ i put g′;
+      counted = f .lengths ∙ o .counted ∙ sym (next-counts s (sizeOf ss) .0);
+      size = next-counts s (sizeOf ss) .1 ∙ omega arith;
+      short = omega arith;
+      room = omega arith;
+      laid = rw e₂ (placed-holds b X zs Y R H (length X) u refl (sym n) (lR ∙ sym lz) (omega arith) (rw e₁ at (o .laid)));
+      tail = rw t (placed-tail b R H (length X) u (u + sizeOf ss) (omega arith) (omega arith) (omega arith) ∙ drop-further b buf u (u + sizeOf ss) (omega arith) (o .tail));
+      started = lt .0;
+      unfinished = lt .1;
+      untold = lt .2;
+    })
 
 -- ---- the host's record
 
@@ -457,15 +457,15 @@ host-open buf s b m o k x told z t p =
     let l₁ : length (splice b (length X) R) ≡ length b = length-splice b (length X) R (omega arith) in
     let l₂ : length (splice (splice b (length X) R) h H) ≡ length (splice b (length X) R) = length-splice (splice b (length X) R) h H (omega arith) in
     place-open buf b (next s (sizeOf ss)) (withOwner m (entryOf host s x told)) img ss (placeOf s host) (length X) (s .used) h a q (
-      record {
-        shaped = record { sized = w .sized; signed = w .signed; owned = g′; listed = w .listed };
-        counted = o .counted ∙ sym (next-counts s (sizeOf ss) .0);
-        size = next-counts s (sizeOf ss) .1 ∙ omega arith;
-        short = omega arith;
-        room = omega arith;
-        laid = rw e₂ (placed-holds b X zs Y R H (length X) h refl (omega arith) (lR ∙ sym lz) (omega arith) (rw e₁ at (o .laid)));
-        tail = rw len (placed-tail b R H (length X) h (h + sizeOf ss) (omega arith) (omega arith) (omega arith) ∙ drop-further b buf u (h + sizeOf ss) (omega arith) (o .tail));
-        started = rw nx (f .0);
-        unfinished = rw nx (f .1);
-        untold = rw nx (rw (f .2) (f .3));
-      })
+    record {
+      shaped = record { sized = w .sized; signed = w .signed; owned = g′; listed = w .listed };
+      counted = o .counted ∙ sym (next-counts s (sizeOf ss) .0);
+      size = next-counts s (sizeOf ss) .1 ∙ omega arith;
+      short = omega arith;
+      room = omega arith;
+      laid = rw e₂ (placed-holds b X zs Y R H (length X) h refl (omega arith) (lR ∙ sym lz) (omega arith) (rw e₁ at (o .laid)));
+      tail = rw len (placed-tail b R H (length X) h (h + sizeOf ss) (omega arith) (omega arith) (omega arith) ∙ drop-further b buf u (h + sizeOf ss) (omega arith) (o .tail));
+      started = rw nx (f .0);
+      unfinished = rw nx (f .1);
+      untold = rw nx (rw (f .2) (f .3));
+    })

@@ -13,7 +13,7 @@ use mir.Facts.{and-yes, yes-and, yes-leb, yes-eqb, no-eqb}
 use Rattle.table.specs.declared.Region.{Region}
 use Rattle.table.specs.Bytes.{checksum, num, total}
 use Rattle.table.specs.Layout.{region}
-use Rattle.table.specs.FixedLayouts.{listKinds}
+use Rattle.table.specs.FixedLayouts.{host, listKinds}
 use Rattle.table.specs.Objects.{countIn, spanBody}
 use Rattle.table.specs.Rules.{consIf, done, inside, longEnough, versioned}
 use Rattle.table.specs.Meaning.{Meaning, behind, form, formLength, headBack, headFront, heapAt, heapLen, laidOut, limit}
@@ -76,7 +76,7 @@ module _ (m : Meaning) (w : Lawful m) (short : formLength m ≤ limit) where
   eq x y e = yes-eqb e
 
   pub form-passes : AllPass (tests (form m))
-  unfolding tests formLength heapAt
+  unfolding tests formLength heapAt host
   form-passes =
       (let x = fixed-back m (w .shapes) short in
       let p = form-head m (w .shapes) short in

@@ -206,7 +206,7 @@ module _ (m : Meaning) (w : Shaped m) where
       pub places : Holds t 80 (placesBody 160 (m .lists))
 
     pub fixed-back : Fixed (form m)
-    unfolding controlBytes
+    unfolding controlBytes host
     fixed-back =
         let h = form-parts .ctl in
         let p : List ℕ = placesBody 160 (m .lists) in

@@ -23,3 +23,4 @@ pub mod Runs
 pub mod Filling
 pub mod Sealing
 pub mod DemandTwo
+pub mod Refusals

@@ -1,7 +1,7 @@
 -- "The builder": what each call answers, the state it returns and the bytes it leaves, for every state, buffer and told value. Definitions only.
-use mathlib.Core.Bool.{Bool, true, false, not, _&&_, _||_}
+use mathlib.Core.Bool.{Bool, true, false, _&&_, _||_}
 use mathlib.Core.List.{List, [], _∷_, _++_}
-use Prim.Native.Nat.{ℕ, suc, _+_, _-_, _*_, _/_, _%_}
+use Prim.Native.Nat.{ℕ, _+_, _-_, _*_, _/_}
 use lib.ListN.{length, getD, take, replicate}
 use lib.Dec.{leb, ltb, eqb}
 use Rattle.table.specs.declared.Need.{Need}
@@ -10,8 +10,8 @@ use Rattle.table.specs.declared.Answer.{Answer}
 use Rattle.table.specs.declared.State.{State}
 use Rattle.table.specs.declared.Step.{Step}
 use Rattle.table.specs.Bytes.{pick, le, checksum, splice, edit, apply}
-use Rattle.table.specs.Layout.{image, Shape, Env, env, pairsRight, Refs, none, plain, nest, Slots, nil, bytes, gone, rec, Layout, baseOf, Entry, unused, used, Body, stop, more}
-use Rattle.table.specs.FixedLayouts.{header, host, hfi, ssns, security, discovery, listKinds}
+use Rattle.table.specs.Layout.{image, Shape, Env, env, pairsRight, Refs, Slots, nil, bytes, gone, rec, Layout, baseOf, unused, used, Body, stop, more}
+use Rattle.table.specs.FixedLayouts.{header, hfi, ssns, security, discovery, listKinds}
 use Rattle.table.specs.Objects.{under, sizeOf, heapOf, patched}
 use Rattle.table.specs.Rules.{first, firstOf, ruled, Test, test, firstFail}
 use Rattle.table.specs.Meaning.{limit, Meaning, formLength, laidOut}
@@ -143,6 +143,7 @@ toldSlots n img (rec {need = need} {shape = shape} x own ss) =
     let y = toldImage shape n x in
     under (need img) (gone (toldSlots n img ss)) (rec y (toldSlots n y own) (toldSlots n img ss))
 
+-- an object under a need, [] if absent
 abbrev pub fitsNeed : Need → List ℕ → Bool
 fitsNeed Ignored [] = true
 fitsNeed Ignored (b ∷ bs) = false
@@ -151,14 +152,10 @@ fitsNeed Required [] = false
 fitsNeed Required (b ∷ bs) = true
 
 abbrev pub mayLack : Need → Bool
-mayLack Ignored = true
-mayLack Optional = true
-mayLack Required = false
+mayLack n = fitsNeed n []
 
 abbrev pub mayHave : Need → Bool
-mayHave Ignored = false
-mayHave Optional = true
-mayHave Required = true
+mayHave n = fitsNeed n (0 ∷ [])
 
 -- an object's length has 16 bits
 abbrev pub isShort : List ℕ → Bool

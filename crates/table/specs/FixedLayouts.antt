@@ -1,6 +1,5 @@
--- "Fixed layouts": header, control, host, HFI, SSNS, security, discovery, HFI transport info (7) and SSNS extended info (9), and the index rules of each.
--- Definitions only.
-use mathlib.Core.Bool.{Bool, true, false, _&&_, _||_}
+-- "Fixed layouts": header, control, host, HFI, SSNS, security, discovery, HFI transport info (7), SSNS extended info (9), index rules. Definitions only.
+use mathlib.Core.Bool.{Bool, true, _&&_, _||_}
 use mathlib.Core.List.{List, [], _∷_}
 use Prim.Native.Nat.{ℕ}
 use lib.ListN.{getD}
@@ -8,7 +7,7 @@ use lib.Dec.{eqb}
 use Rattle.table.specs.declared.Need.{Need}
 use Rattle.table.specs.declared.Need.the-variants.{Ignored, Optional, Required}
 use Rattle.table.specs.Bytes.{pick, bits, every, edit}
-use Rattle.table.specs.Layout.{region, field, flags, onlyIf, blank, Shape, shaped, Env, Refs, none, plain, nest, Slots, slotAt, Layout}
+use Rattle.table.specs.Layout.{region, field, flags, onlyIf, blank, shaped, Env, Refs, none, plain, nest, Slots, slotAt, Layout}
 
 -- the one place for a further rule of a present object's bytes: there is none
 abbrev pub anyBytes : Env → List ℕ → ℕ

@@ -1,6 +1,5 @@
--- "Fixed layouts", what a layout is: which bits of each byte count, which stretches are fields, where the references stand, what they refer to.
--- Definitions only.
-use mathlib.Core.Bool.{Bool, true, false, not, _&&_}
+-- "Fixed layouts", what a layout is: which bits of each byte count, which stretches are fields, where the references stand. Definitions only.
+use mathlib.Core.Bool.{Bool, true, not, _&&_}
 use mathlib.Core.List.{List, [], _∷_, _++_}
 use Prim.Native.Nat.{ℕ, zero, suc, _+_, _-_, _*_, _/_, _%_, _^_}
 use lib.ListN.{length, getD, replicate}

@@ -3,7 +3,7 @@ use mathlib.Core.List.{List, [], _∷_, _++_}
 use Prim.Native.Nat.{ℕ, _+_}
 use lib.ListN.{replicate}
 use Rattle.table.specs.Bytes.{part, num, le, checksum}
-use Rattle.table.specs.Layout.{Slots, slotAt, Entry, Body}
+use Rattle.table.specs.Layout.{Slots, slotAt, baseOf, Entry, Body}
 use Rattle.table.specs.FixedLayouts.{header, host, listKinds}
 use Rattle.table.specs.Objects.{readSlots, readEntry, readBody, refFor, sizeOf, heapOf, sizeEntry, recEntry, heapEntry, sizeBody, recsBody, heapBody, spanBody, placesBody}
 
@@ -52,7 +52,7 @@ headBack m k = m .oem ++ (le 4 (heapAt m) ++ (le 4 k ++ (driverRef m ++ replicat
 unfoldable pub controlBytes : Meaning → List ℕ
 controlBytes m =
     (1 ∷ 1 ∷ 0 ∷ 0 ∷ [])
-    ++ (le 2 64 ++ ((1 ∷ 0 ∷ []) ++ (le 4 128 ++ (le 2 32 ++ ((1 ∷ 0 ∷ []) ++ (placesBody 160 (m .lists) ++ replicate 16 0))))))
+    ++ (le 2 64 ++ ((1 ∷ 0 ∷ []) ++ (le 4 128 ++ (le 2 (baseOf host) ++ ((1 ∷ 0 ∷ []) ++ (placesBody 160 (m .lists) ++ replicate 16 0))))))
 
 -- what stands behind the header
 unfoldable pub behind : Meaning → List ℕ

@@ -1,5 +1,4 @@
--- "Numbers returned", 0 to 13: the tests 1 to 9 in order, then the driver signature, the host and the records by position; the first fault is the answer.
--- Definitions only.
+-- "Numbers returned", 0 to 13: the tests 1 to 9 in order, then driver signature, host and records by position; the first fault answers. Definitions only.
 use mathlib.Core.Bool.{Bool, not, _&&_}
 use mathlib.Core.List.{List, [], _∷_}
 use Prim.Native.Nat.{ℕ, _+_, _%_}
@@ -8,7 +7,7 @@ use lib.Dec.{leb, eqb}
 use Rattle.table.specs.declared.Answer.{Answer}
 use Rattle.table.specs.declared.Region.{Region}
 use Rattle.table.specs.Bytes.{pick, num, odd, total}
-use Rattle.table.specs.Layout.{region, env, Entry, unused, used}
+use Rattle.table.specs.Layout.{region, env, baseOf, Entry, unused, used}
 use Rattle.table.specs.FixedLayouts.{header, host, listKinds}
 use Rattle.table.specs.Objects.{usedIn, countIn}
 use Rattle.table.specs.Rules.{answer, done, first, Test, test, firstFail, inside, apartEach, consIf, listRegions, longEnough, versioned, refsRule, usedRule, bodyRule}
@@ -36,7 +35,7 @@ tests t =
     ∷ test (eqb (total (take size t) % 256) 0) 5 0 0
     ∷ test (eqb (getD t 8 0) 1 && minorRight (getD t 50 0)) 6 0 0
     ∷ test (eqb (getD t 64 0) 1 && (eqb (getD t 65 0) 1 && (minorRight (getD t 66 0) && (leb 64 csl && (leb (64 + csl) size && odd (getD t 70 0)))))) 7 1 0
-    ∷ test (leb 32 (num t 76 2) && (longEnough listKinds t 80 && (inside (64 + csl) size (regions t) && apartEach (regions t)))) 8 1 0
+    ∷ test (leb (baseOf host) (num t 76 2) && (longEnough listKinds t 80 && (inside (64 + csl) size (regions t) && apartEach (regions t)))) 8 1 0
     ∷ test (eqb (getD t 78 0) 1 && versioned listKinds t 80) 9 1 0
     ∷ []
 

@@ -1,21 +1,21 @@
 -- "Numbers returned", reads: what a read of a record, a field or an object gives on any bytes, 16 included. Definitions only.
-use mathlib.Core.Bool.{Bool, true, false, not, _&&_}
+use mathlib.Core.Bool.{Bool, true, false, _&&_}
 use mathlib.Core.List.{List, [], _∷_}
 use Prim.Native.Nat.{ℕ, _+_, _-_, _*_}
-use lib.ListN.{length, getD, drop, replicate}
+use lib.ListN.{getD, drop, replicate}
 use lib.Dec.{leb, eqb}
 use Rattle.table.specs.declared.Answer.{Answer}
 use Rattle.table.specs.declared.Region.{Region}
 use Rattle.table.specs.declared.Need.{Need}
-use Rattle.table.specs.declared.Need.the-variants.{Ignored, Optional, Required}
+use Rattle.table.specs.declared.Need.the-variants.{Ignored}
 use Rattle.table.specs.declared.Image.{Image}
 use Rattle.table.specs.declared.Field.{Field}
 use Rattle.table.specs.declared.Place.{Place}
 use Rattle.table.specs.Bytes.{pick, part, num, padded}
 use Rattle.table.specs.Layout.{image, isValid, Refs, none, plain, nest, Layout, baseOf}
-use Rattle.table.specs.FixedLayouts.{layoutOf, header, control, host, hfi, ssns, security, discovery, info, extended}
+use Rattle.table.specs.FixedLayouts.{header, control, host, hfi, ssns, security, discovery, info, extended}
 use Rattle.table.specs.Objects.{under}
-use Rattle.table.specs.Rules.{answer, done, first}
+use Rattle.table.specs.Rules.{answer, done}
 use Rattle.table.specs.Numbers.{check}
 
 -- Where a record stands: nowhere, or a layout, its first byte, and whether it is used
