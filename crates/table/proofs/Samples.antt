@@ -107,7 +107,10 @@ fullWith es = summed (apply full es)
 -- the same said with noise in every reserved bit of flags, in the unused record, in reserved bytes and in the reference that is ignored
 abbrev noise : List Edit
 noise =
-    edit 129 (0xF7 ∷ [])
+    edit 51 (0xFF ∷ [])
+    ∷ edit 67 (0xFF ∷ [])
+    ∷ edit 70 (0xFF ∷ 0xFF ∷ [])
+    ∷ edit 129 (0xF7 ∷ [])
     ∷ edit 152 (0xFF ∷ [])
     ∷ edit 160 (0xFF ∷ 0xFF ∷ 0xFE ∷ 0xFF ∷ [])
     ∷ edit 176 (0xFF ∷ 0xFF ∷ [])
@@ -134,7 +137,10 @@ longRecords =
     ∷ edit 683 (0xFF ∷ [])
     ∷ []))
 
--- limits, and the first of two faults
+-- In order: all kinds, the same with noise, the same with longer records; a checksum 128 off; a wrong sum before a wrong header major, and that before a wrong
+-- control ID; CSL 63; the host before 64 + CSL; a heap that ends behind Length; host version 2; a wrong driver signature before a wrong host; a two-bit field before
+-- a reference; security flags 6:5; a missing reference before an unused HFI's index; info of version 2 before its own reference; extended info of 17 bytes; a
+-- secondary list with an unused HFI; a discovery record with HFI index 0
 abbrev further : List Case
 further =
     taken full full

@@ -1,5 +1,5 @@
 // The record kinds: what each is called in a table (ID) and how long it is there (SIZE), stated here and nowhere else in the code.
-// A record is held by its bytes in table layout, so that a caller's bytes need no turning around.
+// A record is held by its bytes in table layout, so that a caller's bytes can be taken as they are.
 
 // The table's first bytes. It has no ID of its own; reads ask for it by kind 0.
 pub struct Header {
