@@ -1,7 +1,7 @@
--- "Sample tables": K1 to K10, K12 and K13, shown of the rules, the meaning and the one form by one statement over one list. Assumes nothing.
+-- "Sample tables": K1 to K10, K12 and K13, and further tables, shown of the rules, the meaning and the one form by one statement over one list. Assumes nothing.
 use mathlib.Core.List.{List, [], _∷_, _++_}
 use Prim.Native.Nat.{ℕ}
-use lib.ListN.{take}
+use lib.ListN.{take, replicate}
 use lib.Dec.{T}
 use Rattle.table.specs.Bytes.{checksum, splice, Edit, edit, apply}
 use Rattle.table.proofs.Cases.{Case, refused, taken, sheet, fine, allFine}
@@ -67,7 +67,103 @@ k12Like flags index =
     ∷ edit 529 (0x34 ∷ 0x34 ∷ 0x32 ∷ 0x30 ∷ 0x73 ∷ [])
     ∷ []))
 
--- K1 to K10 in order, then K12 and K13, and what K12 becomes with flag 2 clear
+-- every kind of record, in the order of the one form: HFI 1 is unused, HFI 2 has info with an object; one SSNS record with a secondary list and extended info with
+-- an object; one security record, whose DH groups (flag 10) are not set; one discovery record
+abbrev full : List ℕ
+full =
+    summed
+    (sheet 611
+    (edit 0 (0x4E ∷ 0x42 ∷ 0x46 ∷ 0x54 ∷ 0x63 ∷ 0x02 ∷ 0 ∷ 0 ∷ 1 ∷ [])
+    ∷ edit 10 (0x41 ∷ 0x42 ∷ [])
+    ∷ edit 35 (7 ∷ [])
+    ∷ edit 36 (0xC0 ∷ 0x01 ∷ 0 ∷ 0 ∷ 0xA3 ∷ 0 ∷ 0 ∷ 0 ∷ 0xC0 ∷ 0x01 ∷ 0 ∷ 0 ∷ 2 ∷ [])
+    ∷ edit 64 (1 ∷ 1 ∷ 0 ∷ 0 ∷ 0x40 ∷ 0 ∷ 1 ∷ 0 ∷ 0x80 ∷ 0 ∷ 0 ∷ 0 ∷ 0x20 ∷ 0 ∷ 1 ∷ 0 ∷ [])
+    ∷ edit 80 (0xA0 ∷ 0 ∷ 0 ∷ 0 ∷ 0x20 ∷ 0 ∷ 1 ∷ 2 ∷ [])
+    ∷ edit 88 (0xE0 ∷ 0 ∷ 0 ∷ 0 ∷ 0x80 ∷ 0 ∷ 1 ∷ 1 ∷ [])
+    ∷ edit 96 (0x60 ∷ 0x01 ∷ 0 ∷ 0 ∷ 0x40 ∷ 0 ∷ 1 ∷ 1 ∷ [])
+    ∷ edit 104 (0xA0 ∷ 0x01 ∷ 0 ∷ 0 ∷ 0x20 ∷ 0 ∷ 1 ∷ 1 ∷ [])
+    ∷ edit 128 (2 ∷ 0x17 ∷ 9 ∷ [])
+    ∷ edit 146 (0xC2 ∷ 0x01 ∷ 0 ∷ 0 ∷ 1 ∷ [])
+    ∷ edit 192 (3 ∷ 2 ∷ 1 ∷ 3 ∷ [])
+    ∷ edit 208 (0xC3 ∷ 0x01 ∷ 0 ∷ 0 ∷ 0x80 ∷ [])
+    ∷ edit 224 (4 ∷ 1 ∷ 0 ∷ 0x15 ∷ 1 ∷ 3 ∷ 7 ∷ 0 ∷ 1 ∷ [])
+    ∷ edit 234 (0x44 ∷ 0x02 ∷ 0 ∷ 0 ∷ 3 ∷ 0 ∷ 0x47 ∷ 0x02 ∷ 0 ∷ 0 ∷ 1 ∷ [])
+    ∷ edit 269 (1 ∷ 2 ∷ 0 ∷ 0x48 ∷ 0x02 ∷ 0 ∷ 0 ∷ 1 ∷ 0 ∷ 0x49 ∷ 0x02 ∷ 0 ∷ 0 ∷ 1 ∷ 0 ∷ 0x4A ∷ 0x02 ∷ 0 ∷ 0 ∷ 18 ∷ [])
+    ∷ edit 352 (5 ∷ 1 ∷ 0x8B ∷ 0x0A ∷ 1 ∷ 0 ∷ 0x5D ∷ 0x02 ∷ 0 ∷ 0 ∷ 1 ∷ 0 ∷ 0x5E ∷ 0x02 ∷ 0 ∷ 0 ∷ 1 ∷ 0 ∷ 0x5F ∷ 0x02 ∷ 0 ∷ 0 ∷ 1 ∷ [])
+    ∷ edit 382 (0x60 ∷ 0x02 ∷ 0 ∷ 0 ∷ 1 ∷ 0 ∷ 0x61 ∷ 0x02 ∷ 0 ∷ 0 ∷ 1 ∷ [])
+    ∷ edit 416 (6 ∷ 1 ∷ 1 ∷ 2 ∷ 1 ∷ 0 ∷ 0x62 ∷ 0x02 ∷ 0 ∷ 0 ∷ 1 ∷ [])
+    ∷ edit 448 (0x64 ∷ 0x73 ∷ 0x6E ∷ [])
+    ∷ edit 451 (7 ∷ 1 ∷ 3 ∷ 1 ∷ 2 ∷ 0 ∷ 5 ∷ [])
+    ∷ edit 539 (0xFE ∷ 0x80 ∷ [])
+    ∷ edit 555 (0x43 ∷ 0x02 ∷ 0 ∷ 0 ∷ 1 ∷ [])
+    ∷ edit 579 (0x68 ∷ 10 ∷ 0 ∷ 1 ∷ 0x50 ∷ 2 ∷ 0x71 ∷ [])
+    ∷ edit 586 (9 ∷ 1 ∷ 1 ∷ 0 ∷ 3 ∷ 0 ∷ 0 ∷ 0 ∷ 5 ∷ 0 ∷ 6 ∷ 0 ∷ 0x5C ∷ 0x02 ∷ 0 ∷ 0 ∷ 1 ∷ [])
+    ∷ edit 604 (0x70 ∷ 1 ∷ 2 ∷ 3 ∷ 4 ∷ 5 ∷ 6 ∷ [])
+    ∷ []))
+
+abbrev fullWith : List Edit → List ℕ
+fullWith es = summed (apply full es)
+
+-- the same said with noise in every reserved bit of flags, in the unused record, in reserved bytes and in the reference that is ignored
+abbrev noise : List Edit
+noise =
+    edit 51 (0xFF ∷ [])
+    ∷ edit 67 (0xFF ∷ [])
+    ∷ edit 70 (0xFF ∷ 0xFF ∷ [])
+    ∷ edit 129 (0xF7 ∷ [])
+    ∷ edit 152 (0xFF ∷ [])
+    ∷ edit 160 (0xFF ∷ 0xFF ∷ 0xFE ∷ 0xFF ∷ [])
+    ∷ edit 176 (0xFF ∷ 0xFF ∷ [])
+    ∷ edit 194 (0xFF ∷ [])
+    ∷ edit 228 (0xFF ∷ [])
+    ∷ edit 230 (0xFF ∷ 0xFF ∷ [])
+    ∷ edit 355 (0xFA ∷ 0xFF ∷ 0xFF ∷ [])
+    ∷ edit 376 (0xFF ∷ 0xFF ∷ 0xFF ∷ 0xFF ∷ 0 ∷ 0 ∷ [])
+    ∷ edit 417 (0xFF ∷ [])
+    ∷ edit 457 (0xFD ∷ [])
+    ∷ edit 504 (0xFF ∷ [])
+    ∷ edit 590 (0xFF ∷ 0xFF ∷ 0xFF ∷ 0xFF ∷ [])
+    ∷ []
+
+-- the same said with HFI records of 40 bytes, behind the heap
+abbrev longRecords : List ℕ
+longRecords =
+    summed
+    (apply (full ++ replicate 80 0)
+    (edit 4 (0xB3 ∷ 0x02 ∷ [])
+    ∷ edit 80 (0x63 ∷ 0x02 ∷ 0 ∷ 0 ∷ 40 ∷ [])
+    ∷ edit 651 (3 ∷ 2 ∷ 1 ∷ 3 ∷ [])
+    ∷ edit 667 (0xC3 ∷ 0x01 ∷ 0 ∷ 0 ∷ 0x80 ∷ [])
+    ∷ edit 683 (0xFF ∷ [])
+    ∷ []))
+
+-- In order: all kinds, the same with noise, the same with longer records; a checksum 128 off; a wrong sum before a wrong header major, and that before a wrong
+-- control ID; CSL 63; the host before 64 + CSL; a heap that ends behind Length; host version 2; a wrong driver signature before a wrong host; a two-bit field before
+-- a reference; security flags 6:5; a missing reference before an unused HFI's index; info of version 2 before its own reference; extended info of 17 bytes; a
+-- secondary list with an unused HFI; a discovery record with HFI index 0
+abbrev further : List Case
+further =
+    taken full full
+    ∷ taken (fullWith noise) full
+    ∷ taken longRecords full
+    ∷ refused (apply k1 (edit 9 (0x16 ∷ []) ∷ [])) 5 0 0
+    ∷ refused (apply k1 (edit 8 (2 ∷ []) ∷ [])) 5 0 0
+    ∷ refused (with (edit 8 (2 ∷ []) ∷ edit 64 (2 ∷ []) ∷ [])) 6 0 0
+    ∷ refused (with (edit 68 (63 ∷ []) ∷ [])) 7 1 0
+    ∷ refused (with (edit 68 (65 ∷ []) ∷ [])) 8 1 0
+    ∷ refused (with (edit 40 (3 ∷ []) ∷ [])) 8 1 0
+    ∷ refused (with (edit 78 (2 ∷ []) ∷ [])) 9 1 0
+    ∷ refused (with (edit 44 (1 ∷ []) ∷ edit 150 (0 ∷ []) ∷ [])) 11 0 0
+    ∷ refused (with (edit 129 (0x19 ∷ []) ∷ edit 150 (0 ∷ []) ∷ [])) 10 2 0
+    ∷ refused (fullWith (edit 354 (0xEB ∷ []) ∷ [])) 10 5 1
+    ∷ refused (fullWith (edit 270 (1 ∷ []) ∷ edit 282 (0 ∷ []) ∷ [])) 11 4 1
+    ∷ refused (fullWith (edit 452 (2 ∷ []) ∷ edit 559 (0 ∷ []) ∷ [])) 12 3 2
+    ∷ refused (fullWith (edit 288 (17 ∷ []) ∷ [])) 12 4 1
+    ∷ refused (fullWith (edit 584 (1 ∷ []) ∷ [])) 13 4 1
+    ∷ refused (fullWith (edit 419 (0 ∷ []) ∷ [])) 13 6 1
+    ∷ []
+
+-- K1 to K10 in order, then K12 and K13, what K12 becomes with flag 2 clear, and further ones
 abbrev pub samples : List Case
 samples =
     taken k1 k1
@@ -83,7 +179,7 @@ samples =
     ∷ refused (k12Like 5 0) 13 4 1
     ∷ refused (k12Like 5 1) 13 4 1
     ∷ taken (k12Like 1 1) (k12Like 1 0)
-    ∷ []
+    ∷ further
 
 pub samples-fine : T (allFine samples)
 unfolding fine

@@ -1,10 +1,48 @@
 // The record kinds of the boot table as data: sizes, designators, reference offsets; and the types that definitions and code share.
+ghost use mathlib.Core.Path.{_≡_};
+ghost use Rattle.table.specs.Rules.{answer};
+ghost use Rattle.table.specs.Rules as rules;
+
+pub mod kinds; // sizes, flags and reference offsets by kind number
+pub mod records; // the record structs with SIZE and ID
+
+pub use kinds::Offsets;
+pub use kinds::base_size;
+pub use kinds::flags_at;
+pub use kinds::reference_offsets;
+pub use records::Control;
+pub use records::Discovery;
+pub use records::Extended;
+pub use records::Header;
+pub use records::Hfi;
+pub use records::Host;
+pub use records::Info;
+pub use records::Security;
+pub use records::Ssns;
 
 // What every call answers: a number of document 01, and the kind and position of the record at fault.
 pub struct Answer {
     pub number: u8,
     pub kind: u8,
     pub position: usize,
+}
+
+// The answer of a call that did what it was asked.
+pub fn done() -> Answer
+    ensures { λ r. ⌜ r ≡ rules.done ⌝ }
+{
+    refuse(0, 0, 0)
+}
+
+// Any other answer: position 0 outside the lists.
+pub fn refuse(number: u8, kind: u8, position: usize) -> Answer
+    ensures { λ r. ⌜ r ≡ answer number kind position ⌝ }
+{
+    Answer {
+        number: number,
+        kind: kind,
+        position: position,
+    }
 }
 
 // Some bytes: where they start and how many they are.
