@@ -24,3 +24,6 @@ pub mod Filling
 pub mod Sealing
 pub mod DemandTwo
 pub mod Refusals
+pub mod Looked
+pub mod Fields
+pub mod RefWalk
