@@ -27,3 +27,4 @@ pub mod Refusals
 pub mod Looked
 pub mod Fields
 pub mod RefWalk
+pub mod ListWalk
