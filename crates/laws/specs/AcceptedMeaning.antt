@@ -1,4 +1,4 @@
--- The rewritten form of an accepted table is accepted, means the same, and is its own form. Assumes nothing.
+-- The meaning of an accepted table obeys the rules of meanings (`lawful`), and stands in the table (`stands`). Assumes nothing.
 use mathlib.Core.Path.{_≡_, refl, sym, ap, ap₂, _∙_, subst}
 use mathlib.Core.Bool.{Bool, true, false, not, _&&_, _||_}
 use mathlib.Core.List.{List, [], _∷_, _++_}
