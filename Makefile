@@ -7,7 +7,7 @@
 
 CARGO  := cargo
 SECOND := second/target/release/second
-CASES  := crates/agreement/specs/Cases.antt
+CASES  := crates/agreement/specs
 
 .PHONY: run test vectors clean second
 

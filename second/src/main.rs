@@ -14,8 +14,8 @@ second: an independent reading of NVMe boot firmware tables
   second vectors check DIR    say whether DIR/tables.txt is what would be written
   second samples write DIR    write the sample tables DIR/*.nbft
   second samples check DIR    say whether they are what would be written
-  second cases write FILE     write sample cases for a proof assistant
-  second cases check FILE     say whether FILE is what would be written
+  second cases write DIR      write cases for a proof assistant, DIR/*.antt
+  second cases check DIR      say whether they are what would be written
 ";
 
 fn main() -> ExitCode {
@@ -39,10 +39,7 @@ fn run(words: &[&str]) -> Result<(), String> {
             keep(action, file, second::vectors::text().as_bytes())
         }
         ["samples", action, directory] => samples(action, Path::new(directory)),
-        ["cases", action, file] => {
-            let text = second::cases::text();
-            keep(action, PathBuf::from(file), text.as_bytes())
-        }
+        ["cases", action, directory] => cases(action, Path::new(directory)),
         [] | ["help" | "--help" | "-h"] => {
             print!("{HELP}");
             Ok(())
@@ -91,6 +88,11 @@ fn samples(action: &str, directory: &Path) -> Result<(), String> {
         &second::samples::smallest(),
     )?;
     keep(action, directory.join("machine.nbft"), &machine)
+}
+
+fn cases(action: &str, directory: &Path) -> Result<(), String> {
+    let mut files = second::cases::files().into_iter();
+    files.try_for_each(|(name, text)| keep(action, directory.join(name), text.as_bytes()))
 }
 
 /// Writes a file, or checks that it is as it would be written.

@@ -65,27 +65,29 @@ impl Vector {
     }
 }
 
-/// Splits bytes into runs, each with its start; runs of four or more zero
-/// bytes stand alone.
-pub fn runs(bytes: &[u8]) -> Vec<(usize, &[u8])> {
+/// Splits bytes into runs, each with its start; four or more of the same
+/// byte stand alone, where that byte is to.
+pub fn runs(bytes: &[u8], is_to_stand_alone: impl Fn(u8) -> bool) -> Vec<(usize, &[u8])> {
     let mut runs = Vec::new();
     let (mut start, mut place) = (0, 0);
     while place < bytes.len() {
-        let zeros = bytes[place..].iter().take_while(|byte| **byte == 0).count();
-        if zeros >= 4 {
+        let rest = &bytes[place..];
+        let same = rest.iter().take_while(|byte| **byte == rest[0]).count();
+        if same >= 4 && is_to_stand_alone(rest[0]) {
             runs.push((start, &bytes[start..place]));
-            runs.push((place, &bytes[place..place + zeros]));
-            start = place + zeros;
+            runs.push((place, &bytes[place..place + same]));
+            start = place + same;
         }
-        place += zeros.max(1);
+        place += same;
     }
     runs.push((start, &bytes[start..]));
     runs.retain(|(_, run)| !run.is_empty());
     runs
 }
 
-pub fn is_zero_run(run: &[u8]) -> bool {
-    run.len() >= 4 && run.iter().all(|byte| *byte == 0)
+/// Whether a run is one that can stand alone.
+pub fn is_repetition(run: &[u8]) -> bool {
+    run.len() >= 4 && run.iter().all(|byte| *byte == run[0])
 }
 
 fn hex(bytes: &[u8]) -> String {
@@ -93,8 +95,8 @@ fn hex(bytes: &[u8]) -> String {
         return "(0)".to_string();
     }
     let mut text = String::new();
-    for (_, run) in runs(bytes) {
-        if is_zero_run(run) {
+    for (_, run) in runs(bytes, |byte| byte == 0) {
+        if run[0] == 0 && is_repetition(run) {
             let _ = write!(text, "({})", run.len());
         } else {
             run.iter().for_each(|byte| {

@@ -354,9 +354,23 @@ fn cases_leave_out_only_the_number_that_takes_a_long_table() {
         let answers = vectors.iter().map(|v| (v.answer.number, v.answer.kind));
         answers.collect()
     };
-    let sampled = second::cases::sampled();
+    let sampled = second::cases::tables::sampled();
     assert!(sampled.len() >= 80);
     let mut all = pairs(vectors());
     all.remove(&(4, 0));
     assert_eq!(pairs(sampled), all);
+}
+
+#[test]
+fn builder_cases_carry_every_number() {
+    let steps = second::cases::builds::steps().into_iter();
+    let answers: Vec<Answer> = steps
+        .flat_map(|(_, s)| s)
+        .map(|step| step.made().0)
+        .collect();
+    let found: BTreeSet<u8> = answers.iter().map(|answer| answer.number).collect();
+    let expected = [0, 2, 6, 7, 8, 9, 10, 11, 12, 13, 14, 15, 17];
+    assert_eq!(found, BTreeSet::from(expected));
+    let done = answers.iter().filter(|answer| answer.is_done()).count();
+    assert!(done >= 50 && answers.len() - done >= 100);
 }

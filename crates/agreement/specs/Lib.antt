@@ -1,1 +1,4 @@
 pub mod Cases
+pub mod ReadCases
+pub mod RewriteCases
+pub mod BuildCases

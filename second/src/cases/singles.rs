@@ -1,0 +1,343 @@
+//! Single builder calls: out of turn, with forged states and buffers, told
+//! what is wrong or dropped, or lent too little.
+
+use crate::cases::builds::{run, Step};
+use crate::cases::dirty;
+use crate::interface::Interface;
+use crate::meaning::{meaning, Entry, Meaning};
+use crate::record::Record;
+use crate::retell::Call;
+use crate::samples::{small, smallest};
+use crate::state::{State, FINISHED, READY};
+use crate::subsystem::Subsystem;
+
+const fn at(turn: u16, position: u16, counts: [u8; 4], used: usize) -> State {
+    State {
+        turn,
+        position,
+        counts,
+        used,
+    }
+}
+
+fn host(flags: u8, name: &[u8]) -> Call {
+    let mut record = [0; 32];
+    record[1] = flags;
+    Call::Host(record, name.to_vec())
+}
+
+/// An interface told as noise but for the info's flags.
+fn hfi(flags: u8, name: &[u8]) -> Call {
+    let mut info = [0xD7; 128];
+    info[6] = flags;
+    Call::Hfi([0xA6; 32], Box::new(info), name.to_vec())
+}
+
+/// A subsystem told as noise but for its flags; the last object is the
+/// root path.
+fn ssns(flags: [u8; 2], objects: [&[u8]; 5]) -> Call {
+    let mut record = [0x9D; 128];
+    record[3..5].copy_from_slice(&flags);
+    Call::Ssns(Box::new(record), [0xB5; 18], objects.map(<[u8]>::to_vec))
+}
+
+/// A security record told as noise but for flags and secret type.
+fn security(flags: [u8; 3], objects: [&[u8]; 6]) -> Call {
+    let mut record = [0x6B; 64];
+    record[2..5].copy_from_slice(&flags);
+    Call::Security(record, objects.map(<[u8]>::to_vec))
+}
+
+fn discovery(address: &[u8], name: &[u8]) -> Call {
+    Call::Discovery([0x7A; 32], address.to_vec(), name.to_vec())
+}
+
+fn begin(counts: [u8; 4], signature: &[u8]) -> Call {
+    Call::Begin(*b"oemid.oemtabidrev.crtr.rev", counts, signature.to_vec())
+}
+
+const NAMES: [&[u8]; 5] = [b"a", b"b", &[1], b"n", b"r"];
+const LISTS: [&[u8]; 6] = [b"1", b"22", b"333", b"4444", b"55555", b"/k"];
+
+fn one_of_each() -> [Call; 8] {
+    [
+        begin([0; 4], b"s"),
+        host(0, b"n"),
+        hfi(0, b"h"),
+        ssns([0x10, 0], NAMES),
+        security([0, 0, 0], LISTS),
+        discovery(b"u", b"d"),
+        Call::Leave,
+        Call::Finish,
+    ]
+}
+
+fn step(state: State, room: usize, call: Call) -> Step {
+    Step {
+        state,
+        buffer: dirty(room),
+        call,
+    }
+}
+
+/// Every call in states that wait for another one.
+fn out_of_turn() -> Vec<Step> {
+    let fitting = [
+        (State::EMPTY, &[0][..]),
+        (at(2, 0, [0; 4], 160), &[1]),
+        (at(3, 1, [1, 0, 0, 0], 192), &[2, 6]),
+        (at(READY, 0, [0; 4], 160), &[7]),
+        (at(FINISHED, 0, [0; 4], 160), &[]),
+    ];
+    let mut steps = Vec::new();
+    for (state, fits) in fitting {
+        let others = one_of_each().into_iter().enumerate();
+        let others = others.filter(|(place, _)| !fits.contains(place));
+        steps.extend(others.map(|(_, call)| step(state, 400, call)));
+    }
+    steps
+}
+
+/// Begin from states that are not quite empty, and states with a turn,
+/// position or number of bytes used that no call hands out; each with the
+/// place of the call among one of each.
+const FORGED: [(usize, State); 28] = [
+    (0, at(0, 0, [0; 4], 1)),
+    (0, at(0, 1, [0; 4], 0)),
+    (0, at(0, 0, [0, 0, 0, 1], 0)),
+    (1, at(2, 1, [0; 4], 160)),
+    (1, at(2, 0, [0; 4], 159)),
+    (1, at(2, 0, [1; 4], 415)),
+    (1, at(2, 0, [0; 4], 65_537)),
+    (2, at(3, 0, [1; 4], 416)),
+    (2, at(3, 2, [1; 4], 416)),
+    (2, at(3, 1, [0, 1, 1, 1], 400)),
+    (2, at(3, 257, [1; 4], 416)),
+    (3, at(4, 65_535, [1; 4], 416)),
+    (3, at(4, 1, [1; 4], 415)),
+    (4, at(5, 0, [1; 4], 416)),
+    (4, at(5, 1, [1; 4], usize::MAX)),
+    (5, at(6, 2, [2, 2, 2, 1], 640)),
+    (5, at(6, 1, [0; 4], 160)),
+    (6, at(0, 1, [1; 4], 416)),
+    (6, at(1, 1, [1; 4], 416)),
+    (6, at(3, 0, [1; 4], 416)),
+    (6, at(6, 2, [1; 4], 416)),
+    (6, at(9, 1, [1; 4], 416)),
+    (6, at(65_535, 1, [1; 4], 416)),
+    (7, at(READY, 1, [1; 4], 416)),
+    (7, at(READY, 0, [1; 4], 415)),
+    (7, at(READY, 0, [0; 4], 65_537)),
+    (7, at(6, 1, [1; 4], 416)),
+    (7, at(263, 0, [0; 4], 160)),
+];
+
+fn forged() -> Vec<Step> {
+    let all = one_of_each();
+    let step = |(call, state): (usize, State)| step(state, 450, all[call].clone());
+    FORGED.into_iter().map(step).collect()
+}
+
+/// Two-bit fields of 3, before anything else is told wrong or too long.
+fn wrong_records() -> Vec<Step> {
+    let one = [1; 4];
+    let mut steps = vec![
+        step(at(2, 0, one, 416), 0, host(0x18, b"")),
+        step(at(2, 0, one, 416), 100, host(0xFF, b"n")),
+        step(at(4, 1, one, 416), 0, ssns([0x80, 1], [b""; 5])),
+        step(at(4, 1, one, 65_536), 0, ssns([0xFF, 0xFF], NAMES)),
+    ];
+    for flags in [[6, 0], [0x18, 0], [0x60, 0], [0x80, 1]] {
+        let call = security([flags[0], flags[1], 0], [b""; 6]);
+        steps.push(step(at(5, 1, one, 416), 0, call));
+    }
+    steps
+}
+
+/// Required objects that are empty, before what would not fit.
+fn missing_objects() -> Vec<Step> {
+    let one = [1; 4];
+    let mut steps = vec![step(at(2, 0, one, 416), 0, host(0, b""))];
+    for place in [0, 1, 3] {
+        let mut names = NAMES;
+        names[place] = b"";
+        steps.push(step(at(4, 1, one, 65_536), 0, ssns([0, 0], names)));
+    }
+    let needs = [
+        [0x80, 0, 0],
+        [8, 0, 0],
+        [0, 2, 0],
+        [0, 4, 0],
+        [0, 8, 0],
+        [0, 0, 1],
+    ];
+    for (place, flags) in needs.into_iter().enumerate() {
+        let mut lists = LISTS;
+        lists[place] = b"";
+        steps.push(step(at(5, 1, one, 416), 0, security(flags, lists)));
+    }
+    steps
+}
+
+/// Just past 65,536 bytes, and just not: then the buffer is too short.
+fn too_long() -> Vec<Step> {
+    let one = [1; 4];
+    let told = [
+        (at(2, 0, [0; 4], 65_530), host(0, b"1234567")),
+        (at(2, 0, [0; 4], 65_530), host(0, b"123456")),
+        (at(3, 1, one, 65_408), hfi(0, b"h")),
+        (at(3, 1, one, 65_408), hfi(0, b"")),
+        (at(4, 1, one, 65_514), ssns([0x10, 0], NAMES)),
+        (at(4, 1, one, 65_513), ssns([0x10, 0], NAMES)),
+        (at(4, 1, one, 65_532), ssns([0, 0], NAMES)),
+        (at(5, 1, one, 65_536), security([0x80, 0, 0], LISTS)),
+        (at(5, 1, one, 65_536), security([0, 0, 0], LISTS)),
+        (at(6, 1, one, 65_535), discovery(b"u", b"d")),
+        (at(6, 1, one, 65_536), discovery(b"", b"")),
+        (at(6, 1, one, 65_536), Call::Leave),
+        (at(READY, 0, one, 65_536), Call::Finish),
+        (State::EMPTY, begin([255; 4], &[7; 97])),
+        (State::EMPTY, begin([255; 4], &[7; 96])),
+    ];
+    let step = |(state, call)| step(state, 200, call);
+    told.into_iter().map(step).collect()
+}
+
+/// Each call of a run, lent one byte less than would then be used.
+fn too_short() -> Vec<Step> {
+    let mut steps = run(&small(Subsystem::ID, 1), 0);
+    for step in &mut steps {
+        let (_, next, _) = step.made();
+        step.buffer.truncate(next.used - 1);
+    }
+    steps
+}
+
+/// Reserved bits, ignored fields and objects, identity and valid bits, all
+/// told as noise.
+fn dropped() -> Vec<Step> {
+    let one = [1; 4];
+    vec![
+        step(at(2, 0, [0; 4], 160), 170, host(0xF6, b"nqn")),
+        step(at(3, 1, [1, 0, 0, 0], 192), 330, hfi(0xFF, b"h")),
+        step(at(3, 1, [2, 0, 0, 0], 224), 352, hfi(0xF8, b"")),
+        step(at(4, 1, [0, 2, 0, 0], 416), 450, ssns([0xEA, 0xFE], NAMES)),
+        step(at(4, 1, one, 416), 450, ssns([0x15, 0xFF], NAMES)),
+        step(at(5, 1, one, 416), 416, security([0, 0xF0, 0xFE], LISTS)),
+        step(
+            at(5, 2, [0, 0, 2, 1], 320),
+            340,
+            security([0x4A, 0xFF, 1], LISTS),
+        ),
+        step(
+            at(5, 1, [0, 0, 1, 0], 224),
+            230,
+            security([0x80, 0, 0], LISTS),
+        ),
+        step(at(6, 3, [0, 0, 0, 3], 256), 260, discovery(b"", b"nq")),
+        step(State::EMPTY, 500, begin(one, b"")),
+        step(State::EMPTY, 420, begin([0, 0, 2, 3], b"sign")),
+    ]
+}
+
+/// The step that finishes a run, in a buffer longer than the table.
+fn finishing(meaning: &Meaning) -> Step {
+    run(meaning, 40).pop().expect("a run ends with finish")
+}
+
+/// Finish where an index names no used record.
+fn index_faults() -> Vec<Step> {
+    let changed = |change: fn(&mut Subsystem)| {
+        let mut meaning = small(Subsystem::ID, 1);
+        if let Entry::Used(subsystem) = &mut meaning.subsystems[0] {
+            change(subsystem);
+        }
+        finishing(&meaning)
+    };
+    let mut profile = small(Subsystem::ID, 1);
+    if let Entry::Used(discovery) = &mut profile.discoveries[0] {
+        discovery.security = 2;
+    }
+    vec![
+        changed(|subsystem| subsystem.discovery = 2),
+        changed(|subsystem| subsystem.security = Some(0)),
+        changed(|subsystem| subsystem.primary_interface = 2),
+        changed(|subsystem| subsystem.secondary_interfaces = Some(b"\x01\x00".into())),
+        finishing(&profile),
+    ]
+}
+
+/// Bytes of the smallest table to change before it is finished.
+const SMALLEST_EDITS: [(usize, u8); 21] = [
+    (0, 0),
+    (4, 0xFF),
+    (8, 2),
+    (9, 0xFF),
+    (36, 159),
+    (36, 161),
+    (40, 0xFF),
+    (44, 1),
+    (50, 1),
+    (64, 2),
+    (68, 63),
+    (70, 0),
+    (72, 129),
+    (78, 0),
+    (87, 1),
+    (128, 3),
+    (129, 0),
+    (129, 0x19),
+    (146, 161),
+    (150, 0),
+    (152, 5),
+];
+
+/// Likewise of a table with one interface, whose info stands at 200.
+const INTERFACE_EDITS: [(usize, u8); 7] = [
+    (161, 2),
+    (162, 0),
+    (180, 127),
+    (181, 1),
+    (200, 3),
+    (206, 6),
+    (308, 0),
+];
+
+/// Finish with a buffer or a state that no run leaves.
+fn tampered() -> Vec<Step> {
+    let smallest = finishing(&meaning(&smallest()));
+    let interface = finishing(&small(Interface::ID, 1));
+    let edited = |ready: &Step, (place, byte): (usize, u8)| {
+        let mut step = ready.clone();
+        step.buffer[place] = byte;
+        step
+    };
+    let mut steps: Vec<Step> = SMALLEST_EDITS.map(|edit| edited(&smallest, edit)).into();
+    steps.extend(INTERFACE_EDITS.map(|edit| edited(&interface, edit)));
+    let states = [
+        at(READY, 0, [0; 4], 161),
+        at(READY, 0, [0; 4], 170),
+        at(READY, 0, [0, 0, 0, 1], 192),
+        at(READY, 0, [1, 0, 0, 0], 194),
+    ];
+    steps.extend(states.map(|state| Step {
+        state,
+        ..smallest.clone()
+    }));
+    steps
+}
+
+/// Steps by what they show.
+pub fn single_steps() -> Vec<(&'static str, Vec<Step>)> {
+    vec![
+        ("calls out of turn", out_of_turn()),
+        ("forged states", forged()),
+        ("two-bit fields of 3", wrong_records()),
+        ("required objects that are empty", missing_objects()),
+        ("about 65,536 bytes", too_long()),
+        ("one byte too few lent", too_short()),
+        ("what is dropped", dropped()),
+        ("indexes that name no used record", index_faults()),
+        ("finish with forged buffers and states", tampered()),
+    ]
+}
