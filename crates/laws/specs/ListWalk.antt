@@ -15,7 +15,7 @@ use Rattle.table.specs.declared.Answer.{Answer}
 use Rattle.table.specs.declared.Region.{Region}
 use Rattle.table.specs.Bytes.{odd, pick}
 use Rattle.table.specs.Layout.{Entry, Env, Keep, Layout, baseOf, env, image, isValid, low, modOf, offsets, sel, unused, used}
-use Rattle.table.specs.FixedLayouts.{choose, control, discovery, extended, header, hfi, host, info, layoutOf, listKinds, noKind, security, ssns}
+use Rattle.table.specs.FixedLayouts.{control, discovery, extended, header, hfi, host, info, layoutOf, listKinds, noKind, security, ssns}
 use Rattle.table.specs.Objects.{countIn, isUsed, readBody, readEntry, readList, readSlots, usedAt, usedIn}
 use Rattle.table.specs.Rules.{answer, done, entryRule, listRule, usedRule}
 use Rattle.laws.specs.ImageLaws.{image-at}
@@ -145,18 +145,14 @@ pick-all : (P : Layout → Type 0) (c : Bool) (x y : Layout) → P x → P y →
 pick-all P true x y p q = p
 pick-all P false x y p q = q
 
-abbrev EachKind : (Layout → Type 0) → List Layout → Type 0
-EachKind P [] = P noKind
-EachKind P (l ∷ ls) = P l × EachKind P ls
-
-choose-all : (P : Layout → Type 0) (k : ℕ) (ls : List Layout) → EachKind P ls → P (choose k ls)
-choose-all P k [] p = p
-choose-all P k (l ∷ ls) p = pick-all P (eqb k (l .kind)) l (choose k ls) (p .0) (choose-all P k ls (p .1))
-
 pub by-layout : (P : Layout → Type 0) → P header → P control → P host → P hfi → P ssns → P security → P discovery → P info → P extended → P noKind → (k : ℕ) → P (layoutOf k)
 unfolding layoutOf
 by-layout P p0 p1 p2 p3 p4 p5 p6 p7 p9 p k =
-    choose-all P k (header ∷ control ∷ host ∷ hfi ∷ ssns ∷ security ∷ discovery ∷ info ∷ extended ∷ []) (p0, (p1, (p2, (p3, (p4, (p5, (p6, (p7, (p9, p)))))))))
+    pick-all P (eqb k 0) _ _ p0
+    (pick-all P (eqb k 1) _ _ p1
+    (pick-all P (eqb k 2) _ _ p2
+    (pick-all P (eqb k 3) _ _ p3
+    (pick-all P (eqb k 4) _ _ p4 (pick-all P (eqb k 5) _ _ p5 (pick-all P (eqb k 6) _ _ p6 (pick-all P (eqb k 7) _ _ p7 (pick-all P (eqb k 9) _ _ p9 p))))))))
 
 pub kinds-distinct : (k : ℕ) → T (distinctRefs (layoutOf k .refs))
 unfolding header control host hfi ssns security discovery info extended noKind

@@ -143,9 +143,11 @@ listKinds = hfi ∷ ssns ∷ security ∷ discovery ∷ []
 unfoldable pub noKind : Layout
 noKind = record { kind = 16; shape = shaped [] [] (region 0 0) (region 0 0) []; refs = none; names = noNames }
 
-abbrev pub choose : ℕ → List Layout → Layout
-choose k [] = noKind
-choose k (l ∷ ls) = pick (eqb k (l .kind)) l (choose k ls)
-
 unfoldable pub layoutOf : ℕ → Layout
-layoutOf k = choose k (header ∷ control ∷ host ∷ hfi ∷ ssns ∷ security ∷ discovery ∷ info ∷ extended ∷ [])
+layoutOf k =
+    pick (eqb k 0) header
+    (pick (eqb k 1) control
+    (pick (eqb k 2) host
+    (pick (eqb k 3) hfi
+    (pick (eqb k 4) ssns
+    (pick (eqb k 5) security (pick (eqb k 6) discovery (pick (eqb k 7) info (pick (eqb k 9) extended noKind))))))))

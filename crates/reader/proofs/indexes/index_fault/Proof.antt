@@ -1,0 +1,19 @@
+use Rattle.table.proofs.Rules.{picks}
+use borrow.Author.Needs.{needs}
+use Rattle.reader.proofs.indexes.index_fault.Statement.{statement}
+use Rattle.reader.proofs.indexes.index_fault.Tie as tie
+use Rattle.reader.proofs.indexes.index_fault.Reads as reads
+use Rattle.reader.proofs.indexes.index_fault.Lts as lts
+use Rattle.reader.proofs.indexes.valid_at.Reads as valid-at-reads
+
+valid-at-requires : tie.Need-valid-at-requires
+valid-at-requires c κs = search needs
+
+returns : tie.Need-returns
+returns c = rw (← c .before .valid-at .ensures, c .if1 .taken)
+
+returns-2 : tie.Need-returns-2
+returns-2 c = rw (← c .before .valid-at .ensures, c .if1 .left)
+
+pub index-fault-spec : {M : Type 1} → statement M
+index-fault-spec = tie.close (tie.spec valid-at-requires returns returns-2)

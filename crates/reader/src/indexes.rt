@@ -1,0 +1,157 @@
+// Indexes: each names a position of a list, whose record must be valid. Only the valid bit is looked at here; the record's own turn finds its other faults.
+ghost use mathlib.Core.Path.{_≡_};
+ghost use mathlib.Core.Bool.{true, false};
+ghost use Prim.Native.Nat.{_+_, _*_, _≤_, _<_};
+ghost use lib.ListN.{length, getD};
+ghost use Rattle.table.specs.Bytes.{num, pick, every};
+ghost use Rattle.table.specs.Layout.{baseOf, region};
+ghost use Rattle.table.specs.FixedLayouts.{layoutOf, ssns, zeroOr};
+ghost use Rattle.table.specs.Rules.{refsRule, firstOf};
+ghost use Rattle.laws.specs.Fields.{imageIn};
+ghost use Rattle.laws.specs.ListWalk.{validIn, envIn, flagged};
+ghost use Rattle.frame.specs.Bounds.{ListIn, LaidOut};
+ghost use Rattle.rules.specs.Records.{IsHeap};
+use rules::Ref;
+ghost use Rattle.reader.specs.Walks.{namesRule, securityIndex, secondaryRule, RefsPass};
+
+// Position n of a list is one of it, and its valid bit is set.
+fn listed(t: &[u8], at: usize, step: usize, count: usize, flag: usize, n: usize) -> bool
+    requires { ⌜ (0 < count → at + count * step ≤ length (now t)) × (0 < count → flag < step) ⌝ }
+    ensures { λ r. ⌜ r ≡ flagged (now (t .entry)) at step count flag n ⌝ }
+{
+    if n == 0 {
+        return false;
+    }
+    if count < n {
+        return false;
+    }
+    let i = n - 1;
+    let d = i * step;
+    t[at + d + flag] % 2 == 1
+}
+
+// Position n of the list whose entry in the control record stands at c.
+fn valid_in(t: &[u8], c: usize, flag: usize, n: usize) -> bool
+    requires { ⌜ (c + 8 ≤ length (now t)) × ListIn (now t) c (flag + 1) ⌝ }
+    ensures { λ r. ⌜ r ≡ flagged (now (t .entry)) (num (now (t .entry)) c 4) (num (now (t .entry)) (c + 4) 2) (getD (now (t .entry)) (c + 7) 0) flag n ⌝ }
+{
+    listed(t, wire::u32_at(t, c), wire::u16_at(t, c + 4), wire::wide(t[c + 7]), flag, n)
+}
+
+// Position n of a kind.
+pub fn valid_at(t: &[u8], kind: u8, n: usize) -> bool
+    requires { ⌜ LaidOut (now t) ⌝ }
+    ensures { λ r. ⌜ r ≡ validIn (now (t .entry)) kind n ⌝ }
+{
+    match kind {
+        3 => valid_in(t, 80, 2, n),
+        4 => valid_in(t, 88, 3, n),
+        5 => valid_in(t, 96, 2, n),
+        6 => valid_in(t, 104, 1, n),
+        _ => false,
+    }
+}
+
+fn index_fault(t: &[u8], kind: u8, n: usize) -> u8
+    requires { ⌜ LaidOut (now t) ⌝ }
+    ensures { λ r. ⌜ r ≡ pick (validIn (now (t .entry)) kind n) 0 13 ⌝ }
+{
+    if valid_at(t, kind, n) { 0 } else { 13 }
+}
+
+// An index that may be 0.
+fn optional_index(t: &[u8], kind: u8, n: usize) -> u8
+    requires { ⌜ LaidOut (now t) ⌝ }
+    ensures { λ r. ⌜ r ≡ pick (zeroOr (validIn (now (t .entry)) kind) n) 0 13 ⌝ }
+{
+    if n == 0 {
+        return 0;
+    }
+    index_fault(t, kind, n)
+}
+
+fn discovery_names(t: &[u8], a: usize) -> u8
+    requires { ⌜ LaidOut (now t) × (a + 32 ≤ length (now t)) ⌝ }
+    ensures { λ r. ⌜ r ≡ namesRule 6 (now (t .entry)) a ⌝ }
+{
+    let fault = index_fault(t, 3, wire::wide(t[a + 3]));
+    if fault != 0 {
+        return fault;
+    }
+    optional_index(t, 5, wire::wide(t[a + 4]))
+}
+
+// The security index counts only under flag 2.
+fn security_index(t: &[u8], a: usize) -> u8
+    requires { ⌜ LaidOut (now t) × (a + 128 ≤ length (now t)) ⌝ }
+    ensures { λ r. ⌜ r ≡ securityIndex (now (t .entry)) a ⌝ }
+{
+    if rules::records::ssns_flags(t, a) / 4 % 2 == 0 {
+        return 0;
+    }
+    index_fault(t, 5, wire::wide(t[a + 45]))
+}
+
+// Each byte of the list names a valid HFI, never 0.
+fn secondaries_fault(x: &[u8], t: &[u8]) -> u8
+    requires { ⌜ LaidOut (now t) ⌝ }
+    ensures { λ r. ⌜ r ≡ pick (every (validIn (now (t .entry)) 3) (now (x .entry))) 0 13 ⌝ }
+{
+    let mut i: usize = 0;
+    while i < x.len() {
+        let fault = index_fault(t, 3, wire::wide(x[i]));
+        if fault != 0 {
+            return fault;
+        }
+        i += 1;
+    }
+    0
+}
+
+// The secondary list is a part of the heap, whose reference has passed.
+fn secondary_names(t: &[u8], a: usize, position: usize, heap: &[u8], from: usize) -> u8
+    requires { ⌜ LaidOut (now t) × (a + 128 ≤ length (now t)) × IsHeap (now t) (now heap) from × RefsPass 4 (region from (length (now heap))) (now t) a position ⌝ }
+    ensures { λ r. ⌜ r ≡ secondaryRule (now (t .entry)) a ⌝ }
+{
+    let r = rules::references::ref_at(t, a + 48, from, heap.len());
+    match r {
+        Ref::Absent => 0,
+        Ref::Wrong => 0,
+        Ref::Part { at, len } => {
+            let start = at - from;
+            let end = start + len;
+            secondaries_fault(&heap[start..end], t)
+        }
+    }
+}
+
+fn ssns_names(t: &[u8], a: usize, position: usize, heap: &[u8], from: usize) -> u8
+    requires { ⌜ LaidOut (now t) × (a + 128 ≤ length (now t)) × IsHeap (now t) (now heap) from × RefsPass 4 (region from (length (now heap))) (now t) a position ⌝ }
+    ensures { λ r. ⌜ r ≡ namesRule 4 (now (t .entry)) a ⌝ }
+{
+    let discovery = optional_index(t, 6, wire::wide(t[a + 8]));
+    if discovery != 0 {
+        return discovery;
+    }
+    let security = security_index(t, a);
+    if security != 0 {
+        return security;
+    }
+    let primary = index_fault(t, 3, wire::wide(t[a + 46]));
+    if primary != 0 {
+        return primary;
+    }
+    secondary_names(t, a, position, heap, from)
+}
+
+// The indexes of the record at `a`, whose references have passed: 0 or 13.
+pub fn names_fault(t: &[u8], kind: u8, a: usize, position: usize, heap: &[u8], from: usize) -> u8
+    requires { ⌜ LaidOut (now t) × (a + baseOf (layoutOf kind) ≤ length (now t)) × IsHeap (now t) (now heap) from × RefsPass kind (region from (length (now heap))) (now t) a position ⌝ }
+    ensures { λ r. ⌜ r ≡ namesRule kind (now (t .entry)) a ⌝ }
+{
+    match kind {
+        4 => ssns_names(t, a, position, heap, from),
+        6 => discovery_names(t, a),
+        _ => 0,
+    }
+}

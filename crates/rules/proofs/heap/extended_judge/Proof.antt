@@ -1,0 +1,29 @@
+use Rattle.rules.specs.Records.{extendedSound}
+use Rattle.table.proofs.Rules.{picks}
+use Rattle.rules.proofs.heap.extended_judge.Statement.{statement}
+use Rattle.rules.proofs.heap.extended_judge.Tie as tie
+use Rattle.rules.proofs.heap.extended_judge.Reads as reads
+use Rattle.rules.proofs.heap.extended_judge.Lts as lts
+
+returns : tie.Need-returns
+unfolding Rattle.rules.specs.Records.extendedSound
+returns c = search picks
+
+returns-2 : tie.Need-returns-2
+unfolding Rattle.rules.specs.Records.extendedSound
+returns-2 c = search picks
+
+returns-3 : tie.Need-returns-3
+unfolding Rattle.rules.specs.Records.extendedSound
+returns-3 c = search picks
+
+returns-4 : tie.Need-returns-4
+unfolding Rattle.rules.specs.Records.extendedSound
+returns-4 c = search picks
+
+returns-5 : tie.Need-returns-5
+unfolding Rattle.rules.specs.Records.extendedSound
+returns-5 c = search picks
+
+pub extended-judge-spec : {M : Type 1} → statement M
+extended-judge-spec = tie.close (tie.spec returns returns-2 returns-3 returns-4 returns-5)
