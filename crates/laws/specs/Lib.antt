@@ -28,3 +28,4 @@ pub mod Looked
 pub mod Fields
 pub mod RefWalk
 pub mod ListWalk
+pub mod Positions
