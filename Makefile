@@ -1,15 +1,20 @@
 # Wickgarland: a verified library for the NVMe boot firmware table (NBFT).
 #
-#   make run     check a sample table and show its one form
-#   make test    every test: the second program, its vectors, and all proofs
-#   make vectors write the vectors, sample tables and cases anew
-#   make clean   remove what the others made
+#   make run      check a sample table
+#   make test     every test: the second program, its vectors, the library beside it, and all proofs
+#   make library  the static library, target/staticlib/libnbft.a (include/nbft.h declares its functions)
+#   make soak     the library beside the second program on a million tables, and between closed pages
+#   make bench    time of a check, beside the second program's and a bare byte sum's
+#   make vectors  write the vectors, sample tables and cases anew
+#   make clean    remove what the others made
 
 CARGO  := cargo
 SECOND := second/target/release/second
+LINKED := second/linked/target/release/linked
+BENCH  := bench/target/release/bench
 CASES  := crates/agreement/specs
 
-.PHONY: run test vectors clean second
+.PHONY: run test library soak bench vectors clean second linked
 
 run: second
 	@echo "samples/machine.nbft: number, kind and position of the check"
@@ -19,13 +24,25 @@ run: second
 	@cmp samples/machine.nbft target/machine.form && echo "samples/machine.nbft is its own form"
 
 # The last step is the proofs: its last line is 'N passed, M failed'.
-test: second
+test: second linked
 	cd second && $(CARGO) test --offline --quiet
 	$(SECOND) vectors check second/vectors
 	$(SECOND) samples check samples
 	$(SECOND) cases check $(CASES)
+	$(LINKED) compare 40000 1
 	rt fmt --check
 	rt ci
+
+library:
+	rt staticlib nbft
+
+soak: linked
+	$(LINKED) compare 1000000 2026
+	$(LINKED) guard 200000 2027
+
+bench: linked
+	@cd bench && $(CARGO) build --offline --quiet --release
+	$(BENCH)
 
 vectors: second
 	$(SECOND) vectors write second/vectors
@@ -35,5 +52,8 @@ vectors: second
 second:
 	@cd second && $(CARGO) build --offline --quiet --release
 
+linked: library
+	@cd second/linked && $(CARGO) build --offline --quiet --release
+
 clean:
-	rm -rf target build second/target
+	rm -rf target build second/target second/linked/target bench/target

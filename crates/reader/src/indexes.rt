@@ -35,7 +35,14 @@ fn valid_in(t: &[u8], c: usize, flag: usize, n: usize) -> bool
     requires { ⌜ (c + 8 ≤ length (now t)) × ListIn (now t) c (flag + 1) ⌝ }
     ensures { λ r. ⌜ r ≡ flagged (now (t .entry)) (num (now (t .entry)) c 4) (num (now (t .entry)) (c + 4) 2) (getD (now (t .entry)) (c + 7) 0) flag n ⌝ }
 {
-    listed(t, wire::u32_at(t, c), wire::u16_at(t, c + 4), wire::wide(t[c + 7]), flag, n)
+    listed(
+        t,
+        wire::u32_at(t, c),
+        wire::u16_at(t, c + 4),
+        wire::wide(t[c + 7]),
+        flag,
+        n,
+    )
 }
 
 // Position n of a kind.

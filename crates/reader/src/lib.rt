@@ -3,5 +3,4 @@ pub mod checking; // the whole check
 pub mod indexes; // which positions are used, and the indexes that name them
 pub mod lists; // records and lists of records
 
-
 pub use checking::check;

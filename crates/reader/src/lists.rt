@@ -57,7 +57,15 @@ pub fn record_fault(t: &[u8], kind: u8, a: usize, position: usize, heap: &[u8], 
 }
 
 // `count` records from `at` on, each `step` bytes behind the last; positions count from 1, unused ones too.
-fn list_from(t: &[u8], kind: u8, at: usize, step: usize, count: usize, heap: &[u8], from: usize) -> Answer
+fn list_from(
+    t: &[u8],
+    kind: u8,
+    at: usize,
+    step: usize,
+    count: usize,
+    heap: &[u8],
+    from: usize,
+) -> Answer
     requires { ⌜ LaidOut (now t) × (2 ≤ kind) × (kind ≤ 6) × IsHeap (now t) (now heap) from ⌝ }
     requires { ⌜ (0 < count → at + count * step ≤ length (now t)) × (0 < count → baseOf (layoutOf kind) ≤ step) × (count < 256) × (at < 4294967296) ⌝ }
     ensures { λ r. ⌜ r ≡ listFrom kind (region from (length (now (heap .entry)))) (now (t .entry)) step 1 at count ⌝ }
@@ -81,5 +89,13 @@ pub fn list_fault(t: &[u8], kind: u8, c: usize, heap: &[u8], from: usize) -> Ans
     requires { ⌜ (c + 8 ≤ length (now t)) × ListIn (now t) c (baseOf (layoutOf kind)) ⌝ }
     ensures { λ r. ⌜ r ≡ listFault kind (region from (length (now (heap .entry)))) (now (t .entry)) c ⌝ }
 {
-    list_from(t, kind, wire::u32_at(t, c), wire::u16_at(t, c + 4), wire::wide(t[c + 7]), heap, from)
+    list_from(
+        t,
+        kind,
+        wire::u32_at(t, c),
+        wire::u16_at(t, c + 4),
+        wire::wide(t[c + 7]),
+        heap,
+        from,
+    )
 }

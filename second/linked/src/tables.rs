@@ -1,0 +1,81 @@
+//! An endless row of tables to compare: good ones in many layouts, damaged
+//! ones, ones with a few bytes changed, cut ones, and plain noise.
+
+use second::damage::put_checksum_within_length;
+use second::faults::damages;
+use second::form::form;
+use second::generate::random_meaning;
+use second::layout::{lay_out_freely, with_tail, Style};
+use second::random::Random;
+
+/// The next table. The same seed gives the same tables.
+pub fn next(random: &mut Random) -> Vec<u8> {
+    let table = good(random);
+    match random.below(8) {
+        0 | 1 => table,
+        2 => with_tail(random, table),
+        3 => damaged(random),
+        4 | 5 => changed(random, table),
+        6 => cut(random, table),
+        _ if random.one_in(50) => too_long(random, table),
+        _ => noise(random),
+    }
+}
+
+fn good(random: &mut Random) -> Vec<u8> {
+    let meaning = random_meaning(random);
+    let style = *random.pick(&[Style::SEPARATE, Style::SHARED, Style::WILD]);
+    lay_out_freely(random, &meaning, style)
+}
+
+/// One fault of a known number, in a table in its one form.
+fn damaged(random: &mut Random) -> Vec<u8> {
+    let good = form(&random_meaning(random));
+    let all = damages(&good);
+    random.pick(&all).apply(&good).table
+}
+
+/// One to four bytes changed, most of them in the header, the control record
+/// and the first records. The checksum is put right three times of four.
+fn changed(random: &mut Random, mut table: Vec<u8>) -> Vec<u8> {
+    for _ in 0..=random.below(4) {
+        let reach = if random.flag() { 160 } else { table.len() };
+        let place = random.below(reach);
+        table[place] = match random.below(4) {
+            0 => random.byte(),
+            1 => table[place] ^ (1 << random.below(8)),
+            2 => table[place].wrapping_add(1),
+            _ => *random.pick(&[0, 1, 2, 3, 255]),
+        };
+    }
+    if !random.one_in(4) {
+        put_checksum_within_length(&mut table);
+    }
+    table
+}
+
+fn cut(random: &mut Random, mut table: Vec<u8>) -> Vec<u8> {
+    table.truncate(random.below(table.len() + 1));
+    table
+}
+
+/// A Length above the greatest, with as many bytes lent or a few less.
+fn too_long(random: &mut Random, mut table: Vec<u8>) -> Vec<u8> {
+    let length = 65_530 + random.below(20);
+    table.resize(length, 0);
+    table[4..8].copy_from_slice(&(length as u32 + random.below(3) as u32).to_le_bytes());
+    put_checksum_within_length(&mut table);
+    table
+}
+
+/// Noise behind a right signature, so that more than the first two tests is met.
+fn noise(random: &mut Random) -> Vec<u8> {
+    let length = random.below(600);
+    let mut table = random.bytes(length);
+    if length >= 64 && random.flag() {
+        table[..4].copy_from_slice(b"NBFT");
+        table[4..8].copy_from_slice(&(length as u32).to_le_bytes());
+        put_checksum_within_length(&mut table);
+    }
+    table
+}
