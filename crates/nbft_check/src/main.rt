@@ -1,5 +1,6 @@
 // `nbft_check FILE`: whether the file holds a good table, and if not, its first fault. One line of
 // numbers for programs, one of words for people. What hinders the check goes to standard error.
+mod numbers; // the first line
 mod words; // the second line
 
 use libc::STDERR_FILENO;
@@ -24,23 +25,20 @@ fn ends_here(fd: i32, path: &[u8]) -> bool {
         return false;
     }
     if got > 0 {
-        complain(path, b": more bytes than the 70000 that are read\n");
+        complain(path, b": more bytes than are read, which is ");
+        io::print_decimal(STDERR_FILENO, MOST as u64);
+        io::write_all(STDERR_FILENO, b"\n");
         return false;
     }
     true
 }
 
 fn print_answer(a: Answer) {
-    let number = a.number;
-    let kind = a.kind;
-    let position = a.position;
-    io::print_decimal(STDOUT_FILENO, number as u64);
-    io::write_all(STDOUT_FILENO, b" ");
-    io::print_decimal(STDOUT_FILENO, kind as u64);
-    io::write_all(STDOUT_FILENO, b" ");
-    io::print_decimal(STDOUT_FILENO, position as u64);
-    io::write_all(STDOUT_FILENO, b"\n");
-    words::print_fault(number, kind, position as u64);
+    let line = numbers::answer_line(a);
+    let len = line.len;
+    let bytes = line.bytes;
+    io::write_all(STDOUT_FILENO, &bytes[..len]);
+    words::print_fault(a.number, a.kind, a.position as u64);
 }
 
 // Nothing is printed before the whole file is read, so a file at fault leaves no half answer.
