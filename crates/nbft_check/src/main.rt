@@ -25,9 +25,9 @@ fn ends_here(fd: i32, path: &[u8]) -> bool {
         return false;
     }
     if got > 0 {
-        complain(path, b": more bytes than are read, which is ");
+        complain(path, b": more bytes than the ");
         io::print_decimal(STDERR_FILENO, MOST as u64);
-        io::write_all(STDERR_FILENO, b"\n");
+        io::write_all(STDERR_FILENO, b" that are read\n");
         return false;
     }
     true

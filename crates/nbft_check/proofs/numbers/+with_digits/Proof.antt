@@ -2,10 +2,10 @@
 -- Assumes nothing.
 use borrow.Author.Needs.{needs}
 use borrow.Author.Tests.{ne-eqb}
-use mathlib.Core.Path.{_≡_, refl, sym}
-use mathlib.Core.List.{List, [], _∷_, _++_, append-assoc, append-nil}
+use mathlib.Core.Path.{_≡_, refl}
+use mathlib.Core.List.{[], _∷_, _++_, append-assoc, append-nil}
 use lib.ListN.{take}
-use Prim.Native.Nat.{ℕ, zero, suc, _+_, _-_, _<_, _≤_, _/_, _%_}
+use Prim.Native.Nat.{ℕ, zero, suc, _+_, _-_, _<_, _/_, _%_}
 use native.Mathlib.Nat.{suc-ne-zero}
 use native.Mathlib.Numerals.{sub-one}
 use native.Mathlib.Omega.{arith}
@@ -19,6 +19,7 @@ use Rattle.nbft_check.proofs.numbers.+with_digits.Lts-with_digits as di
 use Rattle.nbft_check.proofs.numbers.+with_digits.{statement}
 use Rattle.nbft_check.proofs.numbers.+with_digits.Tie.{close}
 
+-- no digits where none may come, none of zero, and else one at the end
 none-left : (k n : ℕ) → k ≡ 0 → digitsOf k n ≡ []
 unfolding digitsOf
 none-left zero n h = refl
