@@ -1,13 +1,14 @@
 -- References by their halves, and the rules of records by the bytes that are read. Assumes nothing.
 use mathlib.Core.Path.{_≡_, refl, sym, ap, ap₂, _∙_}
 use mathlib.Core.Bool.{Bool, true, false, not, _&&_}
-use Prim.Native.Nat.{ℕ, _+_}
-use lib.Dec.{T, eqb}
-use borrow.Author.Tests.{eqb-true}
+use Prim.Native.Nat.{ℕ, _+_, _≤_, _<_}
+use lib.Dec.{T, eqb, leb}
+use borrow.Author.Tests.{eqb-true, ne-eqb, le-leb, lt-leb}
 use Rattle.table.specs.declared.Region.{Region}
 use Rattle.table.specs.declared.Need.{Need}
 use Rattle.table.specs.declared.Need.the-variants.{Ignored, Optional, Required}
 use Rattle.table.specs.Bytes.{pick}
+use Rattle.table.specs.Layout.{region}
 use Rattle.table.specs.Rules.{reaches, refRule}
 use Rattle.rules.specs.declared.references.Ref.the-variants.{Absent, Wrong, Part}
 use Rattle.rules.specs.References.{refOf, refNumber}
@@ -30,3 +31,17 @@ ref-rule heap Required off len = go (eqb off 0) (eqb len 0) _
     go false true z = refl
     go false false true = refl
     go false false false = refl
+
+-- an object that ends behind the heap, and one that lies in it
+pub ref-out : (from n off len : ℕ) → (off ≡ 0 → ⊥) → from + n < off + len → Wrong ≡ refOf (region from n) off len
+unfolding refOf
+ref-out from n off len x h = rw (ne-eqb off 0 x, lt-leb (off + len) (from + n) h) (go (eqb len 0) (leb from off))
+  where
+    go : (c d : Bool) → Wrong ≡ pick (not c && (d && false)) (Part off len) Wrong
+    go true d = refl
+    go false true = refl
+    go false false = refl
+
+pub ref-in : (from n off len : ℕ) → (off ≡ 0 → ⊥) → (len ≡ 0 → ⊥) → from ≤ off → off + len ≤ from + n → Part off len ≡ refOf (region from n) off len
+unfolding refOf
+ref-in from n off len x y l h = rw (ne-eqb off 0 x, ne-eqb len 0 y, le-leb from off l, le-leb (off + len) (from + n) h)

@@ -1,3 +1,5 @@
+use native.Mathlib.Omega.{arith}
+use Rattle.rules.proofs.Laws.{ref-out, ref-in}
 use Rattle.rules.specs.References.{refOf}
 use Rattle.table.proofs.Rules.{picks}
 use borrow.Author.Needs.{needs}
@@ -29,12 +31,10 @@ add-if5-2 : tie.Need-add-if5-2
 add-if5-2 c = search needs
 
 returns-5 : tie.Need-returns-5
-unfolding Rattle.rules.specs.References.refOf
-returns-5 c = search picks
+returns-5 c = let a = c .before .before .before .before .args in ref-out (a .from) (a .n) (a .off) (a .len) (c .before .before .before .if1 .left) (omega arith)
 
 returns-6 : tie.Need-returns-6
-unfolding Rattle.rules.specs.References.refOf
-returns-6 c = search picks
+returns-6 c = let a = c .before .before .before .before .args in ref-in (a .from) (a .n) (a .off) (a .len) (c .before .before .before .if1 .left) (c .before .before .if3 .left) (omega arith) (omega arith)
 
 pub ref-of-spec : {M : Type 1} → statement M
 ref-of-spec =
