@@ -1,19 +1,19 @@
 -- From "accepted" to the bounds of every region, record, reference and heap record. Assumes nothing.
-use mathlib.Core.Path.{_≡_, refl, sym, ap, ap₂, _∙_}
-use mathlib.Core.Bool.{Bool, true, false, not, _&&_}
+use mathlib.Core.Path.{_≡_, refl, sym, ap, _∙_}
+use mathlib.Core.Bool.{Bool, true, false, _&&_}
 use mathlib.Core.List.{List, [], _∷_}
 use Prim.Native.Nat.{ℕ, zero, suc, _+_, _-_, _*_, _/_, _%_, _≤_, _<_}
 use native.Mathlib.Omega.{arith}
 use native.Mathlib.Nat.{le-of-suc-le-suc, not-suc-le-zero}
 use lib.ListN.{length, getD, length-take, length-drop}
-use lib.Dec.{T, eqb, leb, leb→le, lit<, lit≤}
+use lib.Dec.{eqb, leb, leb→le, lit<}
 use mir.Facts.{and-yes}
-use borrow.Author.Tests.{eq-eqb, ne-eqb, eqb-true, eqb-false}
+use borrow.Author.Tests.{ne-eqb, eqb-true, eqb-false}
 use Rattle.table.specs.declared.Answer.{Answer}
 use Rattle.table.specs.declared.Region.{Region}
 use Rattle.table.specs.declared.Need.the-variants.{Optional, Required}
 use Rattle.table.specs.Bytes.{pick, part, num, odd}
-use Rattle.table.specs.Layout.{Env, Layout, Shape, baseOf, image, offsets, region}
+use Rattle.table.specs.Layout.{Env, Shape, image, offsets, region}
 use Rattle.table.specs.FixedLayouts.{layoutOf, listKinds, info, extended, ssns}
 use Rattle.table.specs.Objects.{readBody}
 use Rattle.table.specs.Rules.{answer, bodyRule, done, first, firstFail, firstOf, isSound, reaches, refRule}

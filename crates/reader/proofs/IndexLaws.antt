@@ -1,32 +1,32 @@
 -- Indexes: which positions are used, by the lists' flags; the rules of a record's indexes by the bytes that are read. Assumes nothing.
-use mathlib.Core.Path.{_≡_, refl, sym, ap, ap₂, _∙_, subst}
-use mathlib.Core.Bool.{Bool, true, false, not, _&&_, _||_}
-use mathlib.Core.List.{List, [], _∷_}
-use Prim.Native.Nat.{ℕ, zero, suc, _+_, _-_, _*_, _/_, _%_, _≤_, _<_}
-use native.Mathlib.Nat.{suc-mul, mul-le-mul-right, le-trans, add-zero, mod-eq-of-lt}
+use mathlib.Core.Path.{_≡_, refl, sym, ap, ap₂, _∙_}
+use mathlib.Core.Bool.{Bool, true, false, _&&_, _||_}
+use mathlib.Core.List.{List}
+use Prim.Native.Nat.{ℕ, _+_, _-_, _*_, _/_, _%_, _≤_, _<_}
+use native.Mathlib.Nat.{suc-mul, mul-le-mul-right, le-trans, mod-eq-of-lt}
 use native.Mathlib.Numerals.{add-one}
 use native.Mathlib.Omega.{arith}
 use lib.ListN.{length, getD, drop, drop-of-length-le}
 use lib.Seq.{drop-cons, getD-drop}
-use lib.Dec.{T, eqb, ltb, lit<}
+use lib.Dec.{eqb, lit<}
 use borrow.Author.Tests.{eq-eqb, ne-eqb, eqb-true, eqb-false}
 use Rattle.table.specs.declared.Region.{Region}
 use Rattle.table.specs.declared.Need.the-variants.{Optional}
-use Rattle.table.specs.Bytes.{pick, part, num, bits, every}
+use Rattle.table.specs.Bytes.{pick, part, num, every}
 use Rattle.table.specs.declared.Need.{Need}
-use Rattle.table.specs.Layout.{Env, Refs, plain, image, region, Layout, Slots, slotAt, modOf, Keep, low, sel}
-use Rattle.table.specs.FixedLayouts.{layoutOf, header, control, host, hfi, ssns, security, discovery, info, extended, noKind, zeroOr, anyBytes}
+use Rattle.table.specs.Layout.{Env, Refs, plain, image, region, Layout, slotAt}
+use Rattle.table.specs.FixedLayouts.{layoutOf, header, control, host, hfi, ssns, security, discovery, info, extended, noKind, zeroOr}
 use Rattle.table.specs.Objects.{readSlots, readBody, usedIn, under}
 use Rattle.table.specs.Rules.{firstOf, refRule, plainRule, refsRule, reaches, ruled}
 use Rattle.laws.specs.ImageLaws.{image-at}
 use Rattle.laws.specs.Sound.{first-of}
-use Rattle.laws.specs.Fields.{Bytes, imageIn, masked, whole, two-bytes}
+use Rattle.laws.specs.Fields.{Bytes, imageIn, whole, two-bytes}
 use Rattle.laws.specs.ListWalk.{validIn, envIn, flagged, flagged-is}
 use Rattle.frame.specs.Bounds.{ListIn}
 use Rattle.rules.specs.References.{refOf}
 use Rattle.rules.specs.declared.references.Ref.the-variants.{Absent, Wrong, Part}
 use Rattle.rules.specs.Records.{IsHeap}
-use Rattle.rules.proofs.HeapLaws.{object-part, ref-part, ref-wrong}
+use Rattle.rules.proofs.HeapLaws.{object-part}
 use Rattle.reader.specs.Walks.{namesRule, securityIndex, secondaryRule, refsFault, RefsPass}
 
 -- the next record lies in the list

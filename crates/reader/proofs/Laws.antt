@@ -1,28 +1,28 @@
 -- The first fault of several, over a kind's references, over a list, over the stages of the check. Assumes nothing.
 use mathlib.Core.Path.{_≡_, refl, sym, ap, ap₂, _∙_}
-use mathlib.Core.Bool.{Bool, true, false, not, _&&_, _||_}
-use mathlib.Core.List.{List, [], _∷_}
-use Prim.Native.Nat.{ℕ, zero, suc, _+_, _-_, _*_, _/_, _%_, _≤_, _<_}
+use mathlib.Core.Bool.{Bool, true, false}
+use mathlib.Core.List.{List}
+use Prim.Native.Nat.{ℕ, zero, suc, _+_, _-_, _*_, _%_, _≤_, _<_}
 use native.Mathlib.Omega.{arith}
 use native.Mathlib.Nat.{suc-mul, add-assoc}
 use native.Mathlib.Numerals.{add-one}
 use lib.ListN.{length, getD, take, drop, drop-of-length-le, length-take, length-drop}
 use lib.Seq.{drop-cons, getD-take}
-use lib.Dec.{T, eqb, ltb, ltb→lt}
+use lib.Dec.{T, ltb, ltb→lt}
 use mir.Facts.{and-yes}
 use borrow.Author.Tests.{eq-eqb, ne-eqb}
 use Rattle.table.specs.declared.Region.{Region}
 use Rattle.table.specs.declared.Answer.{Answer}
 use Rattle.table.specs.Bytes.{pick, part, num, odd}
-use Rattle.table.specs.Layout.{Layout, Shape, baseOf, env, image, isValid, region, offsets, used, unused}
-use Rattle.table.specs.FixedLayouts.{layoutOf, header, control, host, hfi, ssns, security, discovery, info, extended, noKind, listKinds}
-use Rattle.table.specs.Objects.{readBody, readEntry, readSlots, countIn, usedIn}
-use Rattle.table.specs.Rules.{answer, done, first, firstFail, firstOf, refsRule, usedRule, listRule, bodyRule}
+use Rattle.table.specs.Layout.{baseOf, isValid, region, offsets, used, unused}
+use Rattle.table.specs.FixedLayouts.{layoutOf, header, host, hfi, ssns, security, discovery, listKinds}
+use Rattle.table.specs.Objects.{readBody, readEntry, readSlots}
+use Rattle.table.specs.Rules.{answer, done, first, firstFail, firstOf, refsRule, usedRule, bodyRule}
 use Rattle.table.specs.Meaning.{meaning}
 use Rattle.table.specs.Numbers.{heapIn, tests, driverRule, hostRule, records, check}
 use Rattle.laws.specs.Fields.{imageIn}
-use Rattle.laws.specs.RefWalk.{firstOver, ruleAt, refs-over}
-use Rattle.laws.specs.ListWalk.{validIn, envIn, usedIt, recordRule, record-is, flagOk, flag-is, walk, walk-stop, walk-more, walk-none, kinds-distinct}
+use Rattle.laws.specs.RefWalk.{firstOver, refs-over}
+use Rattle.laws.specs.ListWalk.{validIn, envIn, usedIt, record-is, flagOk, flag-is, walk, walk-stop, walk-more, walk-none, kinds-distinct}
 use Rattle.rules.specs.Records.{IsHeap, rightRule, refFault}
 use Rattle.reader.specs.Walks.{refsFault, namesRule, usedFault, recordFault, counts, listFrom, listFault, numbered, hostFault}
 

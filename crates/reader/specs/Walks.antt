@@ -1,6 +1,6 @@
 -- The rules of indexes, records and lists as the code walks them: of a table t, its heap lent as a part. Definitions only.
 use mathlib.Core.Path.{_≡_}
-use mathlib.Core.Bool.{Bool, _||_}
+use mathlib.Core.Bool.{_||_}
 use mathlib.Core.List.{List}
 use Prim.Native.Nat.{ℕ, _+_, _/_, _%_}
 use lib.ListN.{getD}
@@ -8,7 +8,6 @@ use lib.Dec.{eqb}
 use Rattle.table.specs.declared.Answer.{Answer}
 use Rattle.table.specs.declared.Region.{Region}
 use Rattle.table.specs.Bytes.{pick, part, num, odd, every}
-use Rattle.table.specs.Layout.{Layout}
 use Rattle.table.specs.FixedLayouts.{layoutOf, ssns, listKinds}
 use Rattle.table.specs.Objects.{readSlots, readBody, countIn}
 use Rattle.table.specs.Rules.{answer, done, refsRule}

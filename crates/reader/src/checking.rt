@@ -9,14 +9,14 @@ ghost use lib.ListN.{length};
 ghost use Rattle.table.specs.Bytes.{num, part};
 ghost use Rattle.table.specs.Layout.{region};
 ghost use Rattle.table.specs.FixedLayouts.{host, listKinds};
-ghost use Rattle.table.specs.Objects.{readEntry, readBody};
+ghost use Rattle.table.specs.Objects.{readBody};
 ghost use Rattle.table.specs.Rules.{bodyRule};
 ghost use Rattle.table.specs.Meaning.{meaning};
-ghost use Rattle.table.specs.Numbers.{hostRule, records, check};
+ghost use Rattle.table.specs.Numbers.{records, check};
 ghost use Rattle.laws.specs.ListWalk.{validIn};
 ghost use Rattle.frame.specs.Bounds.{LaidOut};
 ghost use Rattle.rules.specs.Records.{IsHeap};
-ghost use Rattle.reader.specs.Walks.{refsFault, counts, hostFault, numbered};
+ghost use Rattle.reader.specs.Walks.{counts, hostFault, numbered};
 
 // The heap, lent to the readers of records as the part of the table that it is; an empty one has no place.
 fn heap_of(t: &[u8], at: usize, len: usize) -> &[u8]

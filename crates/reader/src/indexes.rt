@@ -1,14 +1,11 @@
 // Indexes: each names a position of a list, whose record must be valid. Only the valid bit is looked at here; the record's own turn finds its other faults.
 ghost use mathlib.Core.Path.{_≡_};
-ghost use mathlib.Core.Bool.{true, false};
 ghost use Prim.Native.Nat.{_+_, _*_, _≤_, _<_};
 ghost use lib.ListN.{length, getD};
 ghost use Rattle.table.specs.Bytes.{num, pick, every};
 ghost use Rattle.table.specs.Layout.{baseOf, region};
-ghost use Rattle.table.specs.FixedLayouts.{layoutOf, ssns, zeroOr};
-ghost use Rattle.table.specs.Rules.{refsRule, firstOf};
-ghost use Rattle.laws.specs.Fields.{imageIn};
-ghost use Rattle.laws.specs.ListWalk.{validIn, envIn, flagged};
+ghost use Rattle.table.specs.FixedLayouts.{layoutOf, zeroOr};
+ghost use Rattle.laws.specs.ListWalk.{validIn, flagged};
 ghost use Rattle.frame.specs.Bounds.{ListIn, LaidOut};
 ghost use Rattle.rules.specs.Records.{IsHeap};
 use rules::Ref;

@@ -1,28 +1,28 @@
 -- References by kind and offset: plain ones by their need, those to heap records by the record's own bytes, which are a part of the heap. Assumes nothing.
-use mathlib.Core.Path.{_≡_, refl, sym, ap, _∙_, subst}
-use mathlib.Core.Bool.{Bool, true, false, not, _&&_, _||_}
+use mathlib.Core.Path.{_≡_, refl, sym, ap, _∙_}
+use mathlib.Core.Bool.{Bool, true, false, not, _&&_}
 use mathlib.Core.List.{List}
 use Prim.Native.Nat.{ℕ, zero, suc, _+_, _-_, _/_, _%_, _≤_, _<_}
 use native.Mathlib.Omega.{arith}
-use lib.ListN.{length, take, drop, length-take, length-drop}
+use lib.ListN.{length, length-take, length-drop}
 use lib.Dec.{T, leb, eqb, leb→le, lit≤}
-use borrow.Author.Tests.{eqb-true, eq-eqb, ne-eqb, le-leb, lt-leb}
+use borrow.Author.Tests.{eq-eqb, ne-eqb, le-leb, lt-leb}
 use mir.Facts.{and-yes, eqb-no}
 use Rattle.table.specs.declared.Region.{Region}
 use Rattle.table.specs.declared.Need.{Need}
-use Rattle.table.specs.declared.Need.the-variants.{Ignored, Optional, Required}
-use Rattle.table.specs.Bytes.{pick, part, num, bits}
-use Rattle.table.specs.Layout.{region, Env, isRight, image, Shape, none, plain}
-use Rattle.table.specs.FixedLayouts.{layoutOf, header, control, host, hfi, ssns, security, discovery, info, extended, noKind, anyBytes, optional}
-use Rattle.table.specs.Rules.{firstOf, reaches, refRule, refsRule, nestRule, isSound}
+use Rattle.table.specs.declared.Need.the-variants.{Optional}
+use Rattle.table.specs.Bytes.{pick, part, num}
+use Rattle.table.specs.Layout.{region, isRight, image, Shape, plain}
+use Rattle.table.specs.FixedLayouts.{layoutOf, header, control, host, hfi, ssns, security, discovery, info, extended}
+use Rattle.table.specs.Rules.{firstOf, reaches, refRule, isSound}
 use Rattle.table.specs.Reads.{needAt}
 use Rattle.laws.specs.Fields.{imageIn, part-part}
 use Rattle.laws.specs.RefWalk.{ruleAt, plain-at, partRule, nest-ref}
 use Rattle.laws.specs.ListWalk.{envIn}
-use Rattle.laws.specs.Refusals.{Free, header-free, host-free, any-free, lists-free}
+use Rattle.laws.specs.Refusals.{any-free}
 use Rattle.rules.specs.declared.references.Ref.the-variants.{Absent, Wrong, Part}
 use Rattle.rules.specs.References.{refOf}
-use Rattle.rules.specs.Records.{IsHeap, spot, whenSet, ssnsNeed, securityNeed, plainNeed, refFault}
+use Rattle.rules.specs.Records.{IsHeap, spot, ssnsNeed, plainNeed, refFault}
 use Rattle.rules.proofs.RecordLaws.{ssns-need}
 
 -- ---- what a reference is

@@ -2,23 +2,19 @@
 use mathlib.Core.Path.{_≡_, refl, sym, ap, ap₂, _∙_}
 use mathlib.Core.Bool.{Bool, true, false, not, _&&_}
 use mathlib.Core.List.{List, [], _∷_}
-use Prim.Native.Nat.{ℕ, zero, suc, _+_, _-_, _*_, _/_, _%_, _^_, _≤_, _<_}
+use Prim.Native.Nat.{ℕ, _+_, _-_, _*_, _/_, _%_}
 use native.Mathlib.Nat.{add-zero}
 use native.Mathlib.Omega.{arith}
 use lib.ListN.{length, getD, drop}
-use lib.Dec.{T, leb, ltb, eqb, leb→le, lit≤}
+use lib.Dec.{T, leb, eqb, leb→le}
 use mir.Facts.{and-yes}
-use Rattle.table.specs.declared.Region.{Region}
-use Rattle.table.specs.declared.Need.{Need}
-use Rattle.table.specs.declared.Need.the-variants.{Ignored, Optional, Required}
-use Rattle.table.specs.Bytes.{pick, part, num, bits, odd, every, same, Edit}
-use Rattle.table.specs.Layout.{Keep, low, image, Shape, Env, fixedRight, pairsRight, isValid, isRight, Layout, baseOf}
+use Rattle.table.specs.Bytes.{pick, part, num, same, Edit}
+use Rattle.table.specs.Layout.{image, Shape, Env, fixedRight, pairsRight, isRight, Layout, baseOf}
 use Rattle.table.specs.FixedLayouts.{host, hfi, ssns, security, discovery, info, extended, layoutOf}
-use Rattle.table.specs.Rules.{firstOf, refRule, isSound}
+use Rattle.table.specs.Rules.{isSound}
 use Rattle.table.specs.Reads.{needAt}
 use Rattle.laws.specs.Fields.{Bytes, imageIn, length-imageIn, masked, whole, one-byte, two-bytes, sameAt, fixed-at}
 use Rattle.laws.specs.ImageLaws.{length-image}
-use Rattle.laws.specs.RefWalk.{partRule}
 use Rattle.laws.specs.ListWalk.{envIn, env-position}
 use Rattle.rules.specs.Records.{spot, rightRule, hostRight, hfiRight, ssnsRight, securityRight, discoveryRight, infoSound, extendedSound, whenSet, ssnsNeed, securityNeed}
 

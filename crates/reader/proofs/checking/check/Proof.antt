@@ -1,7 +1,6 @@
 use Rattle.frame.proofs.Laws.{laid-out}
-use mathlib.Core.Path.{_≡_, refl, sym, ap, _∙_}
+use mathlib.Core.Path.{_∙_}
 use Rattle.reader.proofs.Laws.{answer-stop, answer-more, check-is}
-use Rattle.table.proofs.Rules.{picks}
 use borrow.Author.Needs.{needs}
 use Rattle.reader.proofs.checking.check.Statement.{statement}
 use Rattle.reader.proofs.checking.check.Tie as tie

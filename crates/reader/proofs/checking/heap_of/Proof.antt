@@ -1,6 +1,5 @@
 use native.Mathlib.Nat.{add-sub-cancel-left}
 use native.Mathlib.Omega.{arith}
-use Rattle.table.proofs.Rules.{picks}
 use borrow.Author.Needs.{needs}
 use Rattle.reader.proofs.checking.heap_of.Statement.{statement}
 use Rattle.reader.proofs.checking.heap_of.Tie as tie

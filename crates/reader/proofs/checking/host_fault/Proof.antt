@@ -1,10 +1,9 @@
 use Rattle.table.specs.FixedLayouts.{layoutOf, host}
 use Rattle.table.specs.Layout.{region}
-use lib.ListN.{getD, length, drop}
-use mathlib.Core.Path.{_≡_, refl, sym, ap, _∙_}
+use lib.ListN.{length}
+use mathlib.Core.Path.{_∙_}
 use lib.Dec.{lit≤}
 use Rattle.reader.proofs.Laws.{host-off, host-on}
-use Rattle.table.proofs.Rules.{picks}
 use borrow.Author.Needs.{needs}
 use Rattle.reader.proofs.checking.host_fault.Statement.{statement}
 use Rattle.reader.proofs.checking.host_fault.Tie as tie

@@ -1,11 +1,10 @@
 use Rattle.table.specs.FixedLayouts.{layoutOf, hfi, ssns, security, discovery}
 use native.Mathlib.Omega.{arith}
 use Rattle.table.specs.Layout.{region}
-use lib.ListN.{getD, length, drop}
-use mathlib.Core.Path.{_≡_, refl, sym, ap, _∙_}
+use lib.ListN.{length}
+use mathlib.Core.Path.{_∙_}
 use lib.Dec.{lit≤}
 use Rattle.reader.proofs.Laws.{answer-stop, answer-more, body-is}
-use Rattle.table.proofs.Rules.{picks}
 use borrow.Author.Needs.{needs}
 use Rattle.reader.proofs.checking.lists_fault.Statement.{statement}
 use Rattle.reader.proofs.checking.lists_fault.Tie as tie

@@ -1,13 +1,12 @@
 use Rattle.table.specs.FixedLayouts.{layoutOf, header}
 use Rattle.reader.specs.Walks.{numbered}
-use Prim.Native.Nat.{ℕ, _≤_, _<_, _-_, _+_, _*_}
+use Prim.Native.Nat.{ℕ, _≤_, _-_}
 use native.Mathlib.Omega.{arith}
 use Rattle.table.specs.Layout.{region}
-use lib.ListN.{getD, length, drop}
-use mathlib.Core.Path.{_≡_, refl, sym, ap, _∙_}
+use lib.ListN.{length}
+use mathlib.Core.Path.{ap, _∙_}
 use lib.Dec.{lit≤}
 use Rattle.reader.proofs.Laws.{answer-stop, answer-more, parts-are, heap-at}
-use Rattle.table.proofs.Rules.{picks}
 use borrow.Author.Needs.{needs}
 use Rattle.reader.proofs.checking.parts_fault.Statement.{statement}
 use Rattle.reader.proofs.checking.parts_fault.Tie as tie

@@ -3,7 +3,6 @@ use Prim.Native.Nat.{_+_, _≤_, _<_}
 use lib.ListN.{length}
 use mathlib.Core.Path.{_≡_, ap, _∙_}
 use Rattle.reader.proofs.Laws.{heap-length, is-heap}
-use Rattle.table.proofs.Rules.{picks}
 use borrow.Author.Needs.{needs}
 use Rattle.reader.proofs.checking.records_fault.Statement.{statement}
 use Rattle.reader.proofs.checking.records_fault.Tie as tie

@@ -1,4 +1,3 @@
-use Rattle.table.proofs.Rules.{picks}
 use borrow.Author.Needs.{needs}
 use Rattle.reader.proofs.indexes.index_fault.Statement.{statement}
 use Rattle.reader.proofs.indexes.index_fault.Tie as tie

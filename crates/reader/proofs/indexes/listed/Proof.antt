@@ -1,5 +1,5 @@
 use Rattle.laws.specs.ListWalk.{flagged}
-use Prim.Native.Nat.{ℕ, _≤_, _<_, _-_, _+_, _*_}
+use Prim.Native.Nat.{_<_, _-_}
 use native.Mathlib.Omega.{arith}
 use Rattle.reader.proofs.IndexLaws.{stride}
 use Rattle.table.proofs.Rules.{picks}

@@ -1,10 +1,10 @@
 use Rattle.reader.proofs.IndexLaws.{every-stop, every-more, every-none, fails, holds}
-use Prim.Native.Nat.{ℕ, _≤_, _<_, _-_, _+_, _*_}
+use Prim.Native.Nat.{_≤_, _-_}
 use native.Mathlib.Omega.{arith}
 use Rattle.laws.specs.ListWalk.{validIn}
-use Rattle.table.specs.Bytes.{num, part, pick, every}
+use Rattle.table.specs.Bytes.{pick, every}
 use lib.ListN.{getD, length, drop}
-use mathlib.Core.Path.{_≡_, refl, sym, ap, _∙_}
+use mathlib.Core.Path.{_≡_, refl, sym, _∙_}
 use Rattle.table.proofs.Rules.{picks}
 use Rattle.reader.proofs.indexes.secondaries_fault.Statement.{statement}
 use Rattle.reader.proofs.indexes.secondaries_fault.Tie as tie

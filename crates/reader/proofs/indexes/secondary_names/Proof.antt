@@ -1,16 +1,15 @@
 use Rattle.table.specs.Layout.{region}
-use Prim.Native.Nat.{ℕ, _≤_, _<_, _-_, _+_, _*_}
+use Prim.Native.Nat.{_-_, _+_}
 use native.Mathlib.Omega.{arith}
 use Rattle.laws.specs.ListWalk.{validIn}
 use Rattle.table.specs.Bytes.{num, part, pick, every}
-use lib.ListN.{getD, length, drop}
-use mathlib.Core.Path.{_≡_, refl, sym, ap, _∙_}
+use lib.ListN.{length}
+use mathlib.Core.Path.{_≡_, sym, _∙_}
 use native.Mathlib.Nat.{add-sub-cancel-left}
 use mathlib.Core.Bool.{true}
 use Rattle.table.specs.Rules.{reaches}
 use Rattle.rules.proofs.HeapLaws.{ref-part, reached, Inside}
 use Rattle.reader.proofs.IndexLaws.{secondary-absent, secondary-right, secondary-part}
-use Rattle.table.proofs.Rules.{picks}
 use borrow.Author.Needs.{needs}
 use Rattle.reader.proofs.indexes.secondary_names.Statement.{statement}
 use Rattle.reader.proofs.indexes.secondary_names.Tie as tie

@@ -1,13 +1,12 @@
 use Rattle.table.specs.FixedLayouts.{zeroOr}
-use Prim.Native.Nat.{ℕ, _≤_, _<_, _-_, _+_, _*_}
+use Prim.Native.Nat.{_-_, _+_}
 use native.Mathlib.Omega.{arith}
 use Rattle.laws.specs.ListWalk.{validIn}
-use Rattle.table.specs.Bytes.{num, part, pick, every}
-use lib.ListN.{getD, length, drop}
-use mathlib.Core.Path.{_≡_, refl, sym, ap, _∙_}
+use Rattle.table.specs.Bytes.{pick}
+use lib.ListN.{getD}
+use mathlib.Core.Path.{_≡_, _∙_}
 use Rattle.reader.proofs.Laws.{stop, more}
 use Rattle.reader.proofs.IndexLaws.{ssns-names}
-use Rattle.table.proofs.Rules.{picks}
 use borrow.Author.Needs.{needs}
 use Rattle.reader.proofs.indexes.ssns_names.Statement.{statement}
 use Rattle.reader.proofs.indexes.ssns_names.Tie as tie

@@ -1,5 +1,4 @@
 use native.Mathlib.Omega.{arith}
-use Rattle.table.proofs.Rules.{picks}
 use borrow.Author.Needs.{needs}
 use Rattle.reader.proofs.indexes.valid_in.Statement.{statement}
 use Rattle.reader.proofs.indexes.valid_in.Tie as tie

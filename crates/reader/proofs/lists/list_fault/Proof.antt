@@ -1,5 +1,4 @@
 use Rattle.reader.specs.Walks.{listFault}
-use Rattle.table.proofs.Rules.{picks}
 use borrow.Author.Needs.{needs}
 use Rattle.reader.proofs.lists.list_fault.Statement.{statement}
 use Rattle.reader.proofs.lists.list_fault.Tie as tie

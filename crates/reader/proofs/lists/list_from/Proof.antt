@@ -1,10 +1,10 @@
 use native.Mathlib.Nat.{zero-mul, add-zero, sub-zero}
 use Rattle.reader.specs.Walks.{listFrom}
-use Prim.Native.Nat.{ℕ, _≤_, _<_, _-_, _+_, _*_}
+use Prim.Native.Nat.{_≤_, _-_, _+_, _*_}
 use native.Mathlib.Omega.{arith}
 use Rattle.table.specs.Layout.{region}
-use lib.ListN.{getD, length, drop}
-use mathlib.Core.Path.{_≡_, refl, sym, ap, _∙_}
+use lib.ListN.{length}
+use mathlib.Core.Path.{_≡_, sym, _∙_}
 use Rattle.reader.proofs.IndexLaws.{stride}
 use Rattle.reader.proofs.Laws.{turn-stop, turn-more, turn-none, next-start}
 use Rattle.table.proofs.Rules.{picks}

@@ -2,10 +2,10 @@ use mathlib.Core.Bool.{true}
 use Rattle.table.specs.FixedLayouts.{layoutOf}
 use Rattle.table.specs.Bytes.{odd}
 use Rattle.table.specs.Layout.{region}
-use Prim.Native.Nat.{ℕ, _≤_, _<_, _-_, _+_, _*_}
+use Prim.Native.Nat.{_-_, _+_}
 use native.Mathlib.Omega.{arith}
-use lib.ListN.{getD, length, drop}
-use mathlib.Core.Path.{_≡_, refl, sym, ap, _∙_}
+use lib.ListN.{getD, length}
+use mathlib.Core.Path.{_≡_}
 use Rattle.reader.proofs.Laws.{record-by, flag-within}
 use Rattle.table.proofs.Rules.{picks}
 use borrow.Author.Needs.{needs}

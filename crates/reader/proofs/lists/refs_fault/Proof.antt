@@ -3,10 +3,10 @@ use Rattle.laws.specs.ListWalk.{refs-within}
 use Rattle.laws.specs.RefWalk.{firstOver}
 use Rattle.table.specs.FixedLayouts.{layoutOf}
 use Rattle.table.specs.Layout.{region, offsets}
-use Prim.Native.Nat.{ℕ, _≤_, _<_, _-_, _+_, _*_}
+use Prim.Native.Nat.{_≤_, _<_, _-_}
 use native.Mathlib.Omega.{arith}
-use lib.ListN.{getD, length, drop}
-use mathlib.Core.Path.{_≡_, refl, sym, ap, _∙_}
+use lib.ListN.{length, drop}
+use mathlib.Core.Path.{_≡_, refl, sym, _∙_}
 use Rattle.reader.proofs.Laws.{over-stop, over-more, over-none, lists-at, refs-are}
 use Rattle.table.proofs.Rules.{picks}
 use Rattle.reader.proofs.lists.refs_fault.Statement.{statement}

@@ -1,8 +1,7 @@
 use Rattle.table.specs.Layout.{region}
-use lib.ListN.{getD, length, drop}
-use mathlib.Core.Path.{_≡_, refl, sym, ap, _∙_}
+use lib.ListN.{length}
+use mathlib.Core.Path.{_∙_}
 use Rattle.reader.proofs.Laws.{stop, more, used-is}
-use Rattle.table.proofs.Rules.{picks}
 use borrow.Author.Needs.{needs}
 use Rattle.reader.proofs.lists.used_fault.Statement.{statement}
 use Rattle.reader.proofs.lists.used_fault.Tie as tie

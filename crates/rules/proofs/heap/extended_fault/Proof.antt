@@ -4,10 +4,9 @@ use mathlib.Core.Path.{_≡_}
 use Rattle.rules.proofs.RecordLaws.{extended-sound}
 use Rattle.table.specs.Bytes.{pick}
 use Rattle.rules.proofs.HeapLaws.{part-short, part-stop, part-on}
-use Rattle.table.specs.FixedLayouts.{info, extended}
+use Rattle.table.specs.FixedLayouts.{extended}
 use Rattle.table.specs.Layout.{region, image}
 use native.Mathlib.Omega.{arith}
-use Rattle.table.proofs.Rules.{picks}
 use borrow.Author.Needs.{needs}
 use Rattle.rules.proofs.heap.extended_fault.Statement.{statement}
 use Rattle.rules.proofs.heap.extended_fault.Tie as tie

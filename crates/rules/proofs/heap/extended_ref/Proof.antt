@@ -6,13 +6,12 @@ use Rattle.laws.specs.RefWalk.{partRule}
 use mathlib.Core.Bool.{true}
 use Rattle.table.specs.Rules.{reaches}
 use native.Mathlib.Omega.{arith}
-use Prim.Native.Nat.{_+_, _-_, _≤_}
-use mathlib.Core.Path.{_≡_, sym, ap, _∙_}
+use Prim.Native.Nat.{_+_, _-_}
+use mathlib.Core.Path.{_≡_, sym, _∙_}
 use lib.ListN.{length}
 use Rattle.table.specs.Layout.{region}
 use Rattle.table.specs.Bytes.{num, part}
 use Rattle.rules.proofs.HeapLaws.{extended-off, extended-no, extended-yes, ref-absent, ref-wrong, ref-part, reached, Inside}
-use Rattle.table.proofs.Rules.{picks}
 use borrow.Author.Needs.{needs}
 use Rattle.rules.proofs.heap.extended_ref.Statement.{statement}
 use Rattle.rules.proofs.heap.extended_ref.Tie as tie

@@ -2,7 +2,6 @@ use lib.ListN.{length}
 use Rattle.table.specs.Layout.{region}
 use borrow.Author.Tests.{ne-eqb}
 use Rattle.rules.proofs.HeapLaws.{hfi-other}
-use Rattle.table.proofs.Rules.{picks}
 use borrow.Author.Needs.{needs}
 use Rattle.rules.proofs.heap.hfi_ref.Statement.{statement}
 use Rattle.rules.proofs.heap.hfi_ref.Tie as tie

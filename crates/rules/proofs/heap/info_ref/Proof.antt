@@ -6,13 +6,12 @@ use mathlib.Core.Bool.{true}
 use Rattle.table.specs.Rules.{reaches}
 use native.Mathlib.Omega.{arith}
 use Rattle.rules.proofs.HeapLaws.{ref-part, reached, Inside, info-yes}
-use Prim.Native.Nat.{_+_, _-_, _≤_}
-use mathlib.Core.Path.{_≡_, sym, ap, _∙_}
+use Prim.Native.Nat.{_+_, _-_}
+use mathlib.Core.Path.{_≡_, sym, _∙_}
 use lib.ListN.{length}
 use Rattle.table.specs.Layout.{region}
 use Rattle.table.specs.Bytes.{num, part}
 use Rattle.rules.proofs.HeapLaws.{info-no, ref-absent, ref-wrong}
-use Rattle.table.proofs.Rules.{picks}
 use borrow.Author.Needs.{needs}
 use Rattle.rules.proofs.heap.info_ref.Statement.{statement}
 use Rattle.rules.proofs.heap.info_ref.Tie as tie

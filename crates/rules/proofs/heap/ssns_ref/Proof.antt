@@ -2,7 +2,6 @@ use lib.ListN.{length}
 use Rattle.table.specs.Layout.{region}
 use borrow.Author.Tests.{ne-eqb}
 use Rattle.rules.proofs.HeapLaws.{ssns-plain}
-use Rattle.table.proofs.Rules.{picks}
 use borrow.Author.Needs.{needs}
 use Rattle.rules.proofs.heap.ssns_ref.Statement.{statement}
 use Rattle.rules.proofs.heap.ssns_ref.Tie as tie

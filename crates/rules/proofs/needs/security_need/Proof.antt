@@ -2,7 +2,6 @@ use Rattle.table.specs.FixedLayouts.{security}
 use Rattle.laws.specs.Fields.{imageIn}
 use native.Mathlib.Omega.{arith}
 use Rattle.rules.proofs.RecordLaws.{security-need, security-secret}
-use Rattle.table.proofs.Rules.{picks}
 use borrow.Author.Needs.{needs}
 use Rattle.rules.proofs.needs.security_need.Statement.{statement}
 use Rattle.rules.proofs.needs.security_need.Tie as tie

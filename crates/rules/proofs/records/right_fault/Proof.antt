@@ -1,7 +1,6 @@
 use mathlib.Core.Path.{_≡_}
 use native.Mathlib.Omega.{arith}
 use Rattle.table.specs.FixedLayouts.{layoutOf, host, hfi, ssns, security, discovery}
-use Rattle.table.proofs.Rules.{picks}
 use Rattle.rules.proofs.records.right_fault.Statement.{statement}
 use Rattle.rules.proofs.records.right_fault.Tie as tie
 use Rattle.rules.proofs.records.right_fault.Reads as reads

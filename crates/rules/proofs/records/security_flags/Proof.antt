@@ -1,6 +1,5 @@
 use native.Mathlib.Omega.{arith}
 use Rattle.rules.proofs.RecordLaws.{security-flags}
-use Rattle.table.proofs.Rules.{picks}
 use borrow.Author.Needs.{needs}
 use Rattle.rules.proofs.records.security_flags.Statement.{statement}
 use Rattle.rules.proofs.records.security_flags.Tie as tie

@@ -1,6 +1,5 @@
 use native.Mathlib.Omega.{arith}
 use Rattle.rules.proofs.RecordLaws.{security-right}
-use Rattle.table.proofs.Rules.{picks}
 use borrow.Author.Needs.{needs}
 use Rattle.rules.proofs.records.security_right.Statement.{statement}
 use Rattle.rules.proofs.records.security_right.Tie as tie

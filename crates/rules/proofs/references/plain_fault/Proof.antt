@@ -1,7 +1,6 @@
 use mathlib.Core.Path.{ap, _∙_}
 use Rattle.rules.specs.References.{refNumber}
 use Rattle.rules.proofs.Laws.{ref-rule}
-use Rattle.table.proofs.Rules.{picks}
 use borrow.Author.Needs.{needs}
 use Rattle.rules.proofs.references.plain_fault.Statement.{statement}
 use Rattle.rules.proofs.references.plain_fault.Tie as tie

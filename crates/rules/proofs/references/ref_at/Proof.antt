@@ -1,4 +1,3 @@
-use Rattle.table.proofs.Rules.{picks}
 use borrow.Author.Needs.{needs}
 use Rattle.rules.proofs.references.ref_at.Statement.{statement}
 use Rattle.rules.proofs.references.ref_at.Tie as tie
