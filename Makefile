@@ -10,10 +10,21 @@
 
 CARGO  := cargo
 SECOND := second/target/release/second
-PROGRAM := target/bin/nbft_check
-LINKED := second/linked/target/release/linked
-BENCH  := bench/target/release/bench
 CASES  := crates/agreement/specs
+
+# The library and the programs are x86-64 code. On another processor what links them is compiled for x86-64 too, by the compiler that
+# .ci/emulator installs, and an emulator runs it.
+X86 := x86_64-unknown-linux-gnu
+ifeq ($(shell uname -m),x86_64)
+RUN     :=
+LINKING := $(CARGO)
+else
+RUN     := qemu-x86_64
+LINKING := PATH=/usr/bin:$$PATH CARGO_TARGET_X86_64_UNKNOWN_LINUX_GNU_LINKER=x86_64-linux-gnu-gcc cargo
+endif
+PROGRAM := $(RUN) target/bin/nbft_check
+LINKED  := $(RUN) second/linked/target/$(X86)/release/linked
+BENCH   := bench/target/$(X86)/release/bench
 
 .PHONY: run test library soak bench vectors clean second linked
 
@@ -41,7 +52,8 @@ soak: linked
 	$(LINKED) guard 200000 2027
 
 bench: linked
-	@cd bench && $(CARGO) build --offline --quiet --release
+	@[ -z "$(RUN)" ] || { echo "make bench: times under an emulator say nothing; run it on x86-64" >&2; exit 1; }
+	@cd bench && $(LINKING) build --target $(X86) --offline --quiet --release
 	$(BENCH)
 
 vectors: second
@@ -53,7 +65,7 @@ second:
 	@cd second && $(CARGO) build --offline --quiet --release
 
 linked: library
-	@cd second/linked && $(CARGO) build --offline --quiet --release
+	@cd second/linked && $(LINKING) build --target $(X86) --offline --quiet --release
 
 clean:
 	rm -rf target build second/target second/linked/target bench/target
