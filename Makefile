@@ -41,6 +41,7 @@ test: second linked
 	$(SECOND) samples check samples
 	$(SECOND) cases check $(CASES)
 	$(LINKED) compare 40000 1
+	$(LINKED) reads 400 2
 	rt fmt --check
 	rt ci
 
@@ -49,6 +50,7 @@ library:
 
 soak: linked
 	$(LINKED) compare 1000000 2026
+	$(LINKED) reads 10000 2028
 	$(LINKED) guard 200000 2027
 
 bench: linked

@@ -76,13 +76,22 @@ fn row(name: &str, table: &[u8]) -> Row {
     row
 }
 
+/// A field of the last discovery record: checked, and what the read itself takes.
+fn reads(table: &[u8], check: f64) {
+    let library = nanoseconds(|| linked::field(black_box(table), 6, 1, 3));
+    let second = nanoseconds(|| second::field(black_box(table), 6, 1, 3));
+    assert_eq!(linked::field(table, 6, 1, 3), second::field(table, 6, 1, 3));
+    println!("field read, typical: library {library:.0} ns, of which the check {check:.0}; second {second:.0} ns");
+}
+
 fn main() {
     println!("{:<41} library    second  byte sum   to second, to sum", "ns per check");
     row("K1", &samples::smallest());
-    row("typical", &grown(1));
+    let typical = row("typical", &grown(1));
     row("60 kB, few records", &long_heap());
     let half = row("30 kB, many records", &grown(28));
     let large = row("60 kB, many records", &grown(56));
+    reads(&grown(1), typical.library);
     println!("twice the table takes {:.2} times the time", large.library / half.library);
     println!("a check takes {} bytes of stack", stack::depth(&grown(56)));
     println!("targets: 60 kB at most 1.2 to second and 1.5 to sum; typical at most 1.5 to second; twice at most 2.2");

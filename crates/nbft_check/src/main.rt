@@ -1,11 +1,12 @@
 // `nbft_check FILE`: whether the file holds a good table, and if not, its first fault. One line of
 // numbers for programs, one of words for people. What hinders the check goes to standard error.
-mod numbers; // the first line
-mod words; // the second line
+mod lines; // what it says of a table
 
 use libc::STDERR_FILENO;
 use libc::STDOUT_FILENO;
 use table::Answer;
+use text::Text;
+ghost use Rattle.io.specs.Counts.{Counts};
 
 // A table has at most 65,536 bytes, and a file may go on behind its table.
 const MOST: usize = 70000;
@@ -33,12 +34,17 @@ fn ends_here(fd: i32, path: &[u8]) -> bool {
     true
 }
 
-fn print_answer(a: Answer) {
-    let line = numbers::answer_line(a);
-    let len = line.len;
-    let bytes = line.bytes;
+fn print_text(t: Text)
+    requires { ⌜ Counts (t .len) (t .bytes) ⌝ }
+{
+    let len = t.len;
+    let bytes = t.bytes;
     io::write_all(STDOUT_FILENO, &bytes[..len]);
-    words::print_fault(a.number, a.kind, a.position as u64);
+}
+
+fn print_answer(a: Answer) {
+    print_text(lines::answer_line(a));
+    print_text(lines::answer_words(a));
 }
 
 // Nothing is printed before the whole file is read, so a file at fault leaves no half answer.

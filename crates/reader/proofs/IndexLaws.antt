@@ -97,6 +97,15 @@ security-on t a b z =
     let e = ne-eqb (num (imageIn ssns t a) 3 2 / 4 % 2) 0 z in
     rw (e, index-on t a b e)
 
+-- its only number
+pub security-thirteen : (t : List ℕ) (a : ℕ) → (securityIndex t a ≡ 0 → ⊥) → securityIndex t a ≡ 13
+unfolding securityIndex
+security-thirteen t a z = go (eqb (num (imageIn ssns t a) 3 2 / 4 % 2) 0 || validIn t 5 (getD (imageIn ssns t a) 45 0)) z
+  where
+    go : (c : Bool) → (_≡_ {A = ℕ} (pick c 0 13) 0 → ⊥) → _≡_ {A = ℕ} (pick c 0 13) 13
+    go true w = absurd (w refl)
+    go false w = refl
+
 -- ---- the secondary list
 
 slot-48 : (t : List ℕ) (a : ℕ) (img : List ℕ) → slotAt 48 (readSlots t a img (ssns .refs)) ≡ part t (num t (a + 48) 4) (num t (a + 48 + 4) 2)

@@ -66,7 +66,7 @@ unfolding usedFault usedIt usedRule rightRule refsFault namesRule
 used-is k heap t a pos = refl
 
 -- the kinds whose valid bit stands in their flags: one computed test
-flags-stand : (k : ℕ) → 2 ≤ k → k ≤ 6 → T (flagOk (layoutOf k))
+pub flags-stand : (k : ℕ) → 2 ≤ k → k ≤ 6 → T (flagOk (layoutOf k))
 unfolding layoutOf host hfi ssns security discovery
 flags-stand zero x y = absurd (omega arith)
 flags-stand (suc zero) x y = absurd (omega arith)

@@ -1,7 +1,7 @@
 -- Numbers byte by byte, and sums. Assumes nothing.
 use mathlib.Core.Path.{_≡_, ap}
 use mathlib.Core.List.{List}
-use Prim.Native.Nat.{ℕ, _+_, _*_, _≤_, _<_}
+use Prim.Native.Nat.{ℕ, _+_, _*_, _%_, _≤_, _<_}
 use native.Mathlib.Omega.{arith}
 use native.Mathlib.Numerals.{add-one}
 use lib.ListN.{length, getD, drop, drop-of-length-le}
@@ -23,3 +23,10 @@ sum-step t i h = rw (add-one, drop-cons t i 0)
 
 pub sum-done : (t : List ℕ) (i : ℕ) → length t ≤ i → total (drop i t) ≡ 0
 sum-done t i h = ap total (drop-of-length-le t h)
+
+pub sum-same : (t : List ℕ) (i j : ℕ) → i ≡ j → total (drop i t) ≡ total (drop j t)
+sum-same t i j e = ap (λ (n : ℕ). total (drop n t)) e
+
+-- a first sum leaves out `x` of `z`, and a second one `y` of `x`: together they leave out `y`
+pub sum-both : (a b x y z : ℕ) → (a + x) % 256 ≡ z % 256 → (b + y) % 256 ≡ x % 256 → (a + b + y) % 256 ≡ z % 256
+sum-both a b x y z e f = omega (arith, e, f)

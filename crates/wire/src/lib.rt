@@ -26,15 +26,24 @@ pub fn u32_at(t: &[u8], at: usize) -> usize
     u16_at(t, at) + 65536 * u16_at(t, at + 2)
 }
 
-// The sum of all bytes modulo 256, which a u8 that wraps keeps by itself.
+// The sum of all bytes modulo 256, which a u8 that wraps keeps by itself. The halves are summed side by side, so
+// that a turn of the compiled loop takes in 64 bytes and not 32.
 pub fn sum8(t: &[u8]) -> u8
     ensures { λ r. ⌜ r ≡ total (now (t .entry)) % 256 ⌝ }
 {
-    let mut sum: u8 = 0;
+    let n = t.len();
+    let h = n / 2;
+    let mut a: u8 = 0;
+    let mut b: u8 = 0;
     let mut i: usize = 0;
-    while i < t.len() {
-        sum = std::num::wrapping_add_u8(sum, t[i]);
+    while i < h {
+        a = std::num::wrapping_add_u8(a, t[i]);
+        b = std::num::wrapping_add_u8(b, t[h + i]);
         i += 1;
+    }
+    let sum = std::num::wrapping_add_u8(a, b);
+    if h < n - h {
+        return std::num::wrapping_add_u8(sum, t[h + h]);
     }
     sum
 }

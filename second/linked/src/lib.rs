@@ -1,18 +1,59 @@
 //! The static library's functions, for Rust.
 
 pub mod guard;
+pub mod reads;
 pub mod tables;
 
-use second::Answer;
+use second::{Answer, Field};
+use std::ops::Range;
+use std::ptr::{null, NonNull};
 
 extern "C" {
     fn nbft_check(table: *const u8, length: usize) -> u32;
+    fn nbft_field(table: *const u8, length: usize, kind: u8, position: u16, offset: u32, value: *mut [u8; 16]) -> u64;
+    fn nbft_object(table: *const u8, length: usize, kind: u8, position: u16, offset: u32) -> u64;
+    fn nbft_object_start(table: *const u8, length: usize, kind: u8, position: u16, offset: u32) -> u32;
 }
 
 /// What the static library answers to these bytes.
 pub fn check(lent: &[u8]) -> Answer {
     // SAFETY: the pointer and the length are a slice's; the function only reads.
     unpack(unsafe { nbft_check(lent.as_ptr(), lent.len()) })
+}
+
+/// What it answers to no bytes, lent where nothing can be read: at null, and at a place that dangles.
+pub fn check_nothing() -> [Answer; 2] {
+    let dangling: *const u8 = NonNull::dangling().as_ptr();
+    // SAFETY: no byte is lent, so the function reads none.
+    [null(), dangling].map(|place| unpack(unsafe { nbft_check(place, 0) }))
+}
+
+/// Stands in a field's 16 bytes before they are read; a refused read leaves it.
+pub const UNTOUCHED: [u8; 16] = [0xA5; 16];
+
+/// What it answers to a read of a field, with what it then left in the 16 bytes.
+pub fn field(lent: &[u8], kind: u8, position: u16, offset: u32) -> Field {
+    let mut bytes = UNTOUCHED;
+    // SAFETY: as above; the function writes 16 bytes at most.
+    let packed = unsafe { nbft_field(lent.as_ptr(), lent.len(), kind, position, offset, &mut bytes) };
+    Field {
+        answer: unpack(packed as u32),
+        used: packed >> 32 & 0xFF == 1,
+        length: (packed >> 40) as usize,
+        bytes,
+    }
+}
+
+/// What it answers to a read of an object, and where that stands in the lent bytes.
+pub fn object(lent: &[u8], kind: u8, position: u16, offset: u32) -> (Answer, Range<usize>) {
+    // SAFETY: as above; the functions only read.
+    let (packed, start) = unsafe {
+        (
+            nbft_object(lent.as_ptr(), lent.len(), kind, position, offset),
+            nbft_object_start(lent.as_ptr(), lent.len(), kind, position, offset) as usize,
+        )
+    };
+    (unpack(packed as u32), start..start + (packed >> 32) as usize)
 }
 
 /// Bits 0 to 7 number, 8 to 15 kind, 16 to 31 position.

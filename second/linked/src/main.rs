@@ -1,7 +1,8 @@
 //! Compares the static library with the second program.
 
 use linked::guard::Guarded;
-use linked::tables;
+use linked::{reads, tables};
+use second::answer::number::TOO_FEW_BYTES;
 use second::random::Random;
 use second::{samples, Answer};
 use std::collections::BTreeMap;
@@ -11,7 +12,8 @@ const HELP: &str = "\
 linked: compares the static library's answers with the second program's
 
   linked compare COUNT SEED    COUNT generated tables; the same SEED gives the same ones
-  linked guard COUNT SEED      the same, each lent between pages that nothing may touch
+  linked reads COUNT SEED      every kind, position and offset of COUNT generated tables
+  linked guard COUNT SEED      checks and, of one table in a hundred, reads, lent between pages that nothing may touch
 ";
 
 fn main() -> ExitCode {
@@ -34,26 +36,39 @@ fn run(words: &[&str]) -> Result<String, String> {
         ["compare", count, seed] => compare(number(count)?, number(seed)?, |table| {
             linked::check(table)
         }),
-        ["guard", count, seed] => {
-            let mut pages = Guarded::new(1 << 20);
-            compare(number(count)?, number(seed)?, |table| {
-                let answer = linked::check(pages.ending(table));
-                let again = linked::check(pages.starting(table));
-                assert_eq!(answer, again, "the answer depends on the place");
-                answer
-            })
-        }
+        ["reads", count, seed] => compare_reads(number(count)?, number(seed)?, |table| {
+            reads::compare(table, table)
+        }),
+        ["guard", count, seed] => guarded(number(count)?, number(seed)?),
         _ => Err(HELP.to_string()),
     }
+}
+
+/// Checks, and reads of fewer tables, lent between pages that nothing may touch.
+fn guarded(count: u64, seed: u64) -> Result<String, String> {
+    let mut pages = Guarded::new(1 << 20);
+    let checks = compare(count, seed, |table| {
+        let answer = linked::check(pages.ending(table));
+        let again = linked::check(pages.starting(table));
+        assert_eq!(answer, again, "the answer depends on the place");
+        answer
+    })?;
+    let reads = compare_reads(count / 100, seed, |table| {
+        Ok(reads::compare(table, pages.ending(table))? + reads::compare(table, pages.starting(table))?)
+    })?;
+    Ok(format!("{checks}\n{reads}"))
 }
 
 fn number(word: &str) -> Result<u64, String> {
     word.parse().map_err(|_| format!("{word}: not a number\n\n{HELP}"))
 }
 
-/// The known samples first, then generated tables.
+/// No bytes first, then the known samples, then generated tables.
 fn compare(count: u64, seed: u64, mut check: impl FnMut(&[u8]) -> Answer) -> Result<String, String> {
     let mut met: BTreeMap<u8, u64> = BTreeMap::new();
+    for answer in linked::check_nothing() {
+        same(&[], Answer::plain(TOO_FEW_BYTES), answer)?;
+    }
     for sample in samples::known() {
         same(&sample.table, sample.answer, check(&sample.table))?;
     }
@@ -68,10 +83,24 @@ fn compare(count: u64, seed: u64, mut check: impl FnMut(&[u8]) -> Answer) -> Res
     Ok(format!("{count} tables agree (seed {seed}); by number {}", met.join(", ")))
 }
 
+/// Good tables in many layouts, and one in four of any sort.
+fn compare_reads(count: u64, seed: u64, mut read: impl FnMut(&[u8]) -> Result<u64, String>) -> Result<String, String> {
+    let mut random = Random::seeded(seed);
+    let mut agreed = 0;
+    for _ in 0..count {
+        let table = if random.one_in(4) { tables::next(&mut random) } else { tables::good(&mut random) };
+        agreed += read(&table).map_err(|difference| format!("{difference}, on\n{}", hex(&table)))?;
+    }
+    Ok(format!("{agreed} reads of {count} tables agree (seed {seed})"))
+}
+
 fn same(table: &[u8], expected: Answer, answer: Answer) -> Result<(), String> {
     if answer == expected {
         return Ok(());
     }
-    let hex: String = table.iter().map(|byte| format!("{byte:02X}")).collect();
-    Err(format!("the library answers {answer:?}, the second program {expected:?}, on\n{hex}"))
+    Err(format!("the library answers {answer:?}, the second program {expected:?}, on\n{}", hex(table)))
+}
+
+fn hex(table: &[u8]) -> String {
+    table.iter().map(|byte| format!("{byte:02X}")).collect()
 }

@@ -22,7 +22,8 @@ pub fn next(random: &mut Random) -> Vec<u8> {
     }
 }
 
-fn good(random: &mut Random) -> Vec<u8> {
+/// A good table in some layout.
+pub fn good(random: &mut Random) -> Vec<u8> {
     let meaning = random_meaning(random);
     let style = *random.pick(&[Style::SEPARATE, Style::SHARED, Style::WILD]);
     lay_out_freely(random, &meaning, style)

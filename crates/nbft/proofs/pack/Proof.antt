@@ -1,4 +1,5 @@
 use Rattle.nbft.specs.Packed.{packed}
+use native.Mathlib.Omega.{arith}
 use borrow.Author.Needs.{needs}
 use Rattle.nbft.proofs.pack.Statement.{statement}
 use Rattle.nbft.proofs.pack.Tie as tie
@@ -29,7 +30,7 @@ cast-result c = search needs
 
 returns : tie.Need-returns
 unfolding packed
-returns c = rw (c .before .before .wide .ensures .0, c .before .wide2 .ensures .0)
+returns c = omega arith
 
 pub pack-spec : {M : Type 1} → statement M
 pack-spec =

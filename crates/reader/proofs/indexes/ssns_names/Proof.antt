@@ -6,7 +6,7 @@ use Rattle.table.specs.Bytes.{pick}
 use lib.ListN.{getD}
 use mathlib.Core.Path.{_≡_, _∙_}
 use Rattle.reader.proofs.Laws.{stop, more}
-use Rattle.reader.proofs.IndexLaws.{ssns-names}
+use Rattle.reader.proofs.IndexLaws.{security-thirteen, ssns-names}
 use borrow.Author.Needs.{needs}
 use Rattle.reader.proofs.indexes.ssns_names.Statement.{statement}
 use Rattle.reader.proofs.indexes.ssns_names.Tie as tie
@@ -46,7 +46,7 @@ security-index-requires : tie.Need-security-index-requires
 security-index-requires c κs = search needs
 
 returns-2 : tie.Need-returns-2
-returns-2 c = more (discovered (c .before .before .before)) (c .before .before .if1 .left) (stop _ (c .before .security-index .ensures) (c .if2 .taken)) ∙ ssns-names (c .before .before .before .before .before .before .before .before .args .t .now) (c .before .before .before .before .before .before .before .before .args .a) (λ i. omega (arith, c .before .before .before .before .before .before .before .shared-slice-known .given i))
+returns-2 c = let e = c .before .security-index .ensures in let a = c .before .before .before .before .before .before .before .before .args in cc (e, security-thirteen (a .t .now) (a .a) (λ w. c .if2 .taken (e ∙ w)), more (discovered (c .before .before .before)) (c .before .before .if1 .left) (stop _ e (c .if2 .taken)) ∙ ssns-names (a .t .now) (a .a) (λ i. omega (arith, c .before .before .before .before .before .before .before .shared-slice-known .given i)))
 
 add-wide-2 : tie.Need-add-wide-2
 add-wide-2 c = search needs

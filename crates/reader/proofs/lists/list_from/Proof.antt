@@ -1,5 +1,5 @@
-use native.Mathlib.Nat.{zero-mul, add-zero, sub-zero}
-use Rattle.reader.specs.Walks.{listFrom}
+use native.Mathlib.Nat.{zero-mul, add-comm, add-zero, sub-zero}
+use Rattle.reader.specs.Walks.{listFrom, recordFault}
 use Prim.Native.Nat.{_≤_, _-_, _+_, _*_}
 use native.Mathlib.Omega.{arith}
 use Rattle.table.specs.Layout.{region}
@@ -31,6 +31,11 @@ add-record-fault c = search picks
 record-fault-requires : tie.Need-record-fault-requires Inv-loop μ-loop
 record-fault-requires c κs = let s = c .before .before .before .before in let a = s .args in let l = c .loop-test .taken in let i = c .before .loop .i in let q = stride i (a .count) (a .step) l in let w = s .pre .1 .0 (omega arith) in let b = s .pre .1 .1 (omega arith) in let e = c .before .loop .inv .1 in (s .pre .0 .0, s .pre .0 .1, s .pre .0 .2, omega arith, s .pre .0 .3)
 
+-- what a turn found, at the position however it is written
+found : (c : tie.After-record-fault Inv-loop μ-loop) → let a = c .before .before .before .before .before .args in
+    c .record-fault .result ≡ recordFault (a .kind) (region (a .from) (length (a .heap .now))) (a .t .now) (c .before .before .loop .base) (c .before .before .loop .i + 1)
+found c = cc (add-comm 1 (c .before .before .loop .i))
+
 add-refuse : tie.Need-add-refuse Inv-loop μ-loop
 add-refuse c = search picks
 
@@ -38,7 +43,7 @@ refuse-requires : tie.Need-refuse-requires Inv-loop μ-loop
 refuse-requires c κs = search picks
 
 returns : tie.Need-returns Inv-loop μ-loop
-returns c = c .refuse .ensures ∙ sym (sym (c .before .before .before .before .loop .inv .2) ∙ turn-stop (c .before .before .before .before .before .before .before .args .kind) (region (c .before .before .before .before .before .before .before .args .from) (length (c .before .before .before .before .before .before .before .args .heap .now))) (c .before .before .before .before .before .before .before .args .t .now) (c .before .before .before .before .before .before .before .args .step) (c .before .before .before .before .loop .base) (c .before .before .before .before .loop .i) (c .before .before .before .before .before .before .before .args .count) (c .before .before .before .before .before .before .before .pre .0 .1) (c .before .before .before .before .before .before .before .pre .0 .2) (c .before .before .before .loop-test .taken) (c .before .before .record-fault .ensures) (c .before .if1 .taken))
+returns c = let f = c .before .before in let l = f .before .before in let s = l .before .before .before in let a = s .args in cc (l .loop .inv .2, turn-stop (a .kind) (region (a .from) (length (a .heap .now))) (a .t .now) (a .step) (l .loop .base) (l .loop .i) (a .count) (s .pre .0 .1) (s .pre .0 .2) (f .before .loop-test .taken) (found f) (c .before .if1 .taken))
 
 add-base : tie.Need-add-base Inv-loop μ-loop
 add-base c = let s = c .before .before .before .before .before .before in let a = s .args in let l = c .before .before .loop-test .taken in let i = c .before .before .before .loop .i in let q = stride i (a .count) (a .step) l in let w = s .pre .1 .0 (omega arith) in let e = c .before .before .before .loop .inv .1 in omega arith
@@ -50,7 +55,7 @@ loop-less : tie.Need-loop-less Inv-loop μ-loop
 loop-less c = search picks
 
 loop-again : tie.Need-loop-again Inv-loop μ-loop
-loop-again c = let a = c .before .before .before .before .before .before .args in (search picks, rw (c .before .before .before .loop .inv .1) (next-start (a .at) (c .before .before .before .loop .i) (a .step)), turn-more (c .before .before .before .before .before .before .args .kind) (region (c .before .before .before .before .before .before .args .from) (length (c .before .before .before .before .before .before .args .heap .now))) (c .before .before .before .before .before .before .args .t .now) (c .before .before .before .before .before .before .args .step) (c .before .before .before .loop .base) (c .before .before .before .loop .i) (c .before .before .before .before .before .before .args .count) (c .before .before .loop-test .taken) (c .before .record-fault .ensures) (c .if1 .left) ∙ c .before .before .before .loop .inv .2)
+loop-again c = let f = c .before in let l = f .before .before in let s = l .before .before .before in let a = s .args in (search picks, omega (arith, next-start (a .at) (l .loop .i) (a .step)), cc (l .loop .inv .2, turn-more (a .kind) (region (a .from) (length (a .heap .now))) (a .t .now) (a .step) (l .loop .base) (l .loop .i) (a .count) (f .before .loop-test .taken) (found f) (c .if1 .left)))
 
 done-requires : tie.Need-done-requires Inv-loop μ-loop
 done-requires c κs = search picks

@@ -1,0 +1,185 @@
+-- The masks are those of the layouts, and masked bytes are an image's. Assumes nothing.
+use mathlib.Core.Path.{_≡_, refl, sym, ap, ap₂, subst, _∙_}
+use mathlib.Core.Bool.{Bool, true, false, not, _&&_}
+use mathlib.Core.List.{List, [], _∷_, _++_}
+use Prim.Native.Nat.{ℕ, zero, suc, _+_, _-_, _*_, _/_, _%_, _^_, _≤_, _<_}
+use native.Mathlib.Nat.{not-suc-le-zero}
+use native.Mathlib.Numerals.{add-one}
+use native.Mathlib.Omega.{arith}
+use lib.Bits.{bitAnd, and-mask}
+use lib.Dec.{T, eqb, ltb, eqb→eq, ltb→lt}
+use lib.ListN.{length, getD, take, drop, replicate, set, length-take, length-drop}
+use lib.Seq.{take-suc, drop-cons, append-snoc, set-at, length-take-le, take-length, getD-drop, getD-take}
+use mir.Facts.{and-yes}
+use borrow.Author.Tests.{eqb-true, eqb-false}
+use Rattle.table.specs.Bytes.{pick, part, padded}
+use Rattle.table.specs.Layout.{Keep, low, sel, modOf, baseOf, Layout}
+use Rattle.table.specs.FixedLayouts.{layoutOf, header, control, host, hfi, ssns, security, discovery, info, extended, noKind}
+use Rattle.laws.specs.Lawful.{allKeep}
+use Rattle.laws.specs.ImageLaws.{all-at, image-at}
+use Rattle.laws.specs.Fields.{imageIn}
+use Rattle.images.specs.Masks.{maskOf, masksOf, switchOf, switched, onIn, grid, rowOf, over}
+
+-- ---- a law over the kind numbers
+
+at-kind : (P : ℕ → Type 0) (k j : ℕ) → P j → (eqb k j ≡ false → P k) → P k
+at-kind P k j p f = go (eqb k j) refl where
+  go : (c : Bool) → eqb k j ≡ c → P k
+  go true e = subst P (sym (eqb-true k j e)) p
+  go false e = f e
+
+-- none of the kinds
+pub record Other (k : ℕ) : Type 0 where
+  pub not0 : eqb k 0 ≡ false
+  pub not1 : eqb k 1 ≡ false
+  pub not2 : eqb k 2 ≡ false
+  pub not3 : eqb k 3 ≡ false
+  pub not4 : eqb k 4 ≡ false
+  pub not5 : eqb k 5 ≡ false
+  pub not6 : eqb k 6 ≡ false
+  pub not7 : eqb k 7 ≡ false
+  pub not9 : eqb k 9 ≡ false
+
+pub other-layout : (k : ℕ) → Other k → layoutOf k ≡ noKind
+unfolding layoutOf
+other-layout k o = rw (o .not0, o .not1, o .not2, o .not3, o .not4, o .not5, o .not6, o .not7, o .not9) refl
+
+pub by-kind : (P : ℕ → Type 0) → P 0 → P 1 → P 2 → P 3 → P 4 → P 5 → P 6 → P 7 → P 9 → ((k : ℕ) → Other k → P k) → (k : ℕ) → P k
+by-kind P p0 p1 p2 p3 p4 p5 p6 p7 p9 p k =
+    at-kind P k 0 p0
+    λ n0. at-kind P k 1 p1
+    λ n1. at-kind P k 2 p2
+    λ n2. at-kind P k 3 p3
+    λ n3. at-kind P k 4 p4
+    λ n4. at-kind P k 5 p5
+    λ n5. at-kind P k 6 p6
+    λ n6. at-kind P k 7 p7
+    λ n7. at-kind P k 9 p9
+    λ n9. p k (record { not0 = n0; not1 = n1; not2 = n2; not3 = n3; not4 = n4; not5 = n5; not6 = n6; not7 = n7; not9 = n9 })
+
+-- ---- the masks that the code looks up
+
+abbrev maskIn : ℕ → Bool → ℕ → ℕ
+maskIn k more i = getD (getD grid (rowOf k more + i / 8) []) (i % 8) 0
+
+abbrev lookedUp : ℕ → Bool → ℕ → Bool
+lookedUp k more i = ltb (rowOf k more + i / 8) 111 && eqb (maskIn k more i) (getD (masksOf more (layoutOf k .shape .keep)) i 0)
+
+abbrev allBelow : (ℕ → Bool) → ℕ → Bool
+allBelow f zero = true
+allBelow f (suc n) = f n && allBelow f n
+
+all-below : (f : ℕ → Bool) (n : ℕ) → T (allBelow f n) → (i : ℕ) → i < n → T (f i)
+all-below f zero t i h = absurd (not-suc-le-zero h)
+all-below f (suc n) t i h = go (eqb i n) refl (λ l. all-below f n (and-yes (f n) (allBelow f n) t .1) i l) where
+  go : (c : Bool) → eqb i n ≡ c → (i < n → T (f i)) → T (f i)
+  go true e r = subst (λ (j : ℕ). T (f j)) (sym (eqb-true i n e)) (and-yes (f n) (allBelow f n) t .0)
+  go false e r = r (omega (arith, eqb-false i n e))
+
+masks-none : (more : Bool) (k : ℕ) → layoutOf k ≡ noKind → T (allBelow (lookedUp k more) (baseOf (layoutOf k)))
+unfolding noKind
+masks-none more k e = subst (λ (l : Layout). T (allBelow (lookedUp k more) (baseOf l))) (sym e) tt
+
+masks-right : (more : Bool) (k : ℕ) → T (allBelow (lookedUp k more) (baseOf (layoutOf k)))
+unfolding grid rowOf layoutOf header control host hfi ssns security discovery info extended
+masks-right false = by-kind (λ k. T (allBelow (lookedUp k false) (baseOf (layoutOf k)))) tt tt tt tt tt tt tt tt tt (λ k o. masks-none false k (other-layout k o))
+masks-right true = by-kind (λ k. T (allBelow (lookedUp k true) (baseOf (layoutOf k)))) tt tt tt tt tt tt tt tt tt (λ k o. masks-none true k (other-layout k o))
+
+pub row-fits : (k : ℕ) (more : Bool) (i : ℕ) → i < baseOf (layoutOf k) → rowOf k more + i / 8 < 111
+row-fits k more i h =
+    ltb→lt (rowOf k more + i / 8) 111 (and-yes (ltb (rowOf k more + i / 8) 111) _ (all-below (lookedUp k more) (baseOf (layoutOf k)) (masks-right more k) i h) .0)
+
+mask-is : (k : ℕ) (more : Bool) (i : ℕ) → i < baseOf (layoutOf k) → maskIn k more i ≡ getD (masksOf more (layoutOf k .shape .keep)) i 0
+mask-is k more i h =
+    eqb→eq _ _ (and-yes (ltb (rowOf k more + i / 8) 111) _ (all-below (lookedUp k more) (baseOf (layoutOf k)) (masks-right more k) i h) .1)
+
+-- ---- a masked byte is an image's
+
+abbrev exponent : ℕ → ℕ
+exponent n =
+    pick (eqb n 256) 8 (pick (eqb n 32) 5 (pick (eqb n 16) 4 (pick (eqb n 8) 3 (pick (eqb n 4) 2 (pick (eqb n 2) 1 0)))))
+
+abbrev isPower : ℕ → Bool
+isPower n = eqb (2 ^ exponent n) n
+
+-- what counts under a flag counts under the one that the code looks at
+abbrev maskable : ℕ → Keep → Bool
+maskable k (low n) = isPower n
+maskable k (sel f d m₀ m₁) = switched k && (eqb f (switchOf k) && (eqb d 4 && (isPower m₀ && isPower m₁)))
+
+maskables-none : (k : ℕ) → layoutOf k ≡ noKind → T (allKeep (maskable k) (layoutOf k .shape .keep))
+unfolding noKind
+maskables-none k e = subst (λ (l : Layout). T (allKeep (maskable k) (l .shape .keep))) (sym e) tt
+
+maskables : (k : ℕ) → T (allKeep (maskable k) (layoutOf k .shape .keep))
+unfolding layoutOf header control host hfi ssns security discovery info extended
+maskables = by-kind (λ k. T (allKeep (maskable k) (layoutOf k .shape .keep))) tt tt tt tt tt tt tt tt tt (λ k o. maskables-none k (other-layout k o))
+
+and-power : (b n : ℕ) → T (isPower n) → bitAnd b (n - 1) ≡ b % n
+and-power b n t = subst (λ (m : ℕ). bitAnd b (m - 1) ≡ b % m) (eqb→eq (2 ^ exponent n) n t) (and-mask b (exponent n))
+
+mask-at : (more : Bool) (ks : List Keep) (i : ℕ) → getD (masksOf more ks) i 0 ≡ maskOf more (getD ks i (low 1))
+mask-at more [] i = refl
+mask-at more (k ∷ ks) zero = refl
+mask-at more (k ∷ ks) (suc i) = mask-at more ks i
+
+T-true : (c : Bool) → T c → c ≡ true
+T-true true t = refl
+T-true false t = absurd t
+
+-- the flag that the code looks at is the layout's
+more-is : (k : ℕ) (t : List ℕ) (a f d : ℕ) → T (switched k) → f ≡ switchOf k → d ≡ 4 → onIn k t a ≡ not (eqb (getD (drop a t) f 0 % (2 * d) / d) 0)
+unfolding onIn
+more-is k t a f d s e g =
+    rw (e, g, getD-drop a t (switchOf k) 0)
+    (ap (λ (c : Bool). pick c (not (eqb (getD t (a + switchOf k) 0 % 8 / 4) 0)) false) (T-true (switched k) s))
+
+masked-by : (k : ℕ) (t : List ℕ) (a b : ℕ) (p : Keep) → T (maskable k p) → bitAnd b (maskOf (onIn k t a) p) ≡ b % modOf p (drop a t)
+masked-by k t a b (low n) m = and-power b n m
+masked-by k t a b (sel f d m₀ m₁) m =
+    let u = and-yes (switched k) _ m in
+    let v = and-yes (eqb f (switchOf k)) _ (u .1) in
+    let w = and-yes (eqb d 4) _ (v .1) in
+    let x = and-yes (isPower m₀) (isPower m₁) (w .1) in
+    ap (λ (c : Bool). bitAnd b (pick c m₁ m₀ - 1)) (more-is k t a f d (u .0) (eqb→eq f (switchOf k) (v .0)) (eqb→eq d 4 (w .0)))
+    ∙ go (eqb (getD (drop a t) f 0 % (2 * d) / d) 0) (x .0) (x .1)
+  where
+    go : (c : Bool) → T (isPower m₀) → T (isPower m₁) → bitAnd b (pick (not c) m₁ m₀ - 1) ≡ b % pick c m₀ m₁
+    go true y z = and-power b m₀ y
+    go false y z = and-power b m₁ z
+
+-- byte i of the image of the record of kind k at a
+pub masked-byte : (k : ℕ) (t : List ℕ) (a i : ℕ) → i < baseOf (layoutOf k)
+    → bitAnd (getD t (a + i) 0) (getD (getD grid (rowOf k (onIn k t a) + i / 8) []) (i % 8) 0) ≡ getD (imageIn (layoutOf k) t a) i 0
+unfolding imageIn
+masked-byte k t a i h =
+    let ks = layoutOf k .shape .keep in
+    let p = getD ks i (low 1) in
+    ap (bitAnd (getD t (a + i) 0)) (mask-is k (onIn k t a) i h ∙ mask-at (onIn k t a) ks i)
+    ∙ masked-by k t a (getD t (a + i) 0) p (all-at (maskable k) ks (maskables k) i h)
+    ∙ sym (image-at ks (drop a t) i h ∙ ap (λ (x : ℕ). x % modOf p (drop a t)) (getD-drop a t i 0))
+
+-- ---- filling an array
+
+-- a store at the seam takes the copy of i elements to the copy of one more
+pub over-more : (d s : List ℕ) (i : ℕ) → i < length s → i < length d → set (over d s i) i (getD s i 0) ≡ over d s (i + 1)
+over-more d s i hs hd =
+    rw (add-one i, take-suc s i 0 hs, drop-cons d i 0 hd, append-snoc)
+    (set-at (take i s) (getD d i 0) (drop (suc i) d) (getD s i 0) i (length-take-le i s (omega arith)))
+
+pub drop-zeros : (n m : ℕ) → drop {A = ℕ} n (replicate m 0) ≡ replicate (m - n) 0
+drop-zeros zero m = let e : m ≡ m - 0 = omega arith in ap (λ (k : ℕ). replicate k 0) e
+drop-zeros (suc n) zero = let e : 0 ≡ 0 - suc n = omega arith in ap (λ (k : ℕ). replicate k 0) e
+drop-zeros (suc n) (suc m) = let e : m - n ≡ suc m - suc n = omega arith in drop-zeros n m ∙ ap (λ (k : ℕ). replicate k 0) e
+
+-- the whole copied over zeros is padded
+pub over-padded : (m : ℕ) (s : List ℕ) → length s ≤ m → over (replicate m 0) s (length s) ≡ padded m s
+over-padded m s h = ap₂ (λ (x y : List ℕ). x ++ y) (take-length s) (drop-zeros (length s) m)
+
+-- ---- a part
+
+pub part-long : (s : List ℕ) (q n : ℕ) → q + n ≤ length s → length (part s q n) ≡ n
+part-long s q n h = simp (length-take, length-drop) (omega arith)
+
+pub part-byte : (s : List ℕ) (q n i : ℕ) → i < n → getD (part s q n) i 0 ≡ getD s (q + i) 0
+part-byte s q n i h = getD-take n (drop q s) i 0 h ∙ getD-drop q s i 0

@@ -1,0 +1,5 @@
+pub mod Laws
+pub mod SeatLaws
+pub mod ReadLaws
+pub mod ObjectLaws
+pub mod MeaningLaws

@@ -1,0 +1,155 @@
+-- Objects of an accepted table: their references lie in their record, count as the code finds, and name a part of the table. Assumes nothing.
+use mathlib.Core.Path.{_≡_, refl, sym, ap, subst, _∙_}
+use mathlib.Core.Bool.{Bool, true, false, _&&_}
+use mathlib.Core.List.{List}
+use Prim.Native.Nat.{ℕ, _+_, _≤_}
+use native.Mathlib.Omega.{arith}
+use lib.ListN.{length}
+use lib.Dec.{T, eqb, leb, leb→le}
+use mir.Facts.{and-yes}
+use borrow.Author.Tests.{eqb-true, eqb-false}
+use Rattle.table.specs.declared.Region.{Region}
+use Rattle.table.specs.declared.Need.{Need}
+use Rattle.table.specs.declared.Need.the-variants.{Ignored, Optional, Required}
+use Rattle.table.specs.declared.Place.{Place}
+use Rattle.table.specs.Bytes.{pick, num}
+use Rattle.table.specs.Layout.{Layout, Env, Refs, none, plain, nest, baseOf}
+use Rattle.table.specs.FixedLayouts.{layoutOf, header, control, host, hfi, ssns, security, discovery, info, extended, noKind}
+use Rattle.table.specs.Objects.{under}
+use Rattle.table.specs.Rules.{answer, done, refRule, plainRule, refsRule}
+use Rattle.table.specs.Numbers.{heapIn, check}
+use Rattle.table.specs.Reads.{Seat, nowhere, seat, seatOf, needAt, hasPlain, noPlace, refPlace, placeAt, readPlace, shown}
+use Rattle.laws.specs.Sound.{first-of}
+use Rattle.laws.specs.Fields.{imageIn}
+use Rattle.laws.specs.ListWalk.{by-layout}
+use Rattle.laws.specs.DemandTwo.{check-zero}
+use Rattle.rules.specs.Records.{plainNeed}
+use Rattle.reader.specs.Accepted.{Accepted}
+use Rattle.reader.proofs.AcceptedLaws.{laid}
+use Rattle.images.proofs.Laws.{by-kind, other-layout}
+use Rattle.reads.proofs.SeatLaws.{Good, seats-good, heap-object, ref-inside}
+
+-- ---- references lie in their record, none to an object behind one to a heap record
+
+abbrev noPlain : Refs → Bool
+noPlain none = true
+noPlain (plain p need rule rest) = false
+noPlain (nest p need shape own rest) = noPlain rest
+
+abbrev ordered : ℕ → Refs → Bool
+ordered n none = true
+ordered n (plain p need rule rest) = leb (p + 6) n && ordered n rest
+ordered n (nest p need shape own rest) = noPlain rest
+
+kinds-ordered : (k : ℕ) → T (ordered (baseOf (layoutOf k)) (layoutOf k .refs))
+unfolding header control host hfi ssns security discovery info extended noKind
+kinds-ordered = by-layout (λ l. T (ordered (baseOf l) (l .refs))) tt tt tt tt tt tt tt tt tt tt
+
+none-plain : (q : ℕ) (rs : Refs) → T (noPlain rs) → hasPlain q rs ≡ true → ⊥
+none-plain q none t h = let z : false ≡ true = h in absurd (subst T (sym z) tt)
+none-plain q (plain p need rule rest) t h = absurd t
+none-plain q (nest p need shape own rest) t h = none-plain q rest t h
+
+plain-in : (n q : ℕ) (rs : Refs) → T (ordered n rs) → hasPlain q rs ≡ true → q + 6 ≤ n
+plain-in n q none t h = absurd (none-plain q none tt h)
+plain-in n q (plain p need rule rest) t h =
+    let u = and-yes (leb (p + 6) n) (ordered n rest) t in
+    go (eqb q p) refl (leb→le (p + 6) n (u .0)) (λ g. plain-in n q rest (u .1) g) h
+  where
+    go : (c : Bool) → eqb q p ≡ c → p + 6 ≤ n → (hasPlain q rest ≡ true → q + 6 ≤ n) → pick c true (hasPlain q rest) ≡ true → q + 6 ≤ n
+    go true e l r g = omega (arith, eqb-true q p e)
+    go false e l r g = r g
+plain-in n q (nest p need shape own rest) t h = absurd (none-plain q rest t h)
+
+pub plain-fits : (k q : ℕ) → hasPlain q (layoutOf k .refs) ≡ true → q + 6 ≤ baseOf (layoutOf k)
+plain-fits k q h = plain-in (baseOf (layoutOf k)) q (layoutOf k .refs) (kinds-ordered k) h
+
+-- ---- whether a reference counts
+
+pub only-one : (c : Bool) → pick c true false ≡ true → Optional ≡ pick c Optional Ignored
+only-one true e = refl
+only-one false e = absurd (subst T (sym e) tt)
+
+no-plain : (k q : ℕ) (img : List ℕ) → (layoutOf k .refs ≡ none) → hasPlain q (layoutOf k .refs) ≡ true → plainNeed k q ≡ needAt q (layoutOf k .refs) img
+no-plain k q img e h = absurd (none-plain q none tt (sym (ap (hasPlain q) e) ∙ h))
+
+pub plain-need : (q : ℕ) (img : List ℕ) (k : ℕ) → (k ≡ 4 → ⊥) → (k ≡ 5 → ⊥) → (k ≡ 7 → ⊥) → (k ≡ 9 → ⊥) → hasPlain q (layoutOf k .refs) ≡ true
+    → plainNeed k q ≡ needAt q (layoutOf k .refs) img
+unfolding layoutOf plainNeed header control host hfi discovery noKind
+plain-need q img =
+    by-kind (λ k. (k ≡ 4 → ⊥) → (k ≡ 5 → ⊥) → (k ≡ 7 → ⊥) → (k ≡ 9 → ⊥) → hasPlain q (layoutOf k .refs) ≡ true → plainNeed k q ≡ needAt q (layoutOf k .refs) img)
+    (λ a b c d h. refl)
+    (λ a b c d h. refl)
+    (λ a b c d h. refl)
+    (λ a b c d h. absurd (none-plain q (hfi .refs) tt h))
+    (λ a b c d h. absurd (a refl))
+    (λ a b c d h. absurd (b refl))
+    (λ a b c d h. refl)
+    (λ a b c d h. absurd (c refl))
+    (λ a b c d h. absurd (d refl))
+    (λ k o a b c d h. no-plain k q img (ap (λ (l : Layout). l .refs) (other-layout k o)) h)
+
+-- ---- an object is a part of the table
+
+plain-passes : (heap : Region) (e : Env) (t : List ℕ) (a : ℕ) (img : List ℕ) (n q : ℕ) (rs : Refs) → T (ordered n rs) → refsRule heap e t a img rs ≡ 0 → hasPlain q rs ≡ true
+    → refRule heap (needAt q rs img) (num t (a + q) 4) (num t (a + q + 4) 2) ≡ 0
+unfolding refsRule
+plain-passes heap e t a img n q none o z h = absurd (none-plain q none tt h)
+plain-passes heap e t a img n q (plain p need rule rest) o z h =
+    let u = and-yes (leb (p + 6) n) (ordered n rest) o in
+    let v = first-of (plainRule heap (need img) rule e t (a + p)) (refsRule heap e t a img rest) z in
+    go (eqb q p) refl (first-of (refRule heap (need img) (num t (a + p) 4) (num t (a + p + 4) 2)) _ (v .0) .0) (λ g. plain-passes heap e t a img n q rest (u .1) (v .1) g) h
+  where
+    go : (c : Bool) → eqb q p ≡ c → refRule heap (need img) (num t (a + p) 4) (num t (a + p + 4) 2) ≡ 0
+        → (hasPlain q rest ≡ true → refRule heap (needAt q rest img) (num t (a + q) 4) (num t (a + q + 4) 2) ≡ 0)
+        → pick c true (hasPlain q rest) ≡ true → refRule heap (pick c (need img) (needAt q rest img)) (num t (a + q) 4) (num t (a + q + 4) 2) ≡ 0
+    go true f x r g = rw (eqb-true q p f) x
+    go false f x r g = r g
+plain-passes heap e t a img n q (nest p need shape own rest) o z h = absurd (none-plain q rest o h)
+
+abbrev Room : List ℕ → Place → Type 0
+Room t p = p .at + p .len ≤ length t
+
+-- under a need, of a reference that passes
+need-room : (t : List ℕ) (ok : Accepted t) (r : ℕ) (n : Need) → refRule (heapIn t) n (num t r 4) (num t (r + 4) 2) ≡ 0 → Room t (under n (noPlace done) (refPlace t r))
+need-room t ok r n z = go n z where
+  there : (m : Need) → (m ≡ Ignored → ⊥) → refRule (heapIn t) m (num t r 4) (num t (r + 4) 2) ≡ 0 → Room t (refPlace t r)
+  there m c y = by (eqb (num t (r + 4) 2) 0) refl where
+    by : (b : Bool) → eqb (num t (r + 4) 2) 0 ≡ b → Room t (pick b (noPlace done) (record { answer = done; present = true; at = num t r 4; len = num t (r + 4) 2 }))
+    by true f = omega arith
+    by false f = heap-object t (laid t ok) (num t r 4) (num t (r + 4) 2) (ref-inside t m (num t r 4) (num t (r + 4) 2) y c (omega (arith, eqb-false (num t (r + 4) 2) 0 f)))
+
+  go : (m : Need) → refRule (heapIn t) m (num t r 4) (num t (r + 4) 2) ≡ 0 → Room t (under m (noPlace done) (refPlace t r))
+  go Ignored y = omega arith
+  go Optional y = there Optional (λ f. let w : _≡_ {A = ℕ} 1 0 = ap (λ (x : Need). under x 0 1) f in omega arith) y
+  go Required y = there Required (λ f. let w : _≡_ {A = ℕ} 1 0 = ap (λ (x : Need). under x 0 1) f in omega arith) y
+
+seat-room : (t : List ℕ) (ok : Accepted t) (q k : ℕ) (s : Seat) → Good t k s → Room t (placeAt t q s)
+unfolding imageIn
+seat-room t ok q k nowhere g = omega arith
+seat-room t ok q k (seat l a on) g = go (hasPlain q (l .refs)) refl on (g .1 .passes)
+  where
+    inOrder : T (ordered (baseOf l) (l .refs))
+    inOrder = subst (λ (m : Layout). T (ordered (baseOf m) (m .refs))) (sym (g .0)) (kinds-ordered k)
+
+    go : (c : Bool) → hasPlain q (l .refs) ≡ c → (b : Bool) → (b ≡ true → refsRule (heapIn t) (g .1 .around) t a (imageIn l t a) (l .refs) ≡ 0)
+        → Room t (pick c (pick b (under (needAt q (l .refs) (shown t l a b)) (noPlace done) (refPlace t (a + q))) (noPlace done)) (noPlace (answer 16 0 0)))
+    go false e b p = omega arith
+    go true e false p = omega arith
+    go true e true p =
+        need-room t ok (a + q) (needAt q (l .refs) (imageIn l t a))
+        (plain-passes (heapIn t) (g .1 .around) t a (imageIn l t a) (baseOf l) q (l .refs) inOrder (p refl) e)
+
+-- of an accepted table, and of any bytes
+pub place-room : (t : List ℕ) → Accepted t → (k n q : ℕ) → placeAt t q (seatOf t k n) .at + placeAt t q (seatOf t k n) .len ≤ length t
+place-room t ok k n q = seat-room t ok q k (seatOf t k n) (seats-good t ok n k)
+
+pub accepted : (t : List ℕ) → check t .number ≡ 0 → Accepted t
+accepted t e = record { good = check-zero t e }
+
+pub read-room : (t : List ℕ) (k n q : ℕ) → readPlace t k n q .at + readPlace t k n q .len ≤ length t
+unfolding readPlace
+read-room t k n q = go (eqb (check t .number) 0) refl where
+  go : (c : Bool) → eqb (check t .number) 0 ≡ c → Room t (pick c (placeAt t q (seatOf t k n)) (noPlace (check t)))
+  go true e = place-room t (accepted t (eqb-true (check t .number) 0 e)) k n q
+  go false e = omega arith

@@ -1,0 +1,65 @@
+use lib.Dec.{eqb}
+use Rattle.rules.specs.Records.{ssnsNeed}
+use Rattle.reads.proofs.ObjectLaws.{only-one, plain-need}
+use Rattle.rules.proofs.RecordLaws.{ssns-need}
+use Rattle.laws.specs.Fields.{imageIn}
+use Rattle.table.specs.FixedLayouts.{layoutOf, ssns, security, info, extended}
+use native.Mathlib.Omega.{arith}
+use Prim.Native.Nat.{ℕ}
+use mathlib.Core.Path.{ap, _∙_}
+use borrow.Author.Needs.{needs}
+use Rattle.reads.proofs.objects.object_need.Statement.{statement}
+use Rattle.reads.proofs.objects.object_need.Tie as tie
+use Rattle.reads.proofs.objects.object_need.Reads as reads
+use Rattle.reads.proofs.objects.object_need.Lts as lts
+use Rattle.rules.proofs.needs.plain_need.Reads as plain-need-reads
+use Rattle.rules.proofs.needs.security_need.Reads as security-need-reads
+use Rattle.rules.proofs.needs.ssns_need.Reads as ssns-need-reads
+use Rattle.rules.proofs.records.ssns_flags.Reads as ssns-flags-reads
+
+ssns-flags-requires : tie.Need-ssns-flags-requires
+unfolding layoutOf ssns
+ssns-flags-requires c κs = omega (arith, rw (c .match .keys1) at (c .before .before .pre .0))
+
+ssns-need-requires : tie.Need-ssns-need-requires
+ssns-need-requires c κs = search needs
+
+security-need-requires : tie.Need-security-need-requires
+unfolding layoutOf security
+security-need-requires c κs = omega (arith, rw (c .match .keys2) at (c .before .before .pre .0))
+
+plain-need-requires : tie.Need-plain-need-requires
+plain-need-requires c κs = search needs
+
+returns : tie.Need-returns
+unfolding layoutOf
+returns c = rw (c .before .before .match .keys1) (c .ssns-need .ensures ∙ ap (λ (f : ℕ). ssnsNeed f (c .before .before .before .before .args .off)) (c .before .ssns-flags .ensures) ∙ ssns-need (imageIn ssns (c .before .before .before .before .args .t .now) (c .before .before .before .before .args .a)) (c .before .before .before .before .args .off))
+
+returns-2 : tie.Need-returns-2
+unfolding layoutOf
+returns-2 c = rw (c .before .match .keys2) (c .security-need .ensures)
+
+returns-3 : tie.Need-returns-3
+unfolding layoutOf info
+returns-3 c = rw (c .match .keys3) (only-one (eqb (c .before .before .args .off) 104) (rw (c .match .keys3) at (c .before .before .pre .1)))
+
+returns-4 : tie.Need-returns-4
+unfolding layoutOf extended
+returns-4 c = rw (c .match .keys4) (only-one (eqb (c .before .before .args .off) 12) (rw (c .match .keys4) at (c .before .before .pre .1)))
+
+returns-5 : tie.Need-returns-5
+returns-5 c = let a = c .before .before .before .args in let m = c .before .match .rest in c .plain-need .ensures ∙ plain-need (a .off) (imageIn (layoutOf (a .kind)) (a .t .now) (a .a)) (a .kind) (m .0 .0 .0 .1) (m .0 .0 .1) (m .0 .1) (m .1) (c .before .before .before .pre .1)
+
+pub object-need-spec : {M : Type 1} → statement M
+object-need-spec =
+    tie.close
+    (tie.spec
+    ssns-flags-requires
+    ssns-need-requires
+    security-need-requires
+    plain-need-requires
+    returns
+    returns-2
+    returns-3
+    returns-4
+    returns-5)

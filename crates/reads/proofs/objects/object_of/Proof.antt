@@ -1,0 +1,52 @@
+use Rattle.table.specs.Rules.{done}
+use Rattle.table.specs.Objects.{under}
+use Rattle.table.specs.declared.Need.{Need}
+use Rattle.reads.proofs.ObjectLaws.{plain-fits}
+use Rattle.laws.specs.Fields.{imageIn}
+use Rattle.table.specs.Reads.{noPlace, refPlace}
+use native.Mathlib.Omega.{arith}
+use Prim.Native.Nat.{_+_}
+use mathlib.Core.Path.{ap, _∙_}
+use borrow.Author.Needs.{needs}
+use Rattle.reads.proofs.objects.object_of.Statement.{statement}
+use Rattle.reads.proofs.objects.object_of.Tie as tie
+use Rattle.reads.proofs.objects.object_of.Reads as reads
+use Rattle.reads.proofs.objects.object_of.Lts as lts
+use Rattle.reads.proofs.objects.named_place.Reads as named-place-reads
+use Rattle.reads.proofs.objects.no_place.Reads as no-place-reads
+use Rattle.reads.proofs.objects.object_need.Reads as object-need-reads
+use Rattle.table.proofs.done.Reads as done-reads
+
+add-named-place : tie.Need-add-named-place
+add-named-place c = let a = c .before .before .args in omega (arith, plain-fits (a .kind) (a .off) (c .before .before .pre .1), c .before .before .pre .0)
+
+object-need-requires : tie.Need-object-need-requires
+object-need-requires c κs = search needs
+
+named-place-requires : tie.Need-named-place-requires
+named-place-requires c κs = let a = c .before .before .before .args in omega (arith, plain-fits (a .kind) (a .off) (c .before .before .before .pre .1), c .before .before .before .pre .0)
+
+returns : tie.Need-returns
+unfolding imageIn
+returns c = rw (c .before .before .before .before .pre .1, c .before .before .if1 .taken) (c .named-place .ensures ∙ ap (λ (n : Need). under n (noPlace done) (refPlace (c .before .before .before .before .args .t .now) (c .before .before .before .before .args .a + c .before .before .before .before .args .off))) (c .before .object-need .ensures))
+
+done-requires : tie.Need-done-requires
+done-requires c κs = search needs
+
+no-place-requires : tie.Need-no-place-requires
+no-place-requires c κs = search needs
+
+returns-2 : tie.Need-returns-2
+returns-2 c = rw (c .before .before .before .before .pre .1, c .before .before .if1 .left) (c .no-place .ensures ∙ ap noPlace (c .before .done .ensures))
+
+pub object-of-spec : {M : Type 1} → statement M
+object-of-spec =
+    tie.close
+    (tie.spec
+    add-named-place
+    object-need-requires
+    named-place-requires
+    returns
+    done-requires
+    no-place-requires
+    returns-2)

@@ -1,0 +1,30 @@
+use Rattle.reads.specs.Seats.{extendedAt}
+use Rattle.table.proofs.Rules.{picks}
+use borrow.Author.Needs.{needs}
+use Rattle.reads.proofs.seats.extended_at.Statement.{statement}
+use Rattle.reads.proofs.seats.extended_at.Tie as tie
+use Rattle.reads.proofs.seats.extended_at.Reads as reads
+use Rattle.reads.proofs.seats.extended_at.Lts as lts
+use Rattle.reads.proofs.seats.heap_seat.Reads as heap-seat-reads
+use Rattle.rules.proofs.records.ssns_flags.Reads as ssns-flags-reads
+
+ssns-flags-requires : tie.Need-ssns-flags-requires
+ssns-flags-requires c κs = search needs
+
+returns : tie.Need-returns
+unfolding extendedAt
+returns c = rw (← c .before .ssns-flags .ensures) (search picks)
+
+add-heap-seat : tie.Need-add-heap-seat
+add-heap-seat c = search needs
+
+heap-seat-requires : tie.Need-heap-seat-requires
+heap-seat-requires c κs = search needs
+
+returns-2 : tie.Need-returns-2
+unfolding extendedAt
+returns-2 c = rw (← c .before .before .ssns-flags .ensures) (search (picks, c .heap-seat .ensures))
+
+pub extended-at-spec : {M : Type 1} → statement M
+extended-at-spec =
+    tie.close (tie.spec ssns-flags-requires returns add-heap-seat heap-seat-requires returns-2)

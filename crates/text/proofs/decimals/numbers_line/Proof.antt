@@ -1,0 +1,51 @@
+-- What the six calls write, one behind the other, is the line.
+-- Assumes nothing.
+use Rattle.text.specs.Numerals.{numeral, numbersLine}
+use Rattle.text.proofs.Laws.{behind-none}
+use lib.ListN.{take}
+use borrow.Author.Needs.{needs}
+use Rattle.text.proofs.decimals.numbers_line.Statement.{statement}
+use Rattle.text.proofs.decimals.numbers_line.Tie as tie
+use Rattle.text.proofs.decimals.numbers_line.Reads as reads
+use Rattle.text.proofs.decimals.numbers_line.Lts as lts
+use Rattle.text.proofs.append.empty.Reads as empty-reads
+use Rattle.text.proofs.append.with_byte.Reads as with-byte-reads
+use Rattle.text.proofs.decimals.with_number.Reads as with-number-reads
+
+empty-requires : tie.Need-empty-requires
+empty-requires c κs = search needs
+
+with-number-requires : tie.Need-with-number-requires
+with-number-requires c κs = search needs
+
+with-byte-requires : tie.Need-with-byte-requires
+with-byte-requires c κs = search needs
+
+with-number-requires-2 : tie.Need-with-number-requires-2
+with-number-requires-2 c κs = search needs
+
+with-byte-requires-2 : tie.Need-with-byte-requires-2
+with-byte-requires-2 c κs = search needs
+
+with-number-requires-3 : tie.Need-with-number-requires-3
+with-number-requires-3 c κs = search needs
+
+with-byte-requires-3 : tie.Need-with-byte-requires-3
+with-byte-requires-3 c κs = search needs
+
+returns : tie.Need-returns
+unfolding numbersLine
+returns c = (c .with-byte3 .ensures .1, cc (behind-none (take (c .before .before .before .before .before .before .empty .result .len) (c .before .before .before .before .before .before .empty .result .bytes)) (numeral (c .before .before .before .before .before .before .before .args .a)) (c .before .before .before .before .before .before .empty .ensures .2)))
+
+pub numbers-line-spec : {M : Type 1} → statement M
+numbers-line-spec =
+    tie.close
+    (tie.spec
+    empty-requires
+    with-number-requires
+    with-byte-requires
+    with-number-requires-2
+    with-byte-requires-2
+    with-number-requires-3
+    with-byte-requires-3
+    returns)
