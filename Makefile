@@ -1,6 +1,6 @@
 # Wickgarland: a verified library for the NVMe boot firmware table (NBFT).
 #
-#   make run      check a sample table
+#   make run      check a sample table, and show what it says
 #   make test     every test: the second program, its vectors, the library beside it, and all proofs
 #   make library  the static library, target/staticlib/libnbft.a (include/nbft.h declares its functions)
 #   make soak     the library beside the second program on a million tables, and between closed pages
@@ -22,17 +22,19 @@ else
 RUN     := qemu-x86_64
 LINKING := PATH=/usr/bin:$$PATH CARGO_TARGET_X86_64_UNKNOWN_LINUX_GNU_LINKER=x86_64-linux-gnu-gcc cargo
 endif
-PROGRAM := $(RUN) target/bin/nbft_check
+BIN     := $(RUN) target/bin
 LINKED  := $(RUN) second/linked/target/$(X86)/release/linked
 BENCH   := bench/target/$(X86)/release/bench
 
 .PHONY: run test library soak bench vectors clean second linked
 
-# nbft_check is proved, then compiled: the first run takes some minutes.
+# The programs are proved, then compiled: the first run takes some minutes.
 run:
-	rt check nbft_check
-	@echo "samples/machine.nbft: number, kind and position, and what they mean"
-	@$(PROGRAM) samples/machine.nbft
+	rt check nbft_check nbft_show
+	@echo "nbft_check samples/machine.nbft: number, kind and position, and what they mean"
+	@$(BIN)/nbft_check samples/machine.nbft
+	@echo "nbft_show samples/machine.nbft"
+	@$(BIN)/nbft_show samples/machine.nbft
 
 # The last step is the proofs: its last line is 'N passed, M failed'.
 test: second linked

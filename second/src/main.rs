@@ -87,7 +87,9 @@ fn samples(action: &str, directory: &Path) -> Result<(), String> {
         directory.join("smallest.nbft"),
         &second::samples::smallest(),
     )?;
-    keep(action, directory.join("machine.nbft"), &machine)
+    keep(action, directory.join("machine.nbft"), &machine)?;
+    let mixed = second::form(&second::samples::mixed());
+    keep(action, directory.join("mixed.nbft"), &mixed)
 }
 
 fn cases(action: &str, directory: &Path) -> Result<(), String> {

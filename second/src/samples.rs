@@ -394,6 +394,36 @@ pub fn machine() -> Meaning<'static> {
     }
 }
 
+/// The same with unused positions, IPv6, absent objects, and bytes that are no characters.
+pub fn mixed() -> Meaning<'static> {
+    let mut whole = machine();
+    whole.driver_signature = None;
+    let mut interface = machine_interface(1);
+    interface.info.ip_address = *b"\x20\x01\x0D\xB8\0\0\0\0\0\x01\0\0\0\0\0\x30";
+    interface.info.gateway = *b"\xFE\x80\0\0\0\0\0\0\0\0\0\0\0\0\0\x01";
+    interface.info.primary_dns = [0; 16];
+    whole.interfaces = vec![Entry::Used(interface), Entry::Unused];
+    let mut subsystem = machine_subsystem(2);
+    subsystem.address = interface_address().into();
+    subsystem.service = b"\"4420\\\x07\xFF".into();
+    subsystem.primary_interface = 1;
+    subsystem.secondary_interfaces = None;
+    whole.subsystems = vec![Entry::Unused, Entry::Used(subsystem)];
+    whole.securities = vec![Entry::Unused];
+    whole.discoveries = vec![Entry::Used(Discovery {
+        interface: 1,
+        security: 0,
+        address: None,
+        name: None,
+    })];
+    whole
+}
+
+/// An address of 16 bytes, as a subsystem's may be.
+fn interface_address() -> Vec<u8> {
+    ipv4([192, 168, 101, 41]).to_vec()
+}
+
 fn machine_interface(port: u8) -> Interface<'static> {
     Interface {
         info: Info {

@@ -1,7 +1,7 @@
 // What the tools print, made whole before anything is written, since a contract can say what bytes are and
 // not what is written. A text goes in by value and comes back longer.
 pub mod addresses; // Internet addresses
-pub mod append; // the text, and one byte or a string more
+pub mod append; // the text, and one byte, a string or a text more
 pub mod decimals; // numbers
 pub mod escapes; // bytes of unknown meaning
 pub mod hexadecimal; // bytes, interfaces and functions of devices
@@ -13,6 +13,7 @@ pub use decimals::decimal;
 pub use decimals::numbers_line;
 pub use escapes::escaped;
 pub use escapes::json_escaped;
+pub use hexadecimal::hex_byte;
 pub use hexadecimal::mac;
 pub use hexadecimal::pci;
 pub use words::fault_line;

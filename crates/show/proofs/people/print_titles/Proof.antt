@@ -1,0 +1,66 @@
+use Prim.Native.Nat.{_≤_, _-_}
+use Rattle.table.proofs.Rules.{picks}
+use Rattle.show.proofs.people.print_titles.Statement.{statement}
+use Rattle.show.proofs.people.print_titles.Tie as tie
+use Rattle.show.proofs.people.print_titles.Reads as reads
+use Rattle.show.proofs.people.print_titles.Lts as lts
+use Rattle.show.proofs.columns.column_count.Reads as column-count-reads
+use Rattle.show.proofs.people.print_title.Reads as print-title-reads
+use Rattle.tool.proofs.print_bytes.Reads as print-bytes-reads
+
+abbrev Inv-loop : tie.InvT-loop
+Inv-loop kind n i₀ t4 t5 i = 0 ≤ i
+
+abbrev μ-loop : tie.MeasureT-loop
+μ-loop kind n i₀ t4 t5 i = n - i
+
+column-count-requires : tie.Need-column-count-requires Inv-loop μ-loop
+column-count-requires c κs = search picks
+
+loop-holds : tie.Need-loop-holds Inv-loop μ-loop
+loop-holds c = search picks
+
+slice-aggregate-print-bytes : tie.Need-slice-aggregate-print-bytes Inv-loop μ-loop
+slice-aggregate-print-bytes c = search picks
+
+print-bytes-requires : tie.Need-print-bytes-requires Inv-loop μ-loop
+print-bytes-requires c κs = search picks
+
+print-title-requires : tie.Need-print-title-requires Inv-loop μ-loop
+print-title-requires c κs = search picks
+
+add-i : tie.Need-add-i Inv-loop μ-loop
+add-i c = search picks
+
+loop-less : tie.Need-loop-less Inv-loop μ-loop
+loop-less c = search picks
+
+loop-again : tie.Need-loop-again Inv-loop μ-loop
+loop-again c = search picks
+
+slice-aggregate-print-bytes-2 : tie.Need-slice-aggregate-print-bytes-2 Inv-loop μ-loop
+slice-aggregate-print-bytes-2 c = search picks
+
+print-bytes-requires-2 : tie.Need-print-bytes-requires-2 Inv-loop μ-loop
+print-bytes-requires-2 c κs = search picks
+
+returns : tie.Need-returns Inv-loop μ-loop
+returns c = search picks
+
+pub print-titles-spec : {M : Type 1} → statement M
+print-titles-spec =
+    tie.close
+    (tie.spec
+    Inv-loop
+    μ-loop
+    column-count-requires
+    loop-holds
+    slice-aggregate-print-bytes
+    print-bytes-requires
+    print-title-requires
+    add-i
+    loop-less
+    loop-again
+    slice-aggregate-print-bytes-2
+    print-bytes-requires-2
+    returns)

@@ -1,0 +1,118 @@
+// Cells of an accepted table: the field or the object of a column, by position.
+use crate::columns::Column;
+use crate::columns::Form;
+use crate::values::pad;
+use crate::values::print_absent;
+use crate::values::print_address;
+use crate::values::print_digits;
+use crate::values::print_flag;
+use crate::values::print_interfaces;
+use crate::values::print_plain;
+use crate::values::print_string;
+use crate::values::print_text;
+use crate::values::value_of;
+use reads::fields::field_in;
+use reads::objects::object_in;
+use table::Field;
+ghost use Rattle.reader.specs.Accepted.{Accepted};
+
+fn print_front(x: &[u8], n: usize, json: bool, width: usize) {
+    if n <= x.len() {
+        print_string(&x[0..n], json, width);
+    }
+}
+
+fn print_field_string(f: Field, json: bool, width: usize) {
+    let n = f.len;
+    let b = f.bytes;
+    print_front(&b, n, json, width);
+}
+
+// Sixteen bytes by their numbers.
+fn print_field_digits(f: Field, json: bool, width: usize) {
+    let b = f.bytes;
+    print_digits(&b, json, width);
+}
+
+fn print_field_address(f: Field, json: bool, width: usize) {
+    let b = f.bytes;
+    print_address(&b, json, width);
+}
+
+fn print_mac_in(x: &[u8], json: bool, width: usize) {
+    if 6 <= x.len() {
+        print_text(text::mac(&x[0..6]), json, width);
+    }
+}
+
+fn print_mac(f: Field, json: bool, width: usize) {
+    let b = f.bytes;
+    print_mac_in(&b, json, width);
+}
+
+fn print_transport(f: Field, json: bool, width: usize) {
+    if value_of(f) == 3 {
+        print_text(
+            text::append::with_bytes(text::append::empty(), b"tcp"),
+            json,
+            width,
+        );
+        return;
+    }
+    print_plain(text::decimal(value_of(f)), json, width);
+}
+
+// An object of bytes, or none.
+fn print_object(x: &[u8], json: bool, width: usize) {
+    if x.len() == 0 {
+        print_absent(json, width);
+        return;
+    }
+    print_string(x, json, width);
+}
+
+fn print_digits_object(x: &[u8], json: bool, width: usize) {
+    if x.len() == 0 {
+        print_absent(json, width);
+        return;
+    }
+    print_digits(x, json, width);
+}
+
+// The cell of a column, of the record at position `n`.
+pub fn print_cell(t: &[u8], n: usize, c: Column, json: bool)
+    requires { ⌜ Accepted (now t) ⌝ }
+{
+    let kind = c.kind;
+    let off = c.off;
+    let width = c.width;
+    let form = c.form;
+    match form {
+        Form::Position => print_plain(text::decimal(n as u64), json, width),
+        Form::Number => print_plain(
+            text::decimal(value_of(field_in(t, kind, n, off))),
+            json,
+            width,
+        ),
+        Form::Flag => print_flag(
+            value_of(field_in(t, kind, n, off)) / 4 % 2 == 1,
+            json,
+            width,
+        ),
+        Form::Transport => print_transport(field_in(t, kind, n, off), json, width),
+        Form::Name => print_field_string(field_in(t, kind, n, off), json, width),
+        Form::Digits => print_field_digits(field_in(t, kind, n, off), json, width),
+        Form::Address => print_field_address(field_in(t, kind, n, off), json, width),
+        Form::Mac => print_mac(field_in(t, kind, n, off), json, width),
+        Form::Pci => print_text(text::pci(value_of(field_in(t, kind, n, off))), json, width),
+        Form::Object => print_object(object_in(t, kind, n, off), json, width),
+        Form::AddressObject => print_address(object_in(t, kind, n, off), json, width),
+        Form::DigitsObject => print_digits_object(object_in(t, kind, n, off), json, width),
+        Form::Interfaces => print_interfaces(
+            value_of(field_in(t, kind, n, off)),
+            object_in(t, kind, n, 48),
+            json,
+        ),
+        Form::Nothing => pad(0, width),
+    }
+}

@@ -1,0 +1,109 @@
+// For people: a heading, the columns' names, and a line for each record.
+use crate::cells::print_cell;
+use crate::columns::column_at;
+use crate::columns::column_count;
+use crate::names::title;
+use crate::records::count_of;
+use crate::records::is_used;
+use crate::values::print_plain;
+use crate::values::print_rule;
+use tool::print_bytes;
+ghost use Rattle.reader.specs.Accepted.{Accepted};
+
+fn print_title(kind: u8, i: usize) {
+    let c = column_at(kind, i);
+    print_plain(title(kind, i), false, c.width);
+}
+
+fn print_titles(kind: u8) {
+    let n = column_count(kind);
+    let mut i: usize = 0;
+    while i < n {
+        if i != 0 {
+            print_bytes(b"|");
+        }
+        print_title(kind, i);
+        i += 1;
+    }
+    print_bytes(b"\n");
+}
+
+// The line between names and records.
+fn print_rules(kind: u8) {
+    let n = column_count(kind);
+    let mut i: usize = 0;
+    while i < n {
+        if i != 0 {
+            print_bytes(b"+");
+        }
+        let c = column_at(kind, i);
+        print_rule(c.width);
+        i += 1;
+    }
+    print_bytes(b"\n");
+}
+
+fn print_row(t: &[u8], kind: u8, position: usize)
+    requires { ⌜ Accepted (now t) ⌝ }
+{
+    let n = column_count(kind);
+    let mut i: usize = 0;
+    while i < n {
+        if i != 0 {
+            print_bytes(b"|");
+        }
+        print_cell(t, position, column_at(kind, i), false);
+        i += 1;
+    }
+    print_bytes(b"\n");
+}
+
+fn print_unused(position: usize) {
+    print_plain(text::decimal(position as u64), false, 3);
+    print_bytes(b"|unused\n");
+}
+
+fn print_position(t: &[u8], kind: u8, position: usize)
+    requires { ⌜ Accepted (now t) ⌝ }
+{
+    if is_used(t, kind, position) {
+        print_row(t, kind, position);
+        return;
+    }
+    print_unused(position);
+}
+
+fn print_heading(heading: &[u8], kind: u8) {
+    print_bytes(heading);
+    print_titles(kind);
+    print_rules(kind);
+}
+
+// A heading above no records would say nothing.
+fn print_list(t: &[u8], heading: &[u8], kind: u8)
+    requires { ⌜ Accepted (now t) ⌝ }
+{
+    let count = count_of(t, kind);
+    if count == 0 {
+        return;
+    }
+    print_heading(heading, kind);
+    let mut i: usize = 0;
+    while i < count {
+        print_position(t, kind, i + 1);
+        i += 1;
+    }
+}
+
+pub fn print_people(t: &[u8])
+    requires { ⌜ Accepted (now t) ⌝ }
+{
+    print_heading(b"NBFT Header:\n\n", 0);
+    print_row(t, 0, 0);
+    print_heading(b"\nNBFT Host:\n\n", 2);
+    print_row(t, 2, 0);
+    print_list(t, b"\nNBFT HFIs:\n\n", 3);
+    print_list(t, b"\nNBFT Subsystems:\n\n", 4);
+    print_list(t, b"\nNBFT Security:\n\n", 5);
+    print_list(t, b"\nNBFT Discovery Controllers:\n\n", 6);
+}

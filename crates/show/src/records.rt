@@ -1,0 +1,30 @@
+// Which records there are.
+use crate::values::value_of;
+use reads::fields::field_in;
+ghost use Rattle.reader.specs.Accepted.{Accepted};
+
+// Where the control record has the count of a kind's list.
+fn count_at(kind: u8) -> usize {
+    match kind {
+        3 => 87,
+        4 => 95,
+        5 => 103,
+        _ => 111,
+    }
+}
+
+pub fn count_of(t: &[u8], kind: u8) -> usize
+    requires { ⌜ Accepted (now t) ⌝ }
+{
+    let f = field_in(t, 1, 0, count_at(kind));
+    let b = f.bytes;
+    b[0] as usize
+}
+
+// Each kind has a field at its first byte.
+pub fn is_used(t: &[u8], kind: u8, n: usize) -> bool
+    requires { ⌜ Accepted (now t) ⌝ }
+{
+    let f = field_in(t, kind, n, 0);
+    f.used
+}

@@ -1,0 +1,72 @@
+-- Laws of stores as splices: a run of stores, a copy, one store behind another, and a middle part that was lent. Assumes nothing.
+use mathlib.Core.Path.{_≡_, refl, sym, ap, ap₂, _∙_}
+use mathlib.Core.List.{List, [], _∷_, _++_, append-assoc}
+use Prim.Native.Nat.{ℕ, zero, suc, _+_, _≤_, _<_}
+use native.Mathlib.Numerals.{add-one}
+use native.Mathlib.Omega.{arith}
+use lib.ListN.{length, getD, take, drop, set, replicate, length-append}
+use lib.Seq.{sets-eq, paste, paste-zero, paste-suc, take-length, length-take-le, drop-drop, take-at}
+use Rattle.table.specs.Bytes.{splice}
+use Rattle.laws.specs.ByteLaws.{length-splice, drop-splice}
+
+-- two stores side by side
+pub put-two : (b : List ℕ) (at u v : ℕ) → at + 2 ≤ length b → set (set b at u) (at + 1) v ≡ splice b at (u ∷ v ∷ [])
+put-two b at u v h = rw (add-one at) (sets-eq (u ∷ v ∷ []) b at h ∙ append-assoc (take at b) (u ∷ v ∷ []) (drop (at + 2) b))
+
+-- a splice, and another right behind it
+pub splice-join : (t : List ℕ) (a : ℕ) (xs ys : List ℕ) → a + length xs ≤ length t → splice (splice t a xs) (a + length xs) ys ≡ splice t a (xs ++ ys)
+splice-join t a xs ys h =
+    let f : length (take a t ++ xs) ≡ a + length xs = length-append (take a t) xs ∙ ap (λ (n : ℕ). n + length xs) (length-take-le a t (omega arith)) in
+    let e : take (a + length xs) (splice t a xs) ≡ take a t ++ xs =
+    ap (take (a + length xs)) (sym (append-assoc (take a t) xs (drop (a + length xs) t))) ∙ take-at (take a t ++ xs) (drop (a + length xs) t) (a + length xs) f in
+    let n : a + length xs + length ys ≡ a + length (xs ++ ys) = omega (arith, length-append xs ys) in
+    ap₂ (λ (p q : List ℕ). p ++ (ys ++ q)) e (drop-splice t a xs h (a + length xs + length ys) (omega arith) ∙ ap (λ (m : ℕ). drop m t) n)
+    ∙ append-assoc (take a t) xs (ys ++ drop (a + length (xs ++ ys)) t)
+    ∙ ap (λ (p : List ℕ). take a t ++ p) (sym (append-assoc xs ys (drop (a + length (xs ++ ys)) t)))
+
+-- a copy that is done is a splice
+pub paste-done : (d : List ℕ) (at : ℕ) (s : List ℕ) (n : ℕ) → n ≡ length s → paste d at s n ≡ splice d at s
+paste-done d at s n e = rw (e, take-length) (append-assoc (take at d) s (drop (at + length s) d))
+
+-- a turn of a loop that copies s, the list when it is done
+pub paste-more : (d : List ℕ) (at : ℕ) (s : List ℕ) (i : ℕ) → at + length s ≤ length d → i < length s
+    → set (paste d at s i) (at + i) (getD s i 0) ≡ paste d at s (i + 1)
+paste-more d at s i h k = rw (add-one i) (paste-suc d at s i 0 (omega arith) k)
+
+-- a middle part that was lent comes back at ys
+pub lent : (t : List ℕ) (a k : ℕ) (ys : List ℕ) → length ys ≡ k → take a t ++ (ys ++ drop k (drop a t)) ≡ splice t a ys
+lent t a k ys e = ap (λ (p : List ℕ). take a t ++ (ys ++ p)) (drop-drop k a t ∙ ap (λ (m : ℕ). drop (a + m) t) (sym e))
+
+pub zero-at : (n i : ℕ) → getD {A = ℕ} (replicate n 0) i 0 ≡ 0
+zero-at zero i = refl
+zero-at (suc n) zero = refl
+zero-at (suc n) (suc i) = zero-at n i
+
+pub length-zeros : (n : ℕ) → length {A = ℕ} (replicate n 0) ≡ n
+length-zeros zero = refl
+length-zeros (suc n) = ap suc (length-zeros n)
+
+-- a run of appends, one turn: what stood so far, and one more right behind it
+pub splice-next : (t t₁ t₂ : List ℕ) (a b : ℕ) (xs ys : List ℕ) → a + length xs ≤ length t → b ≡ a + length xs → t₁ ≡ splice t a xs → t₂ ≡ splice t₁ b ys → t₂ ≡ splice t a (xs ++ ys)
+splice-next t t₁ t₂ a b xs ys h k e₁ e₂ = e₂ ∙ ap₂ (λ (x : List ℕ) (m : ℕ). splice x m ys) e₁ k ∙ splice-join t a xs ys h
+
+-- ---- a run of stores, any number of them, each right behind the one before: t is before them, z behind them
+
+abbrev pub concat : List (List ℕ) → List ℕ
+concat [] = []
+concat (p ∷ ps) = p ++ concat ps
+
+abbrev pub Chain : List ℕ → ℕ → List (List ℕ) → List ℕ → Type 0
+Chain t a [] z = z ≡ t
+Chain t a (p ∷ ps) z = (t₁ : List ℕ) × (b : ℕ) × (t₁ ≡ splice t b p) × (b ≡ a) × Chain t₁ (a + length p) ps z
+
+splice-none : (t : List ℕ) (a : ℕ) → t ≡ splice t a []
+splice-none t a = paste-zero t a [] ∙ append-assoc (take a t) [] (drop (a + 0) t)
+
+pub chain-laid : (ps : List (List ℕ)) (t : List ℕ) (a : ℕ) (z : List ℕ) → a + length (concat ps) ≤ length t → Chain t a ps z → z ≡ splice t a (concat ps)
+chain-laid [] t a z h e = e ∙ splice-none t a
+chain-laid (p ∷ ps) t a z h (t₁, b, e, q, r) =
+    let n = length-append p (concat ps) in
+    let e′ : t₁ ≡ splice t a p = e ∙ ap (λ (m : ℕ). splice t m p) q in
+    let l : length t₁ ≡ length t = ap length e′ ∙ length-splice t a p (omega arith) in
+    splice-next t t₁ z a (a + length p) p (concat ps) (omega arith) refl e′ (chain-laid ps t₁ (a + length p) z (omega arith) r)

@@ -1,0 +1,95 @@
+use Rattle.writer.proofs.RecordLaws.{stores-turn}
+use mathlib.Core.Path.{_∙_}
+use Rattle.writer.proofs.RecordLaws.{stores-done}
+use Rattle.writer.specs.Stores.{storesFrom}
+use Rattle.table.specs.Bytes.{apply}
+use native.Mathlib.Nat.{sub-zero}
+use native.Mathlib.Omega.{arith}
+use lib.ListN.{length}
+use Prim.Native.Nat.{_≤_, _-_, _+_, _*_}
+use mathlib.Core.Path.{_≡_, refl}
+use Rattle.table.proofs.Rules.{picks}
+use Rattle.writer.proofs.records.put_refs.Statement.{statement}
+use Rattle.writer.proofs.records.put_refs.Tie as tie
+use Rattle.writer.proofs.records.put_refs.Reads as reads
+use Rattle.writer.proofs.records.put_refs.Lts as lts
+use Rattle.writer.proofs.records.put_slot.Reads as put-slot-reads
+
+abbrev Inv-loop : tie.InvT-loop
+Inv-loop part₀ h t z n u₀ i₀ part u i = (i ≤ n) × (u ≤ 131072 + 131072 * i) × (length part ≡ length part₀) × (apply part (storesFrom (t .at) (z .len) (z .span) u i (n - i)) ≡ apply part₀ (storesFrom (t .at) (z .len) (z .span) h 0 n))
+
+abbrev μ-loop : tie.MeasureT-loop
+μ-loop part₀ h t z n u₀ i₀ part u i = n - i
+
+loop-holds : tie.Need-loop-holds Inv-loop μ-loop
+loop-holds c = (search picks, search picks, refl, rw sub-zero refl)
+
+mul-p : tie.Need-mul-p Inv-loop μ-loop
+mul-p c = search picks
+
+element-copy-out-p : tie.Need-element-copy-out-p Inv-loop μ-loop
+element-copy-out-p c = search picks
+
+mul-len : tie.Need-mul-len Inv-loop μ-loop
+mul-len c = search picks
+
+element-copy-out-len : tie.Need-element-copy-out-len Inv-loop μ-loop
+element-copy-out-len c = search picks
+
+mul-w : tie.Need-mul-w Inv-loop μ-loop
+mul-w c = search picks
+
+element-copy-out-w : tie.Need-element-copy-out-w Inv-loop μ-loop
+element-copy-out-w c = search picks
+
+put-slot-requires : tie.Need-put-slot-requires Inv-loop μ-loop
+put-slot-requires c κs = omega (arith, c .before .before .before .before .before .before .before .pre .0 .room (c .before .before .before .before .before .loop .i) (c .before .before .before .before .loop-test .taken))
+
+add-u : tie.Need-add-u Inv-loop μ-loop
+add-u c = omega (arith, c .before .before .before .before .before .before .before .before .before .before .pre .0 .short (c .before .before .before .before .before .before .before .before .loop .i) (c .before .before .before .before .before .before .before .loop-test .taken), c .before .before .before .before .before .before .before .before .before .before .pre .0 .few)
+
+add-i : tie.Need-add-i Inv-loop μ-loop
+add-i c = search picks
+
+loop-less : tie.Need-loop-less Inv-loop μ-loop
+loop-less c = search picks
+
+loop-again : tie.Need-loop-again Inv-loop μ-loop
+loop-again c =
+    let l = c .before .before .before .before .before .before .before .before .loop in
+    let s = c .before .before .before .before .before .before .before .before .before .before in
+    let a = s .args in
+    let k = c .before .before .before .before .before .before .before .loop-test .taken in
+    let p = c .before .before .put-slot in (
+      search picks,
+      omega (arith, s .pre .0 .short (l .i) k, l .inv .1),
+      search picks,
+      stores-turn (l .part) (p .last .0) (a .t2 .at) (a .t3 .len) (a .t3 .span) (l .u) (l .i) (a .t2 .count) k (p .ensures) ∙ l .inv .3,
+    )
+
+same-length : tie.Need-same-length Inv-loop μ-loop
+same-length c = search picks
+
+returns : tie.Need-returns Inv-loop μ-loop
+returns c = let l = c .before .loop in let a = c .before .before .before .args in cc (stores-done (l .part) (a .t2 .at) (a .t3 .len) (a .t3 .span) (l .u) (l .i) (a .t2 .count) (c .loop-test .left))
+
+pub put-refs-spec : {M : Type 1} → statement M
+put-refs-spec =
+    tie.close
+    (tie.spec
+    Inv-loop
+    μ-loop
+    loop-holds
+    mul-p
+    element-copy-out-p
+    mul-len
+    element-copy-out-len
+    mul-w
+    element-copy-out-w
+    put-slot-requires
+    add-u
+    add-i
+    loop-less
+    loop-again
+    same-length
+    returns)

@@ -1,0 +1,35 @@
+use Rattle.writer.proofs.StoreLaws.{put-two}
+use lib.ListN.{length-set}
+use Rattle.table.proofs.Rules.{picks}
+use borrow.Author.Needs.{needs}
+use Rattle.writer.proofs.stores.put_u16.Statement.{statement}
+use Rattle.writer.proofs.stores.put_u16.Tie as tie
+use Rattle.writer.proofs.stores.put_u16.Reads as reads
+use Rattle.writer.proofs.stores.put_u16.Lts as lts
+use Rattle.writer.proofs.stores.low.Reads as low-reads
+
+low-requires : tie.Need-low-requires
+low-requires c κs = search needs
+
+slice-write-b : tie.Need-slice-write-b
+slice-write-b c = search needs
+
+low-requires-2 : tie.Need-low-requires-2
+low-requires-2 c κs = search needs
+
+add-b : tie.Need-add-b
+add-b c = search needs
+
+slice-write-b-2 : tie.Need-slice-write-b-2
+slice-write-b-2 c = simp length-set (search picks)
+
+same-length : tie.Need-same-length
+same-length c = search needs
+
+returns : tie.Need-returns
+returns c = let a = c .before .before .before .args in cc (put-two (a .b .now) (a .at) (c .before .low .result) (c .low2 .result) (c .before .before .before .pre))
+
+pub put-u16-spec : {M : Type 1} → statement M
+put-u16-spec =
+    tie.close
+    (tie.spec low-requires slice-write-b low-requires-2 add-b slice-write-b-2 same-length returns)
