@@ -1,5 +1,4 @@
 // What a table says, for people and as JSON. Both print the same columns of an accepted table.
-use table::Answer;
 
 pub mod cells; // a column's cell at a position
 pub mod columns; // what is shown, and how

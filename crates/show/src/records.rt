@@ -1,5 +1,4 @@
 // Which records there are.
-use crate::values::value_of;
 use reads::fields::field_in;
 ghost use Rattle.reader.specs.Accepted.{Accepted};
 
