@@ -3,10 +3,10 @@ use mathlib.Core.Path.{_≡_, refl, sym, ap, ap₂, _∙_}
 use mathlib.Core.Bool.{Bool, true, false}
 use mathlib.Core.List.{List, [], _∷_, _++_}
 use Prim.Native.Nat.{ℕ, zero, suc, _+_, _-_, _*_, _≤_, _<_}
-use native.Mathlib.Nat.{not-suc-le-zero, le-of-suc-le-suc, zero-add}
+use native.Mathlib.Nat.{zero-add}
 use native.Mathlib.Omega.{arith}
-use lib.ListN.{length, getD, take, drop, replicate, length-append, length-replicate, getD-replicate}
-use lib.Seq.{ext-getD, getD-take, getD-drop}
+use lib.ListN.{length, getD, take, drop, replicate, length-append, length-replicate, getD-replicate, List·getD-append}
+use lib.Seq.{ext-getD, getD-take, getD-drop, take-append-seam}
 use lib.Dec.{T, eqb, ltb, ltb→lt, lit≤}
 use borrow.Author.Tests.{eqb-true, le-leb, lt-ltb}
 use Rattle.table.specs.declared.Need.{Need}
@@ -30,22 +30,13 @@ use Rattle.reads.specs.Told.{imageOf, innerKind, toldNest, toldSlots, to
 
 -- ---- the bytes of an image
 
-take-front : (xs ys : List ℕ) → take (length xs) (xs ++ ys) ≡ xs
-take-front [] ys = refl
-take-front (x ∷ xs) ys = ap (λ (r : List ℕ). x ∷ r) (take-front xs ys)
-
-getD-front : (xs ys : List ℕ) (i : ℕ) → i < length xs → getD (xs ++ ys) i 0 ≡ getD xs i 0
-getD-front [] ys i h = absurd (not-suc-le-zero h)
-getD-front (x ∷ xs) ys zero h = refl
-getD-front (x ∷ xs) ys (suc i) h = getD-front xs ys i (le-of-suc-le-suc h)
-
 length-padded : (xs : List ℕ) → length xs ≤ 128 → length (padded 128 xs) ≡ 128
 length-padded xs h = simp (length-append, length-replicate) (omega arith)
 
 image-front : (l : Layout) (t : List ℕ) (a : ℕ) → take (baseOf l) (padded 128 (image (l .shape .keep) (drop a t))) ≡ image (l .shape .keep) (drop a t)
 image-front l t a =
     let x = image (l .shape .keep) (drop a t) in
-    ap (λ (n : ℕ). take n (padded 128 x)) (sym (length-image (l .shape .keep) (drop a t))) ∙ take-front x (replicate (128 - length x) 0)
+    ap (λ (n : ℕ). take n (padded 128 x)) (sym (length-image (l .shape .keep) (drop a t))) ∙ take-append-seam x (replicate (128 - length x) 0)
 
 -- ---- objects
 
@@ -237,7 +228,7 @@ module _ (t : List ℕ) (b : Bytes t) (ok : Accepted t) where
   -- a byte of the header's or the control record's image
   front-byte : (l : Layout) (q : ℕ) → T (ltb q (baseOf l)) → getD (l .shape .keep) q (low 1) ≡ low 256 → getD (padded 128 (image (l .shape .keep) (drop 0 t))) q 0 ≡ getD t q 0
   front-byte l q h e =
-      getD-front (image (l .shape .keep) (drop 0 t)) (replicate (128 - length (image (l .shape .keep) (drop 0 t))) 0) q (rw (length-image (l .shape .keep) (drop 0 t)) (ltb→lt q (baseOf l) h))
+      List·getD-append (image (l .shape .keep) (drop 0 t)) (replicate (128 - length (image (l .shape .keep) (drop 0 t))) 0) 0 q (rw (length-image (l .shape .keep) (drop 0 t)) (ltb→lt q (baseOf l) h))
       ∙ whole (l .shape .keep) t 0 q h e (b (0 + q))
       ∙ ap (λ (i : ℕ). getD t i 0) (zero-add q)
 

@@ -1,8 +1,8 @@
-use Rattle.writer.proofs.StoreLaws.{zero-at, length-zeros}
+use Rattle.writer.proofs.StoreLaws.{zero-at}
 use native.Mathlib.Omega.{arith}
 use Rattle.writer.proofs.StoreLaws.{paste-more, paste-done}
 use lib.Seq.{paste, paste-zero}
-use lib.ListN.{length, length-set, replicate}
+use lib.ListN.{length, length-set, replicate, length-replicate}
 use Prim.Native.Nat.{_≤_, _-_}
 use mathlib.Core.Path.{_≡_, refl}
 use Rattle.table.proofs.Rules.{picks}
@@ -37,7 +37,7 @@ loop-again c =
     let s = c .before .before in
     let a = s .args in (
       search picks,
-      cc (paste-more (a .out .now) (a .at) (replicate (a .n) 0) (c .before .loop .i) (rw length-zeros (s .pre)) (rw length-zeros (c .loop-test .taken)), zero-at (a .n) (c .before .loop .i)),
+      cc (paste-more (a .out .now) (a .at) (replicate (a .n) 0) (c .before .loop .i) (rw length-replicate (s .pre)) (rw length-replicate (c .loop-test .taken)), zero-at (a .n) (c .before .loop .i)),
       simp length-set (search picks),
     )
 
@@ -45,7 +45,7 @@ same-length : tie.Need-same-length Inv-loop μ-loop
 same-length c = search picks
 
 returns : tie.Need-returns Inv-loop μ-loop
-returns c = let a = c .before .before .args in cc (paste-done (a .out .now) (a .at) (replicate (a .n) 0) (c .before .loop .i) (rw length-zeros (omega arith)))
+returns c = let a = c .before .before .args in cc (paste-done (a .out .now) (a .at) (replicate (a .n) 0) (c .before .loop .i) (rw length-replicate (omega arith)))
 
 pub fill-zero-spec : {M : Type 1} → statement M
 fill-zero-spec =
