@@ -167,7 +167,7 @@ pub fn print_flag(set: bool, json: bool, width: usize) {
 // An address, where the object is one.
 pub fn print_address(x: &[u8], json: bool, width: usize) {
     if x.len() == 16 {
-        print_text(text::address(x), json, width);
+        print_text(addresses::address(x), json, width);
         return;
     }
     print_string(x, json, width);

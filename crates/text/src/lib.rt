@@ -1,13 +1,10 @@
 // What the tools print, made whole before anything is written, since a contract can say what bytes are and
 // not what is written. A text goes in by value and comes back longer.
-pub mod addresses; // Internet addresses
 pub mod append; // the text, and one byte, a string or a text more
 pub mod decimals; // numbers
 pub mod escapes; // bytes of unknown meaning
 pub mod hexadecimal; // bytes, interfaces and functions of devices
-pub mod words; // what an answer means
 
-pub use addresses::address;
 pub use append::Text;
 pub use decimals::decimal;
 pub use decimals::numbers_line;
@@ -16,6 +13,3 @@ pub use escapes::json_escaped;
 pub use hexadecimal::hex_byte;
 pub use hexadecimal::mac;
 pub use hexadecimal::pci;
-pub use words::fault_line;
-pub use words::kind_words;
-pub use words::meaning_words;

@@ -7,7 +7,7 @@ ghost use mathlib.Core.Path.{_≡_};
 ghost use lib.ListN.{take};
 ghost use Rattle.io.specs.Counts.{Counts};
 ghost use Rattle.text.specs.Numerals.{numbersLine};
-ghost use Rattle.text.specs.Words.{faultLine};
+ghost use Rattle.words.specs.Words.{faultLine};
 
 // A table has at most 65,536 bytes, and a file may go on behind its table.
 pub const MOST: usize = 70000;
@@ -106,7 +106,7 @@ pub fn answer_line(a: Answer) -> Text
 pub fn answer_words(a: Answer) -> Text
     ensures { λ r. ⌜ Counts (r .len) (r .bytes) × (take (r .len) (r .bytes) ≡ faultLine (a .number) (a .kind) (a .position)) ⌝ }
 {
-    text::fault_line(a.number, a.kind, a.position as u64)
+    words::fault_line(a.number, a.kind, a.position as u64)
 }
 
 // Two lines: the numbers for programs, the words for people.
