@@ -5,9 +5,13 @@ use Prim.Native.Nat.{ℕ, zero, suc, _+_, _≤_, _<_}
 use native.Mathlib.Numerals.{add-one}
 use native.Mathlib.Omega.{arith}
 use lib.ListN.{length, getD, take, drop, set, replicate, length-append}
-use lib.Seq.{sets-eq, paste, paste-zero, paste-suc, take-length, length-take-le, drop-drop, take-at}
+use lib.Seq.{set-split, sets-eq, paste, paste-zero, paste-suc, take-length, length-take-le, drop-drop, take-at}
 use Rattle.table.specs.Bytes.{splice}
 use Rattle.laws.specs.ByteLaws.{length-splice, drop-splice}
+
+-- one store
+pub put-one : (b : List ℕ) (at x : ℕ) → at < length b → set b at x ≡ splice b at (x ∷ [])
+put-one b at x h = rw (add-one at) (set-split b at x h)
 
 -- two stores side by side
 pub put-two : (b : List ℕ) (at u v : ℕ) → at + 2 ≤ length b → set (set b at u) (at + 1) v ≡ splice b at (u ∷ v ∷ [])

@@ -1,3 +1,4 @@
-// Writing: numbers, references, copies and zeros into lent bytes, and a record into its own part.
+// Writing: numbers, references, copies and zeros into lent bytes, and header, control record and records into their own parts.
+pub mod front; // header and control record
 pub mod records; // a record: its image and its references
 pub mod stores; // numbers, references, copies, zeros

@@ -1,5 +1,6 @@
 // Stores into lent bytes: each contract says that the bytes are as before but for one part.
 ghost use mathlib.Core.Path.{_≡_};
+ghost use mathlib.Core.List.{[], _∷_};
 ghost use Prim.Native.Nat.{_+_, _%_, _≤_, _<_};
 ghost use lib.ListN.{length, replicate};
 ghost use Rattle.table.specs.Bytes.{le, splice};
@@ -10,6 +11,13 @@ pub fn low(x: usize) -> u8
     ensures { λ r. ⌜ r ≡ x % 256 ⌝ }
 {
     (x % 256) as u8
+}
+
+pub fn put_u8(b: &mut [u8], at: usize, x: u8)
+    requires { ⌜ at + 1 ≤ length (now b) ⌝ }
+    ensures { λ r. ⌜ now (b .exit) ≡ splice (now (b .entry)) at (x ∷ []) ⌝ }
+{
+    b[at] = x;
 }
 
 pub fn put_u16(b: &mut [u8], at: usize, x: usize)
