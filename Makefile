@@ -1,10 +1,10 @@
 # Wickgarland: a verified library for the NVMe boot firmware table (NBFT).
 #
-#   make run      check a sample table, and show what it says
+#   make run      check a sample table, show what it says, and rewrite it
 #   make test     every test: the second program, its vectors, the library beside it, and all proofs
 #   make library  the static library, target/staticlib/libnbft.a (include/nbft.h declares its functions)
 #   make soak     the library beside the second program on a million tables, and between closed pages
-#   make bench    time of a check, beside the second program's and a bare byte sum's
+#   make bench    time of a check and of a rewrite, beside the second program's and a bare byte sum's
 #   make vectors  write the vectors, sample tables and cases anew
 #   make clean    remove what the others made
 
@@ -30,11 +30,14 @@ BENCH   := bench/target/$(X86)/release/bench
 
 # The programs are proved, then compiled: the first run takes some minutes.
 run:
-	rt check nbft_check nbft_show
+	rt check nbft_check nbft_show nbft_rewrite
 	@echo "nbft_check samples/machine.nbft: number, kind and position, and what they mean"
 	@$(BIN)/nbft_check samples/machine.nbft
 	@echo "nbft_show samples/machine.nbft"
 	@$(BIN)/nbft_show samples/machine.nbft
+	@echo "nbft_rewrite samples/machine.nbft target/machine.form: its one form, which says the same"
+	@$(BIN)/nbft_rewrite samples/machine.nbft target/machine.form
+	@$(BIN)/nbft_rewrite --same samples/machine.nbft target/machine.form
 
 # The last step is the proofs: its last line is 'N passed, M failed'.
 test: second linked
@@ -44,15 +47,19 @@ test: second linked
 	$(SECOND) cases check $(CASES)
 	$(LINKED) compare 40000 1
 	$(LINKED) reads 400 2
+	$(LINKED) rewrite 6000 3
 	rt fmt --check
 	rt ci
 
+# `rt staticlib` proves one crate after the other; `rt check` before it proves several at a time.
 library:
+	rt check nbft
 	rt staticlib nbft
 
 soak: linked
 	$(LINKED) compare 1000000 2026
 	$(LINKED) reads 10000 2028
+	$(LINKED) rewrite 100000 2029
 	$(LINKED) guard 200000 2027
 
 bench: linked

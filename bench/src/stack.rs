@@ -1,4 +1,4 @@
-//! How deep a check reaches into the stack: bytes below the caller are given
+//! How deep a call reaches into the stack: bytes below the caller are given
 //! a pattern, and those that lost it are counted.
 
 use std::arch::asm;
@@ -15,9 +15,9 @@ fn stack_pointer() -> *mut u8 {
     pointer
 }
 
-/// The deepest byte below this call that a check of the table wrote, as a distance.
+/// The deepest byte below this one that the call wrote, as a distance.
 #[inline(never)]
-pub fn depth(table: &[u8]) -> usize {
+pub fn depth<T>(call: impl FnOnce() -> T) -> usize {
     let top = stack_pointer();
     // SAFETY: the bytes below the red zone belong to no live call; volatile
     // writes and reads keep them in order around the call between them.
@@ -25,7 +25,7 @@ pub fn depth(table: &[u8]) -> usize {
         for below in RED_ZONE..PAINTED {
             top.sub(below).write_volatile(PATTERN);
         }
-        linked::check(table);
+        call();
         (RED_ZONE..PAINTED)
             .rev()
             .find(|below| top.sub(*below).read_volatile() != PATTERN)

@@ -3,22 +3,21 @@ use mathlib.Core.Path.{_≡_, refl, sym, ap, ap₂, subst, _∙_}
 use mathlib.Core.Bool.{Bool, true, false, not, _&&_}
 use mathlib.Core.List.{List, [], _∷_, _++_}
 use Prim.Native.Nat.{ℕ, zero, suc, _+_, _-_, _*_, _/_, _%_, _^_, _≤_, _<_}
-use native.Mathlib.Nat.{not-suc-le-zero}
 use native.Mathlib.Numerals.{add-one}
 use native.Mathlib.Omega.{arith}
 use lib.Bits.{bitAnd, and-mask}
-use lib.Dec.{T, eqb, ltb, eqb→eq, ltb→lt}
-use lib.ListN.{length, getD, take, drop, replicate, set, length-take, length-drop}
+use lib.Dec.{T, eqb, ltb, eqb→eq}
+use lib.ListN.{length, getD, take, drop, replicate, set, length-take, length-drop, List·getD-append}
 use lib.Seq.{take-suc, drop-cons, append-snoc, set-at, length-take-le, take-length, getD-drop, getD-take}
 use mir.Facts.{and-yes}
-use borrow.Author.Tests.{eqb-true, eqb-false}
+use borrow.Author.Tests.{eqb-true, ltb-true, ltb-false}
 use Rattle.table.specs.Bytes.{pick, part, padded}
 use Rattle.table.specs.Layout.{Keep, low, sel, modOf, baseOf, Layout}
 use Rattle.table.specs.FixedLayouts.{layoutOf, header, control, host, hfi, ssns, security, discovery, info, extended, noKind}
 use Rattle.laws.specs.Lawful.{allKeep}
 use Rattle.laws.specs.ImageLaws.{all-at, image-at}
 use Rattle.laws.specs.Fields.{imageIn}
-use Rattle.images.specs.Masks.{maskOf, masksOf, switchOf, switched, onIn, grid, rowOf, over}
+use Rattle.images.specs.Masks.{maskOf, masksOf, switchOf, switched, onIn, eights, rowsOf, over}
 
 -- ---- a law over the kind numbers
 
@@ -56,42 +55,6 @@ by-kind P p0 p1 p2 p3 p4 p5 p6 p7 p9 p k =
     λ n6. at-kind P k 7 p7
     λ n7. at-kind P k 9 p9
     λ n9. p k (record { not0 = n0; not1 = n1; not2 = n2; not3 = n3; not4 = n4; not5 = n5; not6 = n6; not7 = n7; not9 = n9 })
-
--- ---- the masks that the code looks up
-
-abbrev maskIn : ℕ → Bool → ℕ → ℕ
-maskIn k more i = getD (getD grid (rowOf k more + i / 8) []) (i % 8) 0
-
-abbrev lookedUp : ℕ → Bool → ℕ → Bool
-lookedUp k more i = ltb (rowOf k more + i / 8) 111 && eqb (maskIn k more i) (getD (masksOf more (layoutOf k .shape .keep)) i 0)
-
-abbrev allBelow : (ℕ → Bool) → ℕ → Bool
-allBelow f zero = true
-allBelow f (suc n) = f n && allBelow f n
-
-all-below : (f : ℕ → Bool) (n : ℕ) → T (allBelow f n) → (i : ℕ) → i < n → T (f i)
-all-below f zero t i h = absurd (not-suc-le-zero h)
-all-below f (suc n) t i h = go (eqb i n) refl (λ l. all-below f n (and-yes (f n) (allBelow f n) t .1) i l) where
-  go : (c : Bool) → eqb i n ≡ c → (i < n → T (f i)) → T (f i)
-  go true e r = subst (λ (j : ℕ). T (f j)) (sym (eqb-true i n e)) (and-yes (f n) (allBelow f n) t .0)
-  go false e r = r (omega (arith, eqb-false i n e))
-
-masks-none : (more : Bool) (k : ℕ) → layoutOf k ≡ noKind → T (allBelow (lookedUp k more) (baseOf (layoutOf k)))
-unfolding noKind
-masks-none more k e = subst (λ (l : Layout). T (allBelow (lookedUp k more) (baseOf l))) (sym e) tt
-
-masks-right : (more : Bool) (k : ℕ) → T (allBelow (lookedUp k more) (baseOf (layoutOf k)))
-unfolding grid rowOf layoutOf header control host hfi ssns security discovery info extended
-masks-right false = by-kind (λ k. T (allBelow (lookedUp k false) (baseOf (layoutOf k)))) tt tt tt tt tt tt tt tt tt (λ k o. masks-none false k (other-layout k o))
-masks-right true = by-kind (λ k. T (allBelow (lookedUp k true) (baseOf (layoutOf k)))) tt tt tt tt tt tt tt tt tt (λ k o. masks-none true k (other-layout k o))
-
-pub row-fits : (k : ℕ) (more : Bool) (i : ℕ) → i < baseOf (layoutOf k) → rowOf k more + i / 8 < 111
-row-fits k more i h =
-    ltb→lt (rowOf k more + i / 8) 111 (and-yes (ltb (rowOf k more + i / 8) 111) _ (all-below (lookedUp k more) (baseOf (layoutOf k)) (masks-right more k) i h) .0)
-
-mask-is : (k : ℕ) (more : Bool) (i : ℕ) → i < baseOf (layoutOf k) → maskIn k more i ≡ getD (masksOf more (layoutOf k .shape .keep)) i 0
-mask-is k more i h =
-    eqb→eq _ _ (and-yes (ltb (rowOf k more + i / 8) 111) _ (all-below (lookedUp k more) (baseOf (layoutOf k)) (masks-right more k) i h) .1)
 
 -- ---- a masked byte is an image's
 
@@ -148,14 +111,38 @@ masked-by k t a b (sel f d m₀ m₁) m =
     go true y z = and-power b m₀ y
     go false y z = and-power b m₁ z
 
+length-masks : (more : Bool) (ks : List Keep) → length (masksOf more ks) ≡ length ks
+length-masks more [] = refl
+length-masks more (k ∷ ks) = ap suc (length-masks more ks)
+
+-- an element of rows of eight
+eights-at : (n : ℕ) (xs : List ℕ) (i : ℕ) → i < 8 * n → getD (getD (eights n xs) (i / 8) []) (i % 8) 0 ≡ getD xs i 0
+eights-at zero xs i h = absurd (omega arith)
+eights-at (suc n) xs i h = go (ltb i 8) refl (λ l. eights-at n (drop 8 xs) (i - 8) l) where
+  go : (c : Bool) → ltb i 8 ≡ c → (i - 8 < 8 * n → getD (getD (eights n (drop 8 xs)) ((i - 8) / 8) []) ((i - 8) % 8) 0 ≡ getD (drop 8 xs) (i - 8) 0)
+      → getD (getD (eights (suc n) xs) (i / 8) []) (i % 8) 0 ≡ getD xs i 0
+  go true e r =
+      let l : i < 8 = ltb-true i 8 e in
+      let d : i / 8 ≡ 0 = omega arith in
+      let m : i % 8 ≡ i = omega arith in
+      rw (d, m) (getD-take 8 xs i 0 l)
+  go false e r =
+      let l : 8 ≤ i = ltb-false i 8 e in
+      let d : i / 8 ≡ suc ((i - 8) / 8) = omega arith in
+      let m : i % 8 ≡ (i - 8) % 8 = omega arith in
+      let w : 8 + (i - 8) ≡ i = omega arith in
+      rw (d, m) (r (omega arith) ∙ getD-drop 8 xs (i - 8) 0 ∙ ap (λ (j : ℕ). getD xs j 0) w)
+
 -- byte i of the image of the record of kind k at a
-pub masked-byte : (k : ℕ) (t : List ℕ) (a i : ℕ) → i < baseOf (layoutOf k)
-    → bitAnd (getD t (a + i) 0) (getD (getD grid (rowOf k (onIn k t a) + i / 8) []) (i % 8) 0) ≡ getD (imageIn (layoutOf k) t a) i 0
-unfolding imageIn
-masked-byte k t a i h =
+pub masked-byte : (k : ℕ) (t : List ℕ) (a i : ℕ) → i < baseOf (layoutOf k) → i < 128
+    → bitAnd (getD t (a + i) 0) (getD (getD (rowsOf k (onIn k t a)) (i / 8) []) (i % 8) 0) ≡ getD (imageIn (layoutOf k) t a) i 0
+unfolding imageIn rowsOf
+masked-byte k t a i h b =
     let ks = layoutOf k .shape .keep in
+    let ms = masksOf (onIn k t a) ks in
     let p = getD ks i (low 1) in
-    ap (bitAnd (getD t (a + i) 0)) (mask-is k (onIn k t a) i h ∙ mask-at (onIn k t a) ks i)
+    ap (bitAnd (getD t (a + i) 0))
+    (eights-at 16 (padded 128 ms) i (omega arith) ∙ List·getD-append ms (replicate (128 - length ms) 0) 0 i (rw (length-masks (onIn k t a) ks) h) ∙ mask-at (onIn k t a) ks i)
     ∙ masked-by k t a (getD t (a + i) 0) p (all-at (maskable k) ks (maskables k) i h)
     ∙ sym (image-at ks (drop a t) i h ∙ ap (λ (x : ℕ). x % modOf p (drop a t)) (getD-drop a t i 0))
 

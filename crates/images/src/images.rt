@@ -1,23 +1,13 @@
 // Images by value, filled up with zeros: of a whole record, and of one field.
 use crate::masks::counts_more;
-use crate::masks::mask_at;
-use crate::masks::row_of;
+use crate::masks::masks_of;
 ghost use mathlib.Core.Path.{_≡_};
-ghost use Prim.Native.Nat.{_+_, _≤_, _<_};
-ghost use lib.ListN.{length, getD};
+ghost use Prim.Native.Nat.{_+_, _≤_};
+ghost use lib.ListN.{length};
 ghost use Rattle.table.specs.Bytes.{part, padded};
 ghost use Rattle.table.specs.Layout.{baseOf};
 ghost use Rattle.table.specs.FixedLayouts.{layoutOf};
 ghost use Rattle.laws.specs.Fields.{imageIn};
-ghost use Rattle.images.specs.Masks.{rowOf, onIn};
-
-// Byte `i` of the image of the record at `a`, whose masks start at a row.
-fn kept_byte(t: &[u8], kind: u8, a: usize, row: usize, i: usize) -> u8
-    requires { ⌜ (a + baseOf (layoutOf kind) ≤ length (now t)) × (i < baseOf (layoutOf kind)) × (row ≡ rowOf kind (onIn kind (now t) a)) ⌝ }
-    ensures { λ r. ⌜ r ≡ getD (imageIn (layoutOf kind) (now (t .entry)) a) i 0 ⌝ }
-{
-    t[a + i] & mask_at(row, i)
-}
 
 // The image of the record of a kind at `a`.
 pub fn image_at(t: &[u8], kind: u8, a: usize) -> [u8; 128]
@@ -25,11 +15,11 @@ pub fn image_at(t: &[u8], kind: u8, a: usize) -> [u8; 128]
     ensures { λ r. ⌜ r ≡ padded 128 (imageIn (layoutOf kind) (now (t .entry)) a) ⌝ }
 {
     let mut out = [0u8; 128];
-    let row = row_of(kind, counts_more(t, kind, a));
+    let masks = masks_of(kind, counts_more(t, kind, a));
     let n = table::base_size(kind);
     let mut i: usize = 0;
     while i < n {
-        out[i] = kept_byte(t, kind, a, row, i);
+        out[i] = t[a + i] & masks[i / 8][i % 8];
         i += 1;
     }
     out
@@ -41,10 +31,11 @@ pub fn field_at(t: &[u8], kind: u8, a: usize, off: usize, width: usize) -> [u8; 
     ensures { λ r. ⌜ r ≡ padded 16 (part (imageIn (layoutOf kind) (now (t .entry)) a) off width) ⌝ }
 {
     let mut out = [0u8; 16];
-    let row = row_of(kind, counts_more(t, kind, a));
+    let masks = masks_of(kind, counts_more(t, kind, a));
     let mut i: usize = 0;
     while i < width {
-        out[i] = kept_byte(t, kind, a, row, off + i);
+        let j = off + i;
+        out[i] = t[a + j] & masks[j / 8][j % 8];
         i += 1;
     }
     out

@@ -1,28 +1,28 @@
 -- What reads give fits the numbers that are handed to C. Assumes nothing.
-use mathlib.Core.Path.{_≡_, refl, ap, _∙_}
+use mathlib.Core.Path.{_≡_, refl, sym, ap, subst, _∙_}
 use mathlib.Core.Bool.{Bool, true, false}
-use mathlib.Core.List.{List}
-use Prim.Native.Nat.{ℕ, _+_, _<_}
+use mathlib.Core.List.{List, [], _∷_}
+use Prim.Native.Nat.{ℕ, _≤_, _<_}
 use native.Mathlib.Omega.{arith}
-use lib.Dec.{eqb, lit<}
-use borrow.Author.Tests.{eqb-true, eqb-false}
+use lib.Dec.{eqb, leb, lit<, lit≤}
+use borrow.Author.Tests.{eqb-true, eqb-false, leb-true}
+use Rattle.table.specs.declared.Answer.{Answer}
 use Rattle.table.specs.declared.Field.{Field}
-use Rattle.table.specs.declared.Place.{Place}
-use Rattle.table.specs.declared.Need.{Need}
-use Rattle.table.specs.declared.Need.the-variants.{Ignored, Optional, Required}
-use Rattle.table.specs.Bytes.{pick, num, part, padded}
+use Rattle.table.specs.Bytes.{pick, part, padded}
 use Rattle.table.specs.Layout.{Layout}
 use Rattle.table.specs.FixedLayouts.{layoutOf}
-use Rattle.table.specs.Objects.{under}
-use Rattle.table.specs.Rules.{answer, done}
+use Rattle.table.specs.Rules.{answer, done, test, firstFail}
+use Rattle.table.specs.Meaning.{limit, meaning, formLength}
+use Rattle.table.specs.Rewriting.{rewriteAnswer, rewrite}
 use Rattle.table.specs.Numbers.{check}
-use Rattle.table.specs.Reads.{Seat, nowhere, seat, seatOf, widthAt, hasPlain, needAt, shown, refusedField, fieldAt, readField, noPlace, refPlace, placeAt, readPlace}
+use Rattle.table.specs.Reads.{Seat, nowhere, seat, seatOf, widthAt, shown, refusedField, fieldAt, readField, readPlace}
 use Rattle.laws.specs.Fields.{Bytes}
 use Rattle.laws.specs.Positions.{check-placed}
-use Rattle.wire.proofs.Laws.{num2, num4}
-use Rattle.reads.proofs.SeatLaws.{Good, seats-good}
+use Rattle.reads.specs.Seats.{Good}
+use Rattle.reads.proofs.SeatLaws.{seats-good}
 use Rattle.reads.proofs.ReadLaws.{width-fits}
-use Rattle.reads.proofs.ObjectLaws.{accepted}
+use Rattle.rewriter.proofs.AnswerLaws.{read-passed, read-refused}
+use Rattle.reads.proofs.ObjectLaws.{accepted, PlaceFits, one-fits, seat-place}
 
 -- ---- fields
 
@@ -49,37 +49,31 @@ field-fits t b k n q = go (eqb (check t .number) 0) refl where
 
 -- ---- objects
 
-num2-small : (t : List ℕ) → Bytes t → (a : ℕ) → num t a 2 < 65536
-num2-small t b a = omega (arith, num2 t a, b a, b (a + 1))
-
-num4-small : (t : List ℕ) → Bytes t → (a : ℕ) → num t a 4 < 4294967296
-num4-small t b a = omega (arith, num4 t a, num2-small t b a, num2-small t b (a + 2))
-
-abbrev pub PlaceFits : Place → Type 0
-PlaceFits p = (p .answer .position < 256) × (p .len < 65536) × (p .at < 4294967296)
-
-one-fits : (c : Bool) (x y : Place) → PlaceFits x → PlaceFits y → PlaceFits (pick c x y)
-one-fits true x y p q = p
-one-fits false x y p q = q
-
-under-fits : (n : Need) (x y : Place) → PlaceFits x → PlaceFits y → PlaceFits (under n x y)
-under-fits Ignored x y p q = p
-under-fits Optional x y p q = q
-under-fits Required x y p q = q
-
-abbrev nonePlace : PlaceFits (noPlace done)
-nonePlace = (lit< tt, lit< tt, lit< tt)
-
-seat-place : (t : List ℕ) → Bytes t → (q : ℕ) (s : Seat) → PlaceFits (placeAt t q s)
-seat-place t b q nowhere = nonePlace
-seat-place t b q (seat l a on) =
-    one-fits (hasPlain q (l .refs)) _ _
-    (one-fits on _ _
-    (under-fits (needAt q (l .refs) (shown t l a on)) (noPlace done) (refPlace t (a + q)) nonePlace
-    (one-fits (eqb (num t (a + q + 4) 2) 0) _ _ nonePlace (lit< tt, num2-small t b (a + q + 4), num4-small t b (a + q))))
-    nonePlace)
-    nonePlace
-
 pub place-fits : (t : List ℕ) → Bytes t → (k n q : ℕ) → PlaceFits (readPlace t k n q)
 unfolding readPlace
 place-fits t b k n q = one-fits (eqb (check t .number) 0) _ _ (seat-place t b q (seatOf t k n)) (check-placed t b, lit< tt, lit< tt)
+
+-- ---- rewrites
+
+abbrev RewriteFits : Answer → ℕ → Type 0
+RewriteFits a n = (a .position < 256) × (pick (eqb (a .number) 0) n 0 ≤ 65536)
+
+room-fits : (n room : ℕ) → RewriteFits (firstFail (test (leb n limit) 17 0 0 ∷ test (leb n room) 14 0 0 ∷ [])) n
+unfolding limit
+room-fits n room = go (leb n 65536) (leb n room) refl where
+  go : (c d : Bool) → leb n 65536 ≡ c → RewriteFits (firstFail (test c 17 0 0 ∷ test d 14 0 0 ∷ [])) n
+  go true true e = (lit< tt, leb-true n 65536 e)
+  go true false e = (lit< tt, lit≤ tt)
+  go false d e = (lit< tt, lit≤ tt)
+
+pub rewrite-fits : (t : List ℕ) → Bytes t → (room : ℕ) → (rewrite t room .answer .position < 256) × (rewrite t room .len ≤ 65536)
+unfolding rewrite
+rewrite-fits t b room = go (eqb (check t .number) 0) refl where
+  n : ℕ
+  n = formLength (meaning t)
+
+  go : (c : Bool) → eqb (check t .number) 0 ≡ c → RewriteFits (rewriteAnswer t room) n
+  go true e = subst (λ (a : Answer). RewriteFits a n) (sym (read-passed t room (check t) refl (eqb-true (check t .number) 0 e))) (room-fits n room)
+  go false e =
+      let z = eqb-false (check t .number) 0 e in
+      subst (λ (a : Answer). RewriteFits a n) (sym (read-refused t room (check t) refl z)) (check-placed t b, rw e (lit≤ tt))

@@ -1,10 +1,11 @@
--- Answers, fields and places as numbers, for callers in C. Definitions only.
+-- Answers, fields, places and rewrites as numbers, for callers in C. Definitions only.
 use mathlib.Core.List.{List}
 use Prim.Native.Nat.{ℕ, _+_, _*_, _^_}
 use lib.Dec.{eqb}
 use Rattle.table.specs.declared.Answer.{Answer}
 use Rattle.table.specs.declared.Field.{Field}
 use Rattle.table.specs.declared.Place.{Place}
+use Rattle.table.specs.declared.Rewritten.{Rewritten}
 use Rattle.table.specs.Bytes.{pick}
 
 -- 32 bits: the number in bits 0 to 7, the kind in bits 8 to 15, the position above
@@ -22,3 +23,7 @@ valueAfter f before = pick (eqb (f .answer .number) 0) (f .bytes) before
 -- 64 bits: the answer, from bit 32 on the object's length
 unfoldable pub packedPlace : Place → ℕ
 packedPlace p = packed (p .answer) + 2 ^ 32 * p .len
+
+-- 64 bits: the answer, from bit 32 on the form's length
+unfoldable pub packedRewritten : Rewritten → ℕ
+packedRewritten r = packed (r .answer) + 2 ^ 32 * r .len

@@ -2,13 +2,16 @@
 use table::Answer;
 use table::Field;
 use table::Place;
+use table::Rewritten;
 ghost use mathlib.Core.Path.{_≡_};
-ghost use Prim.Native.Nat.{_<_};
+ghost use Prim.Native.Nat.{_<_, _≤_};
+ghost use lib.ListN.{length};
 ghost use lib.Dec.{eqb};
 ghost use Rattle.table.specs.Bytes.{pick};
 ghost use Rattle.table.specs.Numbers.{check};
 ghost use Rattle.table.specs.Reads.{readField, readPlace};
-ghost use Rattle.nbft.specs.Packed.{packed, packedField, packedPlace, valueAfter};
+ghost use Rattle.table.specs.Rewriting.{rewrite, rewriteBytes};
+ghost use Rattle.nbft.specs.Packed.{packed, packedField, packedPlace, packedRewritten, valueAfter};
 
 // A list has at most 255 records, so no half of the number runs into the next.
 fn pack(a: Answer) -> u32
@@ -38,6 +41,14 @@ fn pack_place(p: Place) -> u64
 {
     let answer = pack(p.answer) as u64;
     answer + 4294967296 * (p.len as u64)
+}
+
+fn pack_rewritten(r: Rewritten) -> u64
+    requires { ⌜ (r .answer .position < 256) × (r .len ≤ 65536) ⌝ }
+    ensures { λ p. ⌜ p ≡ packedRewritten r ⌝ }
+{
+    let answer = pack(r.answer) as u64;
+    answer + 4294967296 * (r.len as u64)
 }
 
 // A refused read stores nothing.
@@ -89,4 +100,12 @@ pub extern "C" fn nbft_object_start(t: &[u8], kind: u8, position: u16, offset: u
 {
     let p = reads::object_place(t, kind, position as usize, offset as usize);
     p.at as u32
+}
+
+// The one form of the table into the first bytes of `out`; where refused, `out` stays as it was.
+#[no_mangle]
+pub extern "C" fn nbft_rewrite(t: &[u8], out: &mut [u8]) -> u64
+    ensures { λ r. ⌜ (r ≡ packedRewritten (rewrite (now (t .entry)) (length (now (out .entry))))) × (now (out .exit) ≡ rewriteBytes (now (t .entry)) (now (out .entry))) ⌝ }
+{
+    pack_rewritten(rewriter::rewrite(t, out))
 }

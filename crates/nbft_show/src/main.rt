@@ -11,34 +11,6 @@ fn show_file(argument: usize, as_json: bool) {
     }
 }
 
-fn is_json_flag(word: &[u8]) -> bool {
-    if word.len() != 6 {
-        return false;
-    }
-    if word[0] != b'-' {
-        return false;
-    }
-    if word[1] != b'-' {
-        return false;
-    }
-    if word[2] != b'j' {
-        return false;
-    }
-    if word[3] != b's' {
-        return false;
-    }
-    if word[4] != b'o' {
-        return false;
-    }
-    word[5] == b'n'
-}
-
-fn first_is_json_flag() -> bool {
-    let mut word = io::buffer();
-    let n = os::arg(1, &mut word);
-    is_json_flag(&word[..n])
-}
-
 fn main() {
     let count = os::arg_count();
     if count == 2 {
@@ -46,7 +18,7 @@ fn main() {
         return;
     }
     if count == 3 {
-        if first_is_json_flag() {
+        if tool::argument_is(1, b"--json") {
             show_file(2, true);
             return;
         }

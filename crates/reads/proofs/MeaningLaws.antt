@@ -1,7 +1,7 @@
 -- The reads of an accepted table together give its meaning. Assumes nothing.
 use mathlib.Core.Path.{_≡_, refl, sym, ap, ap₂, _∙_}
 use mathlib.Core.Bool.{Bool, true, false}
-use mathlib.Core.List.{List, [], _∷_, _++_}
+use mathlib.Core.List.{List, [], _∷_}
 use Prim.Native.Nat.{ℕ, zero, suc, _+_, _-_, _*_, _≤_, _<_}
 use native.Mathlib.Nat.{zero-add}
 use native.Mathlib.Omega.{arith}
@@ -33,21 +33,21 @@ use Rattle.reads.specs.Told.{imageOf, innerKind, toldNest, toldSlots, to
 length-padded : (xs : List ℕ) → length xs ≤ 128 → length (padded 128 xs) ≡ 128
 length-padded xs h = simp (length-append, length-replicate) (omega arith)
 
-image-front : (l : Layout) (t : List ℕ) (a : ℕ) → take (baseOf l) (padded 128 (image (l .shape .keep) (drop a t))) ≡ image (l .shape .keep) (drop a t)
+pub image-front : (l : Layout) (t : List ℕ) (a : ℕ) → take (baseOf l) (padded 128 (image (l .shape .keep) (drop a t))) ≡ image (l .shape .keep) (drop a t)
 image-front l t a =
     let x = image (l .shape .keep) (drop a t) in
     ap (λ (n : ℕ). take n (padded 128 x)) (sym (length-image (l .shape .keep) (drop a t))) ∙ take-append-seam x (replicate (128 - length x) 0)
 
 -- ---- objects
 
--- a used record, at a place that the reads find
-module _ (t : List ℕ) (k n : ℕ) (l : Layout) (a : ℕ) (s : seatOf t k n ≡ seat l a true) where
+-- a used record at a place
+module _ (t : List ℕ) (l : Layout) (a : ℕ) where
   abbrev img : List ℕ
   img = image (l .shape .keep) (drop a t)
 
-  object-is : (p : ℕ) (need : Need) → hasPlain p (l .refs) ≡ true → needAt p (l .refs) img ≡ need → objectIn t k n p ≡ under need [] (part t (num t (a + p) 4) (num t (a + p + 4) 2))
-  unfolding objectIn
-  object-is p need h e = ap (λ (w : Seat). part t (placeAt t p w .at) (placeAt t p w .len)) s ∙ rw (h, e) (go need) where
+  pub place-is : (p : ℕ) (need : Need) → hasPlain p (l .refs) ≡ true → needAt p (l .refs) img ≡ need
+      → part t (placeAt t p (seat l a true) .at) (placeAt t p (seat l a true) .len) ≡ under need [] (part t (num t (a + p) 4) (num t (a + p + 4) 2))
+  place-is p need h e = rw (h, e) (go need) where
     there : part t (refPlace t (a + p) .at) (refPlace t (a + p) .len) ≡ part t (num t (a + p) 4) (num t (a + p + 4) 2)
     there = by (eqb (num t (a + p + 4) 2) 0) refl where
       by : (b : Bool) → eqb (num t (a + p + 4) 2) 0 ≡ b
@@ -61,6 +61,12 @@ module _ (t : List ℕ) (k n : ℕ) (l : Layout) (a : ℕ) (s : seatOf t k n ≡
     go Ignored = refl
     go Optional = there
     go Required = there
+
+  -- which the reads find
+  object-is : (k n : ℕ) → seatOf t k n ≡ seat l a true → (p : ℕ) (need : Need) → hasPlain p (l .refs) ≡ true → needAt p (l .refs) img ≡ need
+      → objectIn t k n p ≡ under need [] (part t (num t (a + p) 4) (num t (a + p + 4) 2))
+  unfolding objectIn
+  object-is k n s p need h e = ap (λ (w : Seat). part t (placeAt t p w .at) (placeAt t p w .len)) s ∙ place-is p need h e
 
 -- ---- heap records
 
@@ -127,7 +133,7 @@ module _ (t : List ℕ) (k n : ℕ) (l : Layout) (a : ℕ) (s : seatOf t k n ≡
   unfolding toldSlots readSlots
   slots-told none g = refl
   slots-told (plain p need rule rest) g =
-      ap₂ {A = List ℕ} {B = Slots rest} {C = Slots (plain p need rule rest)} (λ b ss. bytes b ss) (object-is t k n l a s p (need here) (g .0) (g .1)) (slots-told rest (g .2))
+      ap₂ {A = List ℕ} {B = Slots rest} {C = Slots (plain p need rule rest)} (λ b ss. bytes b ss) (object-is t l a k n s p (need here) (g .0) (g .1)) (slots-told rest (g .2))
   slots-told (nest p need shape own rest) g =
       g .0 (toldSlots t k n rest) ∙ ap {A = Slots rest} {B = Slots (nest p need shape own rest)} (nestOf p need shape own rest) (slots-told rest (g .1))
 

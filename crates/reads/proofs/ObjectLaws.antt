@@ -2,10 +2,10 @@
 use mathlib.Core.Path.{_≡_, refl, sym, ap, subst, _∙_}
 use mathlib.Core.Bool.{Bool, true, false, _&&_}
 use mathlib.Core.List.{List}
-use Prim.Native.Nat.{ℕ, _+_, _≤_}
+use Prim.Native.Nat.{ℕ, _+_, _≤_, _<_}
 use native.Mathlib.Omega.{arith}
 use lib.ListN.{length}
-use lib.Dec.{T, eqb, leb, leb→le}
+use lib.Dec.{T, eqb, leb, leb→le, lit<}
 use mir.Facts.{and-yes}
 use borrow.Author.Tests.{eqb-true, eqb-false}
 use Rattle.table.specs.declared.Region.{Region}
@@ -20,14 +20,16 @@ use Rattle.table.specs.Rules.{answer, done, refRule, plainRule, refsRule}
 use Rattle.table.specs.Numbers.{heapIn, check}
 use Rattle.table.specs.Reads.{Seat, nowhere, seat, seatOf, needAt, hasPlain, noPlace, refPlace, placeAt, readPlace, shown}
 use Rattle.laws.specs.Sound.{first-of}
-use Rattle.laws.specs.Fields.{imageIn}
+use Rattle.laws.specs.Fields.{Bytes, imageIn}
 use Rattle.laws.specs.ListWalk.{by-layout}
 use Rattle.laws.specs.DemandTwo.{check-zero}
+use Rattle.wire.proofs.Laws.{num2, num4}
 use Rattle.rules.specs.Records.{plainNeed}
 use Rattle.reader.specs.Accepted.{Accepted}
 use Rattle.reader.proofs.AcceptedLaws.{laid}
 use Rattle.images.proofs.Laws.{by-kind, other-layout}
-use Rattle.reads.proofs.SeatLaws.{Good, seats-good, heap-object, ref-inside}
+use Rattle.reads.specs.Seats.{Good}
+use Rattle.reads.proofs.SeatLaws.{seats-good, heap-object, ref-inside}
 
 -- ---- references lie in their record, none to an object behind one to a heap record
 
@@ -107,7 +109,7 @@ plain-passes heap e t a img n q (plain p need rule rest) o z h =
     go false f x r g = r g
 plain-passes heap e t a img n q (nest p need shape own rest) o z h = absurd (none-plain q rest o h)
 
-abbrev Room : List ℕ → Place → Type 0
+abbrev pub Room : List ℕ → Place → Type 0
 Room t p = p .at + p .len ≤ length t
 
 -- under a need, of a reference that passes
@@ -124,7 +126,7 @@ need-room t ok r n z = go n z where
   go Optional y = there Optional (λ f. let w : _≡_ {A = ℕ} 1 0 = ap (λ (x : Need). under x 0 1) f in omega arith) y
   go Required y = there Required (λ f. let w : _≡_ {A = ℕ} 1 0 = ap (λ (x : Need). under x 0 1) f in omega arith) y
 
-seat-room : (t : List ℕ) (ok : Accepted t) (q k : ℕ) (s : Seat) → Good t k s → Room t (placeAt t q s)
+pub seat-room : (t : List ℕ) (ok : Accepted t) (q k : ℕ) (s : Seat) → Good t k s → Room t (placeAt t q s)
 unfolding imageIn
 seat-room t ok q k nowhere g = omega arith
 seat-room t ok q k (seat l a on) g = go (hasPlain q (l .refs)) refl on (g .1 .passes)
@@ -153,3 +155,36 @@ read-room t k n q = go (eqb (check t .number) 0) refl where
   go : (c : Bool) → eqb (check t .number) 0 ≡ c → Room t (pick c (placeAt t q (seatOf t k n)) (noPlace (check t)))
   go true e = place-room t (accepted t (eqb-true (check t .number) 0 e)) k n q
   go false e = omega arith
+
+-- ---- an object's place and length are small numbers
+
+num2-small : (t : List ℕ) → Bytes t → (a : ℕ) → num t a 2 < 65536
+num2-small t b a = omega (arith, num2 t a, b a, b (a + 1))
+
+num4-small : (t : List ℕ) → Bytes t → (a : ℕ) → num t a 4 < 4294967296
+num4-small t b a = omega (arith, num4 t a, num2-small t b a, num2-small t b (a + 2))
+
+abbrev pub PlaceFits : Place → Type 0
+PlaceFits p = (p .answer .position < 256) × (p .len < 65536) × (p .at < 4294967296)
+
+pub one-fits : (c : Bool) (x y : Place) → PlaceFits x → PlaceFits y → PlaceFits (pick c x y)
+one-fits true x y p q = p
+one-fits false x y p q = q
+
+under-fits : (n : Need) (x y : Place) → PlaceFits x → PlaceFits y → PlaceFits (under n x y)
+under-fits Ignored x y p q = p
+under-fits Optional x y p q = q
+under-fits Required x y p q = q
+
+abbrev nonePlace : PlaceFits (noPlace done)
+nonePlace = (lit< tt, lit< tt, lit< tt)
+
+pub seat-place : (t : List ℕ) → Bytes t → (q : ℕ) (s : Seat) → PlaceFits (placeAt t q s)
+seat-place t b q nowhere = nonePlace
+seat-place t b q (seat l a on) =
+    one-fits (hasPlain q (l .refs)) _ _
+    (one-fits on _ _
+    (under-fits (needAt q (l .refs) (shown t l a on)) (noPlace done) (refPlace t (a + q)) nonePlace
+    (one-fits (eqb (num t (a + q + 4) 2) 0) _ _ nonePlace (lit< tt, num2-small t b (a + q + 4), num4-small t b (a + q))))
+    nonePlace)
+    nonePlace

@@ -2,7 +2,7 @@
 use mathlib.Core.Path.{_≡_, refl, sym, ap, _∙_}
 use mathlib.Core.Bool.{Bool, true, false, _&&_}
 use mathlib.Core.List.{List}
-use Prim.Native.Nat.{ℕ, _+_, _-_, _*_, _≤_, _<_}
+use Prim.Native.Nat.{ℕ, _+_, _-_, _*_, _/_, _%_, _≤_, _<_}
 use native.Mathlib.Omega.{arith}
 use lib.ListN.{length, getD, drop}
 use lib.Dec.{eqb, leb, leb→le, lit≤, lit<}
@@ -21,23 +21,16 @@ use Rattle.table.specs.Reads.{Seat, nowhere, seat, listSeat, heapSeat, seatOf}
 use Rattle.laws.specs.Sound.{first-of, pick-of}
 use Rattle.laws.specs.Fields.{imageIn}
 use Rattle.laws.specs.ListWalk.{envIn, flag-is}
-use Rattle.frame.specs.Bounds.{LaidOut, ListIn}
+use Rattle.frame.specs.Bounds.{LaidOut}
 use Rattle.rules.proofs.HeapLaws.{Inside}
 use Rattle.reader.specs.Accepted.{Accepted}
-use Rattle.reader.specs.Walks.{refsFault, listFault}
+use Rattle.reader.specs.Walks.{refsFault}
 use Rattle.reader.proofs.Laws.{flags-stand}
 use Rattle.reader.proofs.AcceptedLaws.{laid, driver-passes, host-passes, lists-pass, record-passes, record-in, used-passes, used-parts, required-in, optional-in}
 use Rattle.images.proofs.Laws.{by-kind, Other}
-
-pub record Seated (t : List ℕ) (l : Layout) (a : ℕ) (on : Bool) : Type 0 where
-  pub within : a + baseOf l ≤ length t
-  pub around : Env
-  pub passes : on ≡ true → refsRule (heapIn t) around t a (imageIn l t a) (l .refs) ≡ 0
-
--- a seat of kind k
-abbrev pub Good : List ℕ → ℕ → Seat → Type 0
-Good t k nowhere = 0 ≤ k
-Good t k (seat l a on) = (l ≡ layoutOf k) × Seated t l a on
+use Rattle.reads.specs.Seats.{Seated, Entered, Listed, Good, Held, heapAt, extendedAt, heapRecord}
+use Rattle.reads.specs.declared.seats.Seat.the-variants.{Nowhere, At}
+use Rattle.reads.specs.Told.{innerKind}
 
 pick-good : (t : List ℕ) (k : ℕ) (c : Bool) (s : Seat) → (c ≡ true → Good t k s) → Good t k (pick c s nowhere)
 pick-good t k true s f = f refl
@@ -56,24 +49,49 @@ ref-inside t Required off len e c h = required-in (num t 36 4) (num t 40 4) off 
 
 -- ---- records of the lists
 
-module _ (t : List ℕ) (ok : Accepted t) (n : ℕ) where
-  list-good : (k c : ℕ) → 2 ≤ k → k ≤ 6 → ListIn t c (baseOf (layoutOf k)) → listFault k (heapIn t) t c .number ≡ 0 → Good t k (listSeat (layoutOf k) t c n)
-  unfolding imageIn refsFault
-  list-good k c x y i e =
-      pick-good t k (leb 1 n && leb n (getD t (c + 7) 0)) _
-      λ b.
-      let u = and-yes (leb 1 n) (leb n (getD t (c + 7) 0)) (rw b tt) in
-      let lo = leb→le 1 n (u .0) in
-      let hi = leb→le n (getD t (c + 7) 0) (u .1) in
-      let a = num t c 4 + (n - 1) * num t (c + 4) 2 in
-      let p = record-passes k (heapIn t) t c e (n - 1) (omega arith) in (
-        refl,
-        record {
-          within = record-in t c (baseOf (layoutOf k)) (n - 1) i (omega arith);
-          around = envIn t (1 + (n - 1));
-          passes = λ on. used-parts k (heapIn t) t a (1 + (n - 1)) (used-passes k (heapIn t) t a (1 + (n - 1)) x y (sym (flag-is (layoutOf k) t a (flags-stand k x y)) ∙ on) p) .1;
-        },
-      )
+-- position i + 1 of a list that passes
+pub list-entered : (t : List ℕ) (k c : ℕ) → Listed t k c → (i : ℕ) → i < getD t (c + 7) 0 → Entered t k (num t c 4 + i * num t (c + 4) 2)
+unfolding refsFault
+list-entered t k c l i h =
+    let a = num t c 4 + i * num t (c + 4) 2 in
+    let p = record-passes k (heapIn t) t c (l .passed) i h in
+    record {
+      low = l .least;
+      high = l .most;
+      seated = record {
+        within = record-in t c (baseOf (layoutOf k)) i (l .inside) h;
+        around = envIn t (1 + i);
+        passes = λ on. used-parts k (heapIn t) t a (1 + i) (used-passes k (heapIn t) t a (1 + i) (l .least) (l .most) (sym (flag-is (layoutOf k) t a (flags-stand k (l .least) (l .most))) ∙ on) p) .1;
+      };
+    }
+
+module _ (t : List ℕ) (ok : Accepted t) where
+  -- the four lists, and the host
+  pub hfis : Listed t 3 80
+  unfolding layoutOf hfi
+  hfis = record { least = lit≤ tt; most = lit≤ tt; entry = omega (arith, laid t ok .lent); inside = laid t ok .hfi; passed = lists-pass t ok .0 }
+
+  pub ssnss : Listed t 4 88
+  unfolding layoutOf ssns
+  ssnss = record { least = lit≤ tt; most = lit≤ tt; entry = omega (arith, laid t ok .lent); inside = laid t ok .ssns; passed = lists-pass t ok .1 }
+
+  pub securities : Listed t 5 96
+  unfolding layoutOf security
+  securities = record { least = lit≤ tt; most = lit≤ tt; entry = omega (arith, laid t ok .lent); inside = laid t ok .security; passed = lists-pass t ok .2 }
+
+  pub discoveries : Listed t 6 104
+  unfolding layoutOf discovery
+  discoveries = record { least = lit≤ tt; most = lit≤ tt; entry = omega (arith, laid t ok .lent); inside = laid t ok .discovery; passed = lists-pass t ok .3 }
+
+list-good : (t : List ℕ) (n k c : ℕ) → Listed t k c → Good t k (listSeat (layoutOf k) t c n)
+unfolding imageIn
+list-good t n k c l =
+    pick-good t k (leb 1 n && leb n (getD t (c + 7) 0)) _
+    λ b.
+    let u = and-yes (leb 1 n) (leb n (getD t (c + 7) 0)) (rw b tt) in
+    let lo = leb→le 1 n (u .0) in
+    let hi = leb→le n (getD t (c + 7) 0) (u .1) in
+    (refl, list-entered t k c l (n - 1) (omega arith) .seated)
 
 -- ---- heap records
 
@@ -153,7 +171,7 @@ module _ (t : List ℕ) (ok : Accepted t) where
   single-good : (k a n : ℕ) → Seated t (layoutOf k) a true → Good t k (pick (eqb n 0) (seat (layoutOf k) a true) nowhere)
   single-good k a n s = pick-good t k (eqb n 0) (seat (layoutOf k) a true) (λ e. (refl, s))
 
-  header-seated : Seated t (layoutOf 0) 0 true
+  pub header-seated : Seated t (layoutOf 0) 0 true
   unfolding layoutOf header refsFault
   header-seated = record { within = omega (arith, laid t ok .lent); around = envIn t 0; passes = λ on. driver-passes t ok }
 
@@ -164,6 +182,13 @@ module _ (t : List ℕ) (ok : Accepted t) where
   host-seated : Seated t (layoutOf 2) (num t 72 4) true
   unfolding layoutOf host refsFault
   host-seated = record { within = laid t ok .owner; around = envIn t 0; passes = λ on. used-parts 2 (heapIn t) t (num t 72 4) 0 (host-passes t ok .1) .1 }
+
+  pub host-entered : Entered t 2 (num t 72 4)
+  host-entered = record {
+    low = lit≤ tt;
+    high = lit≤ tt;
+    seated = record { within = host-seated .within; around = host-seated .around; passes = λ e. host-seated .passes refl };
+  }
 
   other-good : (n k : ℕ) → Other k → Good t k (seatOf t k n)
   unfolding seatOf
@@ -178,14 +203,49 @@ module _ (t : List ℕ) (ok : Accepted t) where
       (single-good 2 (num t 72 4) n host-seated)
       (lists .0)
       (lists .1)
-      (list-good t ok n 5 96 (lit≤ tt) (lit≤ tt) (unfold security in laid t ok .security) (lists-pass t ok .2))
-      (list-good t ok n 6 104 (lit≤ tt) (lit≤ tt) (unfold discovery in laid t ok .discovery) (lists-pass t ok .3))
+      (list-good t n 5 96 (securities t ok))
+      (list-good t n 6 104 (discoveries t ok))
       (info-good (leb 1 n && leb n (getD t 87 0)) _ _ (lists .0))
       (extended-good (leb 1 n && leb n (getD t 95 0)) _ _ (lists .1))
       (other-good n)
     where
       lists : Good t 3 (listSeat (layoutOf 3) t 80 n) × Good t 4 (listSeat (layoutOf 4) t 88 n)
       lists = (
-        list-good t ok n 3 80 (lit≤ tt) (lit≤ tt) (unfold hfi in laid t ok .hfi) (lists-pass t ok .0),
-        list-good t ok n 4 88 (lit≤ tt) (lit≤ tt) (unfold ssns in laid t ok .ssns) (lists-pass t ok .1),
+        list-good t n 3 80 (hfis t ok),
+        list-good t n 4 88 (ssnss t ok),
       )
+
+  -- the heap record of a record that passes
+  held-of : (m at : ℕ) (n : Need) (c : Bool) → Good t m (under n nowhere (pick c nowhere (seat (layoutOf m) at true))) → Held t m (under n Nowhere (pick c Nowhere (At at true)))
+  held-of m at Ignored c g = omega arith
+  held-of m at Optional true g = omega arith
+  held-of m at Optional false g = g .1
+  held-of m at Required true g = omega arith
+  held-of m at Required false g = g .1
+
+  info-held : (a : ℕ) → Good t 3 (seat hfi a true) → Held t 7 (heapAt t (a + 16))
+  unfolding layoutOf hfi heapAt
+  info-held a g = held-of 7 (num t (a + 16) 4) Required (eqb (num t (a + 16 + 4) 2) 0) (info-good true true a g)
+
+  extended-held : (a : ℕ) → Good t 4 (seat ssns a true) → Held t 9 (extendedAt t a)
+  unfolding layoutOf ssns heapAt extendedAt imageIn
+  extended-held a g = go (eqb (num (image (ssns .shape .keep) (drop a t)) 3 2 / 16 % 2) 0) (extended-good true true a g) where
+    go : (c : Bool) → Good t 9 (under (pick c Ignored Required) nowhere (pick (eqb (num t (a + 60 + 4) 2) 0) nowhere (seat extended (num t (a + 60) 4) true)))
+        → Held t 9 (pick c Nowhere (pick (eqb (num t (a + 60 + 4) 2) 0) Nowhere (At (num t (a + 60) 4) true)))
+    go true h = omega arith
+    go false h = held-of 9 (num t (a + 60) 4) Required (eqb (num t (a + 60 + 4) 2) 0) h
+
+  pub record-held : (a k : ℕ) → Good t k (seat (layoutOf k) a true) → Held t (innerKind k) (heapRecord t k a)
+  unfolding layoutOf heapRecord
+  record-held a =
+      by-kind (λ k. Good t k (seat (layoutOf k) a true) → Held t (innerKind k) (heapRecord t k a))
+      (λ g. omega arith)
+      (λ g. omega arith)
+      (λ g. omega arith)
+      (λ g. info-held a g)
+      (λ g. extended-held a g)
+      (λ g. omega arith)
+      (λ g. omega arith)
+      (λ g. omega arith)
+      (λ g. omega arith)
+      (λ k o g. rw (o .not3, o .not4) (omega arith))

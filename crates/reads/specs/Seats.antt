@@ -1,14 +1,19 @@
 -- Where a record stands, as code hands it on. Definitions only.
-use mathlib.Core.Bool.{true}
+use mathlib.Core.Path.{_≡_}
+use mathlib.Core.Bool.{Bool, true}
 use mathlib.Core.List.{List}
 use Prim.Native.Nat.{ℕ, _+_, _/_, _%_, _≤_}
 use lib.ListN.{length}
 use lib.Dec.{eqb}
 use Rattle.table.specs.Bytes.{pick, num}
-use Rattle.table.specs.Layout.{Layout}
-use Rattle.table.specs.FixedLayouts.{ssns}
+use Rattle.table.specs.Layout.{Layout, Env, baseOf, isValid}
+use Rattle.table.specs.FixedLayouts.{layoutOf, ssns}
+use Rattle.table.specs.Rules.{refsRule}
+use Rattle.table.specs.Numbers.{heapIn}
 use Rattle.table.specs.Reads as reads
 use Rattle.laws.specs.Fields.{imageIn}
+use Rattle.frame.specs.Bounds.{ListIn}
+use Rattle.reader.specs.Walks.{listFault}
 use Rattle.reads.specs.declared.seats.Seat.{Seat}
 use Rattle.reads.specs.declared.seats.Seat.the-variants.{Nowhere, At}
 
@@ -39,3 +44,37 @@ extendedAt t a = pick (eqb (num (imageIn ssns t a) 3 2 / 16 % 2) 0) Nowhere (hea
 unfoldable pub extendedOf : List ℕ → Seat → Seat
 extendedOf t Nowhere = Nowhere
 extendedOf t (At at used) = pick used (extendedAt t at) Nowhere
+
+-- the heap record of the record of kind k at a
+unfoldable pub heapRecord : List ℕ → ℕ → ℕ → Seat
+heapRecord t k a = pick (eqb k 3) (heapAt t (a + 16)) (pick (eqb k 4) (extendedAt t a) Nowhere)
+
+-- a record of layout l at a lies in the table, and if it is used its references pass
+pub record Seated (t : List ℕ) (l : Layout) (a : ℕ) (on : Bool) : Type 0 where
+  pub within : a + baseOf l ≤ length t
+  pub around : Env
+  pub passes : on ≡ true → refsRule (heapIn t) around t a (imageIn l t a) (l .refs) ≡ 0
+
+-- a seat of kind k
+abbrev pub Good : List ℕ → ℕ → reads.Seat → Type 0
+Good t k reads.nowhere = 0 ≤ k
+Good t k (reads.seat l a on) = (l ≡ layoutOf k) × Seated t l a on
+
+-- a heap record of kind k that is there stands so
+abbrev pub Held : List ℕ → ℕ → Seat → Type 0
+Held t k Nowhere = 0 ≤ k
+Held t k (At at used) = Seated t (layoutOf k) at true
+
+-- a record of a list, or the host: of kind k at a
+pub record Entered (t : List ℕ) (k a : ℕ) : Type 0 where
+  pub low : 2 ≤ k
+  pub high : k ≤ 6
+  pub seated : Seated t (layoutOf k) a (isValid (layoutOf k .shape) (imageIn (layoutOf k) t a))
+
+-- a list of kind k whose entry in the control record stands at c
+pub record Listed (t : List ℕ) (k c : ℕ) : Type 0 where
+  pub least : 2 ≤ k
+  pub most : k ≤ 6
+  pub entry : c + 8 ≤ length t
+  pub inside : ListIn t c (baseOf (layoutOf k))
+  pub passed : listFault k (heapIn t) t c .number ≡ 0

@@ -83,7 +83,7 @@ fn object_need(t: &[u8], kind: u8, a: usize, off: usize) -> Need
 }
 
 // An unused record has no object.
-fn object_of(t: &[u8], kind: u8, a: usize, used: bool, off: usize) -> Place
+pub fn object_of(t: &[u8], kind: u8, a: usize, used: bool, off: usize) -> Place
     requires { ⌜ (a + baseOf (layoutOf kind) ≤ length (now t)) × (hasPlain off (layoutOf kind .refs) ≡ true) ⌝ }
     ensures { λ r. ⌜ r ≡ placeAt (now (t .entry)) off (seat (layoutOf kind) a used) ⌝ }
 {

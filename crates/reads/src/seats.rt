@@ -17,7 +17,7 @@ ghost use Rattle.table.specs.FixedLayouts.{layoutOf};
 ghost use Rattle.table.specs.Reads.{seatOf, listSeat};
 ghost use Rattle.frame.specs.Bounds.{ListIn};
 ghost use Rattle.reader.specs.Accepted.{Accepted};
-ghost use Rattle.reads.specs.Seats.{asSeat, InTable, singleAt, heapAt, infoOf, extendedAt, extendedOf};
+ghost use Rattle.reads.specs.Seats.{asSeat, InTable, singleAt, heapAt, infoOf, extendedAt, extendedOf, heapRecord};
 
 // Nowhere, or at a place, where it is used or not.
 pub enum Seat {
@@ -84,6 +84,18 @@ fn extended_at(t: &[u8], a: usize) -> Seat
         return Seat::Nowhere;
     }
     heap_seat(t, a + 60)
+}
+
+// The heap record of the record of a kind at `a`, which is used.
+pub fn heap_record(t: &[u8], kind: u8, a: usize) -> Seat
+    requires { ⌜ a + baseOf (layoutOf kind) ≤ length (now t) ⌝ }
+    ensures { λ r. ⌜ r ≡ heapRecord (now (t .entry)) kind a ⌝ }
+{
+    match kind {
+        Hfi::ID => heap_seat(t, a + 16),
+        Ssns::ID => extended_at(t, a),
+        _ => Seat::Nowhere,
+    }
 }
 
 fn extended_seat(t: &[u8], owner: Seat) -> Seat

@@ -1,8 +1,11 @@
-// What every tool does: read a file whole, print texts, and say what a check answers.
+// What every tool does: read a file whole, write one whole or not at all, print texts, and say what a check answers.
+pub mod writing; // a file written
+
 use libc::STDERR_FILENO;
 use libc::STDOUT_FILENO;
 use table::Answer;
 use text::Text;
+pub use writing::write_file;
 ghost use mathlib.Core.Path.{_≡_};
 ghost use lib.ListN.{take};
 ghost use Rattle.io.specs.Counts.{Counts};
@@ -83,6 +86,12 @@ pub fn read_file(argument: usize, into: &mut [u8]) -> Got
         };
     }
     read_named(&path[..length], into)
+}
+
+pub fn argument_is(argument: usize, word: &[u8]) -> bool {
+    let mut given = io::buffer();
+    let n = os::arg(argument, &mut given);
+    check::same(&given[..n], word)
 }
 
 pub fn print(t: Text)

@@ -79,7 +79,7 @@ many (bytes b ss) = suc (many ss)
 many (gone ss) = suc (many ss)
 many (rec img own ss) = suc (many ss)
 
-ref-num : (h n : ℕ) → 0 < n → refNum h n ≡ ref6 h n
+pub ref-num : (h n : ℕ) → 0 < n → refNum h n ≡ ref6 h n
 ref-num h n k = rw (ne-eqb n 0 (λ e. omega arith))
 
 pub ref-for : (h : ℕ) (b : List ℕ) → refNum h (length b) ≡ refFor h b

@@ -1,13 +1,16 @@
 -- Laws of stores as splices: a run of stores, a copy, one store behind another, and a middle part that was lent. Assumes nothing.
 use mathlib.Core.Path.{_≡_, refl, sym, ap, ap₂, _∙_}
+use mathlib.Core.Bool.{Bool, true, false}
 use mathlib.Core.List.{List, [], _∷_, _++_, append-assoc}
-use Prim.Native.Nat.{ℕ, zero, suc, _+_, _≤_, _<_}
+use Prim.Native.Nat.{ℕ, zero, suc, _+_, _-_, _≤_, _<_}
 use native.Mathlib.Numerals.{add-one}
 use native.Mathlib.Omega.{arith}
 use lib.ListN.{length, getD, take, drop, set, replicate, length-append}
-use lib.Seq.{set-split, sets-eq, paste, paste-zero, paste-suc, take-length, length-take-le, drop-drop, take-at}
+use lib.Seq.{ext-getD, set-split, sets-eq, paste, paste-zero, paste-suc, take-length, length-take-le, drop-drop, take-at}
+use lib.Dec.{ltb}
+use borrow.Author.Tests.{ltb-true, ltb-false}
 use Rattle.table.specs.Bytes.{splice}
-use Rattle.laws.specs.ByteLaws.{length-splice, drop-splice}
+use Rattle.laws.specs.ByteLaws.{length-splice, drop-splice, splice-here, holds-getD, getD-splice-below, getD-splice-above}
 
 -- one store
 pub put-one : (b : List ℕ) (at x : ℕ) → at < length b → set b at x ≡ splice b at (x ∷ [])
@@ -60,7 +63,7 @@ abbrev pub Chain : List ℕ → ℕ → List (List ℕ) → List ℕ → Type 0
 Chain t a [] z = z ≡ t
 Chain t a (p ∷ ps) z = (t₁ : List ℕ) × (b : ℕ) × (t₁ ≡ splice t b p) × (b ≡ a) × Chain t₁ (a + length p) ps z
 
-splice-none : (t : List ℕ) (a : ℕ) → t ≡ splice t a []
+pub splice-none : (t : List ℕ) (a : ℕ) → t ≡ splice t a []
 splice-none t a = paste-zero t a [] ∙ append-assoc (take a t) [] (drop (a + 0) t)
 
 pub chain-laid : (ps : List (List ℕ)) (t : List ℕ) (a : ℕ) (z : List ℕ) → a + length (concat ps) ≤ length t → Chain t a ps z → z ≡ splice t a (concat ps)
@@ -70,3 +73,61 @@ chain-laid (p ∷ ps) t a z h (t₁, b, e, q, r) =
     let e′ : t₁ ≡ splice t a p = e ∙ ap (λ (m : ℕ). splice t m p) q in
     let l : length t₁ ≡ length t = ap length e′ ∙ length-splice t a p (omega arith) in
     splice-next t t₁ z a (a + length p) p (concat ps) (omega arith) refl e′ (chain-laid ps t₁ (a + length p) z (omega arith) r)
+
+-- ---- two splices apart from each other, in either order
+
+module _ (t : List ℕ) (a : ℕ) (bs : List ℕ) (ok : a + length bs ≤ length t) where
+  getD-inside : (j : ℕ) → a ≤ j → j < a + length bs → getD (splice t a bs) j 0 ≡ getD bs (j - a) 0
+  getD-inside j lo hi =
+      let e : j ≡ a + (j - a) = omega arith in
+      ap (λ (i : ℕ). getD (splice t a bs) i 0) e ∙ holds-getD (splice t a bs) a bs (splice-here t a bs ok) (j - a) (omega arith)
+
+module _ (t : List ℕ) (a : ℕ) (xs : List ℕ) (b : ℕ) (ys : List ℕ) (apart : a + length xs ≤ b) (inside : b + length ys ≤ length t) where
+  abbrev late : List ℕ
+  late = splice (splice t b ys) a xs
+
+  abbrev soon : List ℕ
+  soon = splice (splice t a xs) b ys
+
+  length-b : length (splice t b ys) ≡ length t
+  length-b = length-splice t b ys inside
+
+  length-a : length (splice t a xs) ≡ length t
+  length-a = length-splice t a xs (omega arith)
+
+  okLate : a + length xs ≤ length (splice t b ys)
+  okLate = omega (arith, length-b)
+
+  okSoon : b + length ys ≤ length (splice t a xs)
+  okSoon = omega (arith, length-a)
+
+  at-byte : (j : ℕ) → getD late j 0 ≡ getD soon j 0
+  at-byte j = by (ltb j a) (ltb j (a + length xs)) (ltb j b) (ltb j (b + length ys)) refl refl refl refl where
+    by : (c d e f : Bool) → ltb j a ≡ c → ltb j (a + length xs) ≡ d → ltb j b ≡ e → ltb j (b + length ys) ≡ f → getD late j 0 ≡ getD soon j 0
+    by true d e f p q r s =
+        let h : j < a = ltb-true j a p in
+        getD-splice-below (splice t b ys) a xs okLate j h ∙ getD-splice-below t b ys inside j (omega arith)
+        ∙ sym (getD-splice-below (splice t a xs) b ys okSoon j (omega arith) ∙ getD-splice-below t a xs (omega arith) j h)
+    by false true e f p q r s =
+        let l : a ≤ j = ltb-false j a p in
+        let h : j < a + length xs = ltb-true j (a + length xs) q in
+        getD-inside (splice t b ys) a xs okLate j l h
+        ∙ sym (getD-splice-below (splice t a xs) b ys okSoon j (omega arith) ∙ getD-inside t a xs (omega arith) j l h)
+    by false false true f p q r s =
+        let l : a + length xs ≤ j = ltb-false j (a + length xs) q in
+        let h : j < b = ltb-true j b r in
+        getD-splice-above (splice t b ys) a xs okLate j l ∙ getD-splice-below t b ys inside j h
+        ∙ sym (getD-splice-below (splice t a xs) b ys okSoon j h ∙ getD-splice-above t a xs (omega arith) j l)
+    by false false false true p q r s =
+        let l : b ≤ j = ltb-false j b r in
+        let h : j < b + length ys = ltb-true j (b + length ys) s in
+        getD-splice-above (splice t b ys) a xs okLate j (omega arith) ∙ getD-inside t b ys inside j l h
+        ∙ sym (getD-inside (splice t a xs) b ys okSoon j l h)
+    by false false false false p q r s =
+        let l : b + length ys ≤ j = ltb-false j (b + length ys) s in
+        getD-splice-above (splice t b ys) a xs okLate j (omega arith) ∙ getD-splice-above t b ys inside j l
+        ∙ sym (getD-splice-above (splice t a xs) b ys okSoon j l ∙ getD-splice-above t a xs (omega arith) j (omega arith))
+
+  pub splice-swap : late ≡ soon
+  splice-swap =
+      ext-getD 0 late soon (length-splice (splice t b ys) a xs okLate ∙ length-b ∙ sym (length-splice (splice t a xs) b ys okSoon ∙ length-a)) λ j h. at-byte j

@@ -7,7 +7,7 @@ use crate::stores::put_u16;
 use crate::stores::put_u32;
 ghost use mathlib.Core.Path.{_≡_};
 ghost use mathlib.Core.List.{[], _∷_, _++_};
-ghost use Prim.Native.Nat.{_+_, _≤_, _<_};
+ghost use Prim.Native.Nat.{_+_, _≤_};
 ghost use lib.ListN.{length};
 ghost use Rattle.table.specs.Bytes.{le, splice};
 ghost use Rattle.writer.specs.Front.{headerFor, entryFor, controlFor};

@@ -3,7 +3,7 @@ use crate::stores::copy_into;
 use crate::stores::put_ref;
 use table::Offsets;
 ghost use mathlib.Core.Path.{_≡_};
-ghost use Prim.Native.Nat.{_+_, _/_, _≤_, _<_};
+ghost use Prim.Native.Nat.{_+_, _≤_, _<_};
 ghost use lib.ListN.{length};
 ghost use Rattle.table.specs.Bytes.{splice, apply};
 ghost use Rattle.writer.specs.Stores.{refNum, storesFrom, Room};
@@ -11,7 +11,7 @@ ghost use Rattle.writer.specs.Stores.{refNum, storesFrom, Room};
 // What each reference's object takes: its length, and its bytes in the heap.
 pub struct Sizes {
     pub len: [usize; 6],
-    pub span: [usize; 6],
+    pub span: [u32; 6],
 }
 
 // The reference to `len` bytes at `h`; to none it is 0, 0.
@@ -38,7 +38,7 @@ pub fn put_refs(part: &mut [u8], t: Offsets, z: Sizes, h: usize)
     while i < n {
         let p = t.at[i];
         let len = z.len[i];
-        let w = z.span[i];
+        let w = z.span[i] as usize;
         put_slot(part, p, u, len);
         u = u + w;
         i += 1;

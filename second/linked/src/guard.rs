@@ -34,16 +34,16 @@ impl Guarded {
     }
 
     /// The bytes, placed so that the next one is on the closed page.
-    pub fn ending(&mut self, bytes: &[u8]) -> &[u8] {
+    pub fn ending(&mut self, bytes: &[u8]) -> &mut [u8] {
         self.place(self.length - bytes.len(), bytes)
     }
 
     /// The bytes, placed so that the one before is on the closed page.
-    pub fn starting(&mut self, bytes: &[u8]) -> &[u8] {
+    pub fn starting(&mut self, bytes: &[u8]) -> &mut [u8] {
         self.place(0, bytes)
     }
 
-    fn place(&mut self, at: usize, bytes: &[u8]) -> &[u8] {
+    fn place(&mut self, at: usize, bytes: &[u8]) -> &mut [u8] {
         assert!(at + bytes.len() <= self.length);
         // SAFETY: the part lies in the open pages, which this value owns.
         let part = unsafe { std::slice::from_raw_parts_mut(self.start.add(at), bytes.len()) };

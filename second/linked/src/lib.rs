@@ -1,18 +1,21 @@
 //! The static library's functions, for Rust.
 
 pub mod guard;
+pub mod long_forms;
 pub mod reads;
+pub mod rewrites;
 pub mod tables;
 
 use second::{Answer, Field};
 use std::ops::Range;
-use std::ptr::{null, NonNull};
+use std::ptr::{null, null_mut, NonNull};
 
 extern "C" {
     fn nbft_check(table: *const u8, length: usize) -> u32;
     fn nbft_field(table: *const u8, length: usize, kind: u8, position: u16, offset: u32, value: *mut [u8; 16]) -> u64;
     fn nbft_object(table: *const u8, length: usize, kind: u8, position: u16, offset: u32) -> u64;
     fn nbft_object_start(table: *const u8, length: usize, kind: u8, position: u16, offset: u32) -> u32;
+    fn nbft_rewrite(table: *const u8, length: usize, output: *mut u8, room: usize) -> u64;
 }
 
 /// What the static library answers to these bytes.
@@ -54,6 +57,30 @@ pub fn object(lent: &[u8], kind: u8, position: u16, offset: u32) -> (Answer, Ran
         )
     };
     (unpack(packed as u32), start..start + (packed >> 32) as usize)
+}
+
+/// What it answers to a rewrite, and the length of the form that it then left in the output.
+pub fn rewrite(lent: &[u8], output: &mut [u8]) -> (Answer, usize) {
+    // SAFETY: pointers and lengths are two slices'; the function reads the one and writes the other.
+    let packed = unsafe { nbft_rewrite(lent.as_ptr(), lent.len(), output.as_mut_ptr(), output.len()) };
+    (unpack(packed as u32), (packed >> 32) as usize)
+}
+
+/// What it answers where the output has no bytes and stands where nothing can be written: at null, and at a place
+/// that dangles. A table without bytes stands there too.
+pub fn rewrite_into_nothing(lent: &[u8]) -> [(Answer, usize); 2] {
+    let dangling: *mut u8 = NonNull::dangling().as_ptr();
+    [null_mut(), dangling].map(|place| {
+        let table = if lent.is_empty() { place.cast_const() } else { lent.as_ptr() };
+        // SAFETY: no byte of the output is lent, so the function writes none.
+        let packed = unsafe { nbft_rewrite(table, lent.len(), place, 0) };
+        (unpack(packed as u32), (packed >> 32) as usize)
+    })
+}
+
+/// Bytes as a message shows them.
+pub fn hex(bytes: &[u8]) -> String {
+    bytes.iter().map(|byte| format!("{byte:02X}")).collect()
 }
 
 /// Bits 0 to 7 number, 8 to 15 kind, 16 to 31 position.

@@ -1,7 +1,7 @@
 //! Compares the static library with the second program.
 
 use linked::guard::Guarded;
-use linked::{reads, tables};
+use linked::{hex, reads, rewrites, tables};
 use second::answer::number::TOO_FEW_BYTES;
 use second::random::Random;
 use second::{samples, Answer};
@@ -13,7 +13,9 @@ linked: compares the static library's answers with the second program's
 
   linked compare COUNT SEED    COUNT generated tables; the same SEED gives the same ones
   linked reads COUNT SEED      every kind, position and offset of COUNT generated tables
-  linked guard COUNT SEED      checks and, of one table in a hundred, reads, lent between pages that nothing may touch
+  linked rewrite COUNT SEED    generated tables until COUNT of them have a form, each into outputs of many lengths
+  linked guard COUNT SEED      checks, a twentieth as many rewrites and a hundredth as many tables' reads, all lent between pages that
+                               nothing may touch
 ";
 
 fn main() -> ExitCode {
@@ -39,12 +41,13 @@ fn run(words: &[&str]) -> Result<String, String> {
         ["reads", count, seed] => compare_reads(number(count)?, number(seed)?, |table| {
             reads::compare(table, table)
         }),
+        ["rewrite", count, seed] => rewrites::compare(number(count)?, number(seed)?, rewrites::by_library),
         ["guard", count, seed] => guarded(number(count)?, number(seed)?),
         _ => Err(HELP.to_string()),
     }
 }
 
-/// Checks, and reads of fewer tables, lent between pages that nothing may touch.
+/// Checks, and rewrites and reads of fewer tables, lent between pages that nothing may touch.
 fn guarded(count: u64, seed: u64) -> Result<String, String> {
     let mut pages = Guarded::new(1 << 20);
     let checks = compare(count, seed, |table| {
@@ -56,7 +59,11 @@ fn guarded(count: u64, seed: u64) -> Result<String, String> {
     let reads = compare_reads(count / 100, seed, |table| {
         Ok(reads::compare(table, pages.ending(table))? + reads::compare(table, pages.starting(table))?)
     })?;
-    Ok(format!("{checks}\n{reads}"))
+    let mut two = [pages, Guarded::new(1 << 20)];
+    let rewrites = rewrites::compare(count / 20, seed, |table, output| {
+        rewrites::by_library_in_pages(&mut two, table, output)
+    })?;
+    Ok(format!("{checks}\n{reads}\n{rewrites}"))
 }
 
 fn number(word: &str) -> Result<u64, String> {
@@ -99,8 +106,4 @@ fn same(table: &[u8], expected: Answer, answer: Answer) -> Result<(), String> {
         return Ok(());
     }
     Err(format!("the library answers {answer:?}, the second program {expected:?}, on\n{}", hex(table)))
-}
-
-fn hex(table: &[u8]) -> String {
-    table.iter().map(|byte| format!("{byte:02X}")).collect()
 }

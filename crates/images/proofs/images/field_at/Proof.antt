@@ -1,41 +1,55 @@
-use Rattle.images.proofs.Laws.{over-more, over-padded, part-long, part-byte}
-use Rattle.images.specs.Masks.{over}
+use Rattle.images.proofs.Laws.{masked-byte, over-more, over-padded, part-long, part-byte}
+use Rattle.images.specs.Masks.{rowsOf, over}
+use Rattle.laws.specs.ListWalk.{base-small}
 use Rattle.laws.specs.Fields.{imageIn, length-imageIn}
 use Rattle.table.specs.FixedLayouts.{layoutOf}
 use Rattle.table.specs.Bytes.{part}
 use lib.ListN.{length, getD, replicate}
+use lib.Bits.{bitAnd}
 use native.Mathlib.Omega.{arith}
-use Prim.Native.Nat.{_-_, _≤_, _<_}
+use Prim.Native.Nat.{ℕ, _+_, _-_, _/_, _%_, _≤_, _<_}
+use mathlib.Core.List.{List, []}
 use mathlib.Core.Path.{_≡_, refl, sym, ap, _∙_}
 use Rattle.table.proofs.Rules.{picks}
 use Rattle.images.proofs.images.field_at.Statement.{statement}
 use Rattle.images.proofs.images.field_at.Tie as tie
 use Rattle.images.proofs.images.field_at.Reads as reads
 use Rattle.images.proofs.images.field_at.Lts as lts
-use Rattle.images.proofs.images.kept_byte.Reads as kept-byte-reads
 use Rattle.images.proofs.masks.counts_more.Reads as counts-more-reads
-use Rattle.images.proofs.masks.row_of.Reads as row-of-reads
+use Rattle.images.proofs.masks.masks_of.Reads as masks-of-reads
 
 abbrev Inv-loop : tie.InvT-loop
-Inv-loop t kind a off width out₀ row i₀ out i = (i ≤ width) × (out ≡ over (replicate 16 0) (part (imageIn (layoutOf kind) t a) off width) i)
+Inv-loop t kind a off width out₀ masks i₀ out i = (i ≤ width) × (out ≡ over (replicate 16 0) (part (imageIn (layoutOf kind) t a) off width) i)
 
 abbrev μ-loop : tie.MeasureT-loop
-μ-loop t kind a off width out₀ row i₀ out i = width - i
+μ-loop t kind a off width out₀ masks i₀ out i = width - i
 
 counts-more-requires : tie.Need-counts-more-requires Inv-loop μ-loop
 counts-more-requires c κs = search picks
 
-row-of-requires : tie.Need-row-of-requires Inv-loop μ-loop
-row-of-requires c κs = search picks
+masks-of-requires : tie.Need-masks-of-requires Inv-loop μ-loop
+masks-of-requires c κs = search picks
 
 loop-holds : tie.Need-loop-holds Inv-loop μ-loop
 loop-holds c = (search picks, refl)
 
-add-kept-byte : tie.Need-add-kept-byte Inv-loop μ-loop
-add-kept-byte c = search picks
+add-j : tie.Need-add-j Inv-loop μ-loop
+add-j c = search picks
 
-kept-byte-requires : tie.Need-kept-byte-requires Inv-loop μ-loop
-kept-byte-requires c κs = (c .before .before .before .before .before .pre .0, omega (arith, c .loop-test .taken, c .before .before .before .before .before .pre .1), rw (c .before .before .row-of .ensures, c .before .before .before .counts-more .ensures) refl)
+add-out : tie.Need-add-out Inv-loop μ-loop
+add-out c = search picks
+
+shared-slice-read-out : tie.Need-shared-slice-read-out Inv-loop μ-loop
+shared-slice-read-out c = search picks
+
+mul-out : tie.Need-mul-out Inv-loop μ-loop
+mul-out c = search picks
+
+index-1-out : tie.Need-index-1-out Inv-loop μ-loop
+index-1-out c = omega (arith, c .before .before .before .before .before .before .pre .1, c .before .loop-test .taken, base-small (c .before .before .before .before .before .before .args .kind))
+
+index-2-out : tie.Need-index-2-out Inv-loop μ-loop
+index-2-out c = omega arith
 
 array-write-out : tie.Need-array-write-out Inv-loop μ-loop
 array-write-out c = search picks
@@ -47,18 +61,17 @@ loop-less : tie.Need-loop-less Inv-loop μ-loop
 loop-less c = search picks
 
 loop-again : tie.Need-loop-again Inv-loop μ-loop
-loop-again c =
-    let a = c .before .before .before .before .before .before .args in
+loop-again c = let a = c .before .before .before .before .before .before .before .args in
     let s = imageIn (layoutOf (a .kind)) (a .t .now) (a .a) in
     let n = length-imageIn (layoutOf (a .kind)) (a .t .now) (a .a) in
-    let l = part-long s (a .off) (a .width) (omega (arith, n, c .before .before .before .before .before .before .pre .1)) in
-    let h : c .before .before .loop .i < a .width = c .before .loop-test .taken in
-    let v : c .kept-byte .result ≡ getD (part s (a .off) (a .width)) (c .before .before .loop .i) 0 = c .kept-byte .ensures ∙ sym (part-byte s (a .off) (a .width) (c .before .before .loop .i) h) in
-    (search picks, rw (c .before .before .loop .inv .1, v) (over-more (replicate 16 0) (part s (a .off) (a .width)) (c .before .before .loop .i) (omega (arith, l, h)) (omega (arith, h, c .before .before .before .before .before .before .pre .2))))
+    let l = part-long s (a .off) (a .width) (omega (arith, n, c .before .before .before .before .before .before .before .pre .1)) in
+    let h : c .before .before .before .loop .i < a .width = c .before .before .loop-test .taken in
+    let v : bitAnd (getD (a .t .now) (a .a + (a .off + c .before .before .before .loop .i)) 0) (getD (getD (c .before .before .before .before .masks-of .result) ((a .off + c .before .before .before .loop .i) / 8) []) ((a .off + c .before .before .before .loop .i) % 8) 0) ≡ getD s (a .off + c .before .before .before .loop .i) 0 = ap (λ (m : List (List ℕ)). bitAnd (getD (a .t .now) (a .a + (a .off + c .before .before .before .loop .i)) 0) (getD (getD m ((a .off + c .before .before .before .loop .i) / 8) []) ((a .off + c .before .before .before .loop .i) % 8) 0)) (c .before .before .before .before .masks-of .ensures ∙ ap (rowsOf (a .kind)) (c .before .before .before .before .before .counts-more .ensures)) ∙ masked-byte (a .kind) (a .t .now) (a .a) (a .off + c .before .before .before .loop .i) (omega (arith, h, c .before .before .before .before .before .before .before .pre .1)) (omega (arith, h, c .before .before .before .before .before .before .before .pre .1, base-small (a .kind))) in
+    let w = v ∙ sym (part-byte s (a .off) (a .width) (c .before .before .before .loop .i) h) in
+    (search picks, rw (c .before .before .before .loop .inv .1, w) (over-more (replicate 16 0) (part s (a .off) (a .width)) (c .before .before .before .loop .i) (omega (arith, l, h)) (omega (arith, h, c .before .before .before .before .before .before .before .pre .2))))
 
 returns : tie.Need-returns Inv-loop μ-loop
-returns c =
-    let a = c .before .before .before .before .before .args in
+returns c = let a = c .before .before .before .before .before .args in
     let s = imageIn (layoutOf (a .kind)) (a .t .now) (a .a) in
     let n = length-imageIn (layoutOf (a .kind)) (a .t .now) (a .a) in
     let l = part-long s (a .off) (a .width) (omega (arith, n, c .before .before .before .before .before .pre .1)) in
@@ -72,10 +85,14 @@ field-at-spec =
     Inv-loop
     μ-loop
     counts-more-requires
-    row-of-requires
+    masks-of-requires
     loop-holds
-    add-kept-byte
-    kept-byte-requires
+    add-j
+    add-out
+    shared-slice-read-out
+    mul-out
+    index-1-out
+    index-2-out
     array-write-out
     add-i
     loop-less

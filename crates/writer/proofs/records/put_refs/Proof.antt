@@ -1,13 +1,13 @@
-use Rattle.writer.proofs.RecordLaws.{stores-turn}
-use mathlib.Core.Path.{_∙_}
-use Rattle.writer.proofs.RecordLaws.{stores-done}
-use Rattle.writer.specs.Stores.{storesFrom}
-use Rattle.table.specs.Bytes.{apply}
-use native.Mathlib.Nat.{sub-zero}
-use native.Mathlib.Omega.{arith}
-use lib.ListN.{length}
-use Prim.Native.Nat.{_≤_, _-_, _+_, _*_}
 use mathlib.Core.Path.{_≡_, refl}
+use Prim.Native.Nat.{_≤_, _-_, _+_, _*_}
+use lib.ListN.{length}
+use native.Mathlib.Omega.{arith}
+use native.Mathlib.Nat.{sub-zero}
+use Rattle.table.specs.Bytes.{apply}
+use Rattle.writer.specs.Stores.{storesFrom}
+use Rattle.writer.proofs.RecordLaws.{stores-done}
+use mathlib.Core.Path.{_∙_}
+use Rattle.writer.proofs.RecordLaws.{stores-turn}
 use Rattle.table.proofs.Rules.{picks}
 use Rattle.writer.proofs.records.put_refs.Statement.{statement}
 use Rattle.writer.proofs.records.put_refs.Tie as tie
@@ -41,6 +41,9 @@ mul-w c = search picks
 
 element-copy-out-w : tie.Need-element-copy-out-w Inv-loop μ-loop
 element-copy-out-w c = search picks
+
+cast-w : tie.Need-cast-w Inv-loop μ-loop
+cast-w c = search picks
 
 put-slot-requires : tie.Need-put-slot-requires Inv-loop μ-loop
 put-slot-requires c κs = omega (arith, c .before .before .before .before .before .before .before .pre .0 .room (c .before .before .before .before .before .loop .i) (c .before .before .before .before .loop-test .taken))
@@ -86,6 +89,7 @@ put-refs-spec =
     element-copy-out-len
     mul-w
     element-copy-out-w
+    cast-w
     put-slot-requires
     add-u
     add-i

@@ -1,0 +1,157 @@
+-- How long what is laid is, and what a reference names by its numbers. Assumes nothing.
+use mathlib.Core.Path.{_≡_, refl, sym, ap, ap₂, subst, _∙_}
+use mathlib.Core.Bool.{Bool, true, false}
+use mathlib.Core.List.{List, [], _∷_, append-nil}
+use Prim.Native.Nat.{ℕ, _+_, _≤_}
+use native.Mathlib.Omega.{arith}
+use lib.ListN.{length, getD, length-append, length-replicate}
+use lib.Dec.{T}
+use Rattle.table.specs.Bytes.{part}
+use Rattle.table.specs.Layout.{Entry, isValid, baseOf}
+use Rattle.table.specs.FixedLayouts.{layoutOf, header, control, host, hfi, ssns, security, discovery, info, extended, noKind}
+use Rattle.table.specs.Objects.{readEntry, sizeOf, sizeEntry, patched, heapOf, recEntry, heapEntry}
+use Rattle.table.specs.Reads.{seat, hasPlain}
+use Rattle.laws.specs.Lawful.{okRefs}
+use Rattle.laws.specs.SlotLaws.{length-patched}
+use Rattle.laws.specs.Fields.{imageIn, length-imageIn}
+use Rattle.laws.specs.ListWalk.{by-layout}
+use Rattle.images.proofs.Laws.{part-long}
+use Rattle.reader.specs.Accepted.{Accepted}
+use Rattle.reads.specs.declared.seats.Seat.{Seat}
+use Rattle.reads.specs.declared.seats.Seat.the-variants.{Nowhere, At}
+use Rattle.reads.specs.Seats.{Seated, Entered, Held, heapRecord}
+use Rattle.reads.specs.Told.{innerKind}
+use Rattle.reads.proofs.SeatLaws.{record-held}
+use Rattle.reads.proofs.ObjectLaws.{seat-room}
+use Rattle.parts.specs.declared.references.Part.{Part}
+use Rattle.parts.specs.Parts.{refsOf, OneObject, slotsIn, recordPart, partAt, recordBytes, bytesAt, spansOver, objectsOver}
+use Rattle.parts.proofs.PartLaws.{plain-part, nest-part, plain-bytes, nest-bytes, one-object, own-size, sized-all, heaped-all, entry-used, entry-unused}
+
+refs-ok : (k : ℕ) → T (okRefs 0 (layoutOf k .shape .keep) (layoutOf k .refs))
+unfolding header control host hfi ssns security discovery info extended noKind
+refs-ok = by-layout (λ l. T (okRefs 0 (l .shape .keep) (l .refs))) tt tt tt tt tt tt tt tt tt tt
+
+-- a record with its references is as long as its image
+pub patched-long : (t : List ℕ) (k a h : ℕ) → length (patched h (imageIn (layoutOf k) t a) (slotsIn (layoutOf k) t a)) ≡ baseOf (layoutOf k)
+patched-long t k a h = length-patched (layoutOf k .shape .keep) h (imageIn (layoutOf k) t a) (slotsIn (layoutOf k) t a) (refs-ok k) (length-imageIn (layoutOf k) t a)
+
+module _ (t : List ℕ) (ok : Accepted t) (k a : ℕ) (s : Seated t (layoutOf k) a true) where
+  -- ---- an object
+
+  pub object-room : (p : ℕ) → hasPlain p (layoutOf k .refs) ≡ true → partAt t k a p .at + partAt t k a p .len ≤ length t
+  object-room p e = subst (λ (q : Part). q .at + q .len ≤ length t) (sym (plain-part t ok k a s p e)) (seat-room t ok p k (seat (layoutOf k) a true) (refl, s))
+
+  pub object-span : (p : ℕ) → hasPlain p (layoutOf k .refs) ≡ true → partAt t k a p .span ≡ partAt t k a p .len
+  object-span p e = subst (λ (q : Part). q .span ≡ q .len) (sym (plain-part t ok k a s p e)) refl
+
+  pub object-bytes : (h p : ℕ) → hasPlain p (layoutOf k .refs) ≡ true → bytesAt t k a h p ≡ part t (partAt t k a p .at) (partAt t k a p .len)
+  object-bytes h p e = plain-bytes t ok k a s h p e ∙ sym (ap (λ (q : Part). part t (q .at) (q .len)) (plain-part t ok k a s p e))
+
+  object-long : (h p : ℕ) → hasPlain p (layoutOf k .refs) ≡ true → length (bytesAt t k a h p) ≡ partAt t k a p .span
+  object-long h p e = ap length (object-bytes h p e) ∙ part-long t (partAt t k a p .at) (partAt t k a p .len) (object-room p e) ∙ sym (object-span p e)
+
+  -- ---- a heap record's one object
+
+  only : (h : ℕ) (ps : List ℕ) → length ps ≡ 1 → objectsOver t k a h ps ≡ bytesAt t k a h (getD ps 0 0)
+  unfolding objectsOver
+  only h [] e = absurd (omega arith)
+  only h (p ∷ []) e = append-nil (bytesAt t k a h p)
+  only h (p ∷ q ∷ ps) e = absurd (omega arith)
+
+  pub one-heaped : (h : ℕ) → OneObject k → heapOf h (slotsIn (layoutOf k) t a) ≡ bytesAt t k a h (getD (refsOf k) 0 0)
+  one-heaped h o = heaped-all t ok k a s h ∙ only h (refsOf k) (o .one)
+
+  pub one-size : OneObject k → sizeOf (slotsIn (layoutOf k) t a) ≡ partAt t k a (getD (refsOf k) 0 0) .span
+  one-size o = own-size t ok k a s o ∙ sym (ap (λ (q : Part). q .span) (plain-part t ok k a s (getD (refsOf k) 0 0) (o .object)))
+
+  one-long : (h : ℕ) → OneObject k → length (heapOf h (slotsIn (layoutOf k) t a)) ≡ sizeOf (slotsIn (layoutOf k) t a)
+  one-long h o = ap length (one-heaped h o) ∙ object-long h (getD (refsOf k) 0 0) (o .object) ∙ sym (one-size o)
+
+-- ---- a heap record
+
+record-long : (t : List ℕ) (ok : Accepted t) (k h : ℕ) (s : Seat) → Held t k s → OneObject k → length (recordBytes t k h s) ≡ recordPart t k s .span
+unfolding recordBytes recordPart
+record-long t ok k h Nowhere g o = refl
+record-long t ok k h (At b on) g o =
+    let h₁ : ℕ = h + baseOf (layoutOf k) in
+    length-append (patched h₁ (imageIn (layoutOf k) t b) (slotsIn (layoutOf k) t b)) (heapOf h₁ (slotsIn (layoutOf k) t b))
+    ∙ ap₂ _+_ (patched-long t k b h₁) (one-long t ok k b g h₁ o)
+
+module _ (t : List ℕ) (ok : Accepted t) (k a : ℕ) (s : Seated t (layoutOf k) a true) where
+  held : Held t (innerKind k) (heapRecord t k a)
+  held = record-held t ok a k (refl, s)
+
+  nest-long : (h p : ℕ) → hasPlain p (layoutOf k .refs) ≡ false → length (bytesAt t k a h p) ≡ partAt t k a p .span
+  nest-long h p e =
+      ap length (nest-bytes t ok k a s h p e)
+      ∙ record-long t ok (innerKind k) h (heapRecord t k a) held (one-object k)
+      ∙ sym (ap (λ (q : Part). q .span) (nest-part t ok k a s p e))
+
+  -- what a reference names takes its span
+  pub bytes-long : (h p : ℕ) → length (bytesAt t k a h p) ≡ partAt t k a p .span
+  bytes-long h p = go (hasPlain p (layoutOf k .refs)) refl where
+    go : (c : Bool) → hasPlain p (layoutOf k .refs) ≡ c → length (bytesAt t k a h p) ≡ partAt t k a p .span
+    go true e = object-long t ok k a s h p e
+    go false e = nest-long h p e
+
+  objects-long : (h : ℕ) (ps : List ℕ) → length (objectsOver t k a h ps) ≡ spansOver t k a ps
+  unfolding objectsOver spansOver
+  objects-long h [] = refl
+  objects-long h (p ∷ ps) =
+      length-append (bytesAt t k a h p) (objectsOver t k a (h + partAt t k a p .span) ps) ∙ ap₂ _+_ (bytes-long h p) (objects-long (h + partAt t k a p .span) ps)
+
+  pub slots-long : (h : ℕ) → length (heapOf h (slotsIn (layoutOf k) t a)) ≡ sizeOf (slotsIn (layoutOf k) t a)
+  slots-long h = ap length (heaped-all t ok k a s h) ∙ objects-long h (refsOf k) ∙ sym (sized-all t ok k a s)
+
+  -- ---- the heap record of a reference, by its numbers
+
+  -- there is none
+  pub none-held : (h p : ℕ) → hasPlain p (layoutOf k .refs) ≡ false → partAt t k a p .span ≡ 0 → bytesAt t k a h p ≡ []
+  none-held h p e z = empty (bytesAt t k a h p) (nest-long h p e ∙ z) where
+    empty : (xs : List ℕ) → length xs ≡ 0 → xs ≡ []
+    empty [] f = refl
+    empty (x ∷ xs) f = absurd (omega arith)
+
+  -- there is one, where the part says
+  pub one-held : (p : ℕ) → hasPlain p (layoutOf k .refs) ≡ false → (partAt t k a p .span ≡ 0 → ⊥)
+      → Seated t (layoutOf (innerKind k)) (partAt t k a p .at) true
+      × (recordPart t (innerKind k) (At (partAt t k a p .at) true) .span ≡ partAt t k a p .span)
+      × ((h : ℕ) → bytesAt t k a h p ≡ recordBytes t (innerKind k) h (At (partAt t k a p .at) true))
+  unfolding recordPart recordBytes
+  one-held p e z = go (heapRecord t k a) refl where
+    go : (w : Seat) → heapRecord t k a ≡ w → Seated t (layoutOf (innerKind k)) (partAt t k a p .at) true
+        × (recordPart t (innerKind k) (At (partAt t k a p .at) true) .span ≡ partAt t k a p .span)
+        × ((h : ℕ) → bytesAt t k a h p ≡ recordBytes t (innerKind k) h (At (partAt t k a p .at) true))
+    go Nowhere f = absurd (z (ap (λ (q : Part). q .span) (nest-part t ok k a s p e ∙ ap (recordPart t (innerKind k)) f)))
+    go (At b on) f =
+        let q = nest-part t ok k a s p e ∙ ap (recordPart t (innerKind k)) f in
+        let at = ap (λ (x : Part). x .at) q in (
+          subst (λ (i : ℕ). Seated t (layoutOf (innerKind k)) i true) (sym at) (subst (Held t (innerKind k)) f held),
+          ap (λ (i : ℕ). recordPart t (innerKind k) (At i true) .span) at ∙ sym (ap (λ (x : Part). x .span) q),
+          λ h. nest-bytes t ok k a s h p e ∙ ap (recordBytes t (innerKind k) h) f ∙ sym (ap (λ (i : ℕ). recordBytes t (innerKind k) h (At i true)) at),
+        )
+
+-- ---- a record of a list
+
+module _ (t : List ℕ) (ok : Accepted t) (k a : ℕ) (e : Entered t k a) where
+  abbrev here : Entry (layoutOf k)
+  here = readEntry (layoutOf k) t a
+
+  pub record-bytes : (h : ℕ) → length (recEntry h here) ≡ baseOf (layoutOf k)
+  unfolding recEntry
+  record-bytes h = go (isValid (layoutOf k .shape) (imageIn (layoutOf k) t a)) refl where
+    go : (c : Bool) → isValid (layoutOf k .shape) (imageIn (layoutOf k) t a) ≡ c → length (recEntry h here) ≡ baseOf (layoutOf k)
+    go true v = ap (λ (x : Entry (layoutOf k)). length (recEntry h x)) (entry-used t (layoutOf k) a v) ∙ patched-long t k a h
+    go false v = ap (λ (x : Entry (layoutOf k)). length (recEntry h x)) (entry-unused t (layoutOf k) a v) ∙ length-replicate (baseOf (layoutOf k)) 0
+
+  pub heap-bytes : (h : ℕ) → length (heapEntry h here) ≡ sizeEntry here
+  unfolding heapEntry sizeEntry
+  heap-bytes h = go (isValid (layoutOf k .shape) (imageIn (layoutOf k) t a)) refl where
+    go : (c : Bool) → isValid (layoutOf k .shape) (imageIn (layoutOf k) t a) ≡ c → length (heapEntry h here) ≡ sizeEntry here
+    go true v =
+        ap (λ (x : Entry (layoutOf k)). length (heapEntry h x)) (entry-used t (layoutOf k) a v)
+        ∙ slots-long t ok k a (subst (Seated t (layoutOf k) a) v (e .seated)) h
+        ∙ sym (ap (λ (x : Entry (layoutOf k)). sizeEntry x) (entry-used t (layoutOf k) a v))
+    go false v =
+        ap (λ (x : Entry (layoutOf k)). length (heapEntry h x)) (entry-unused t (layoutOf k) a v)
+        ∙ sym (ap (λ (x : Entry (layoutOf k)). sizeEntry x) (entry-unused t (layoutOf k) a v))

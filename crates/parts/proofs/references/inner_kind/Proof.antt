@@ -1,0 +1,14 @@
+use Rattle.table.proofs.Rules.{picks}
+use Rattle.parts.proofs.references.inner_kind.Statement.{statement}
+use Rattle.parts.proofs.references.inner_kind.Tie as tie
+use Rattle.parts.proofs.references.inner_kind.Reads as reads
+use Rattle.parts.proofs.references.inner_kind.Lts as lts
+
+returns : tie.Need-returns
+returns c = search picks
+
+returns-2 : tie.Need-returns-2
+returns-2 c = search picks
+
+pub inner-kind-spec : {M : Type 1} → statement M
+inner-kind-spec = tie.close (tie.spec returns returns-2)

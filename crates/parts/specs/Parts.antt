@@ -1,0 +1,91 @@
+-- What the references of a record name, as it is to be laid in a heap: where it stands, its length, and the bytes it takes. Definitions only.
+use mathlib.Core.Path.{_≡_}
+use mathlib.Core.Bool.{true}
+use mathlib.Core.List.{List, [], _∷_, _++_}
+use Prim.Native.Nat.{ℕ, _+_, _≤_, _<_}
+use lib.ListN.{length, getD}
+use Rattle.table.specs.declared.Place.{Place}
+use Rattle.table.specs.Bytes.{pick, part, num, Edit, edit}
+use Rattle.table.specs.Layout.{Layout, Slots, Entry, baseOf, offsets}
+use Rattle.table.specs.FixedLayouts.{layoutOf}
+use Rattle.table.specs.Objects.{readSlots, readList, sizeOf, patched, heapOf}
+use Rattle.table.specs.Reads.{seat, hasPlain, placeAt}
+use Rattle.laws.specs.Fields.{imageIn}
+use Rattle.writer.specs.Stores.{refNum}
+use Rattle.reads.specs.declared.seats.Seat.{Seat}
+use Rattle.reads.specs.declared.seats.Seat.the-variants.{Nowhere, At}
+use Rattle.reads.specs.Seats.{heapRecord}
+use Rattle.reads.specs.Told.{innerKind}
+use Rattle.parts.specs.declared.references.Part.{Part}
+use Rattle.parts.specs.declared.references.Parts.{Parts}
+
+-- where the references of kind k stand
+abbrev pub refsOf : ℕ → List ℕ
+refsOf k = offsets (layoutOf k .refs)
+
+-- a kind that has one reference, to an object
+pub record OneObject (k : ℕ) : Type 0 where
+  pub one : length (refsOf k) ≡ 1
+  pub object : hasPlain (getD (refsOf k) 0 0) (layoutOf k .refs) ≡ true
+
+-- the objects and heap records of the record of layout l at a
+unfoldable pub slotsIn : (l : Layout) → List ℕ → ℕ → Slots (l .refs)
+slotsIn l t a = readSlots t a (imageIn l t a) (l .refs)
+
+-- the list of layout l whose entry in the control record stands at c
+unfoldable pub listIn : (l : Layout) → List ℕ → ℕ → List (Entry l)
+listIn l t c = readList l t (num t c 4) (num t (c + 4) 2) (getD t (c + 7) 0)
+
+-- an object takes its length
+abbrev pub objectPart : Place → Part
+objectPart q = record { at = q .at; len = q .len; span = q .len }
+
+-- a heap record of kind k takes its base size and what its own objects take
+unfoldable pub recordPart : List ℕ → ℕ → Seat → Part
+recordPart t k Nowhere = record { at = 0; len = 0; span = 0 }
+recordPart t k (At b on) = record { at = b; len = baseOf (layoutOf k); span = baseOf (layoutOf k) + sizeOf (slotsIn (layoutOf k) t b) }
+
+-- the reference at p of the record of kind k at a
+unfoldable pub partAt : List ℕ → ℕ → ℕ → ℕ → Part
+partAt t k a p =
+    pick (hasPlain p (layoutOf k .refs)) (objectPart (placeAt t p (seat (layoutOf k) a true))) (recordPart t (innerKind k) (heapRecord t k a))
+
+-- the bytes of a heap record of kind k that is laid at h, its own objects behind it
+unfoldable pub recordBytes : List ℕ → ℕ → ℕ → Seat → List ℕ
+recordBytes t k h Nowhere = []
+recordBytes t k h (At b on) =
+    let l = layoutOf k in
+    let h₁ = h + baseOf l in
+    patched h₁ (imageIn l t b) (slotsIn l t b) ++ heapOf h₁ (slotsIn l t b)
+
+-- the bytes of what the reference at p names, laid at h
+unfoldable pub bytesAt : List ℕ → ℕ → ℕ → ℕ → ℕ → List ℕ
+bytesAt t k a h p = pick (hasPlain p (layoutOf k .refs)) (part t (partAt t k a p .at) (partAt t k a p .len)) (recordBytes t (innerKind k) h (heapRecord t k a))
+
+-- ---- the references at ps, one after the other: bytes taken, stores in the record, bytes in the heap from h on
+
+unfoldable pub spansOver : List ℕ → ℕ → ℕ → List ℕ → ℕ
+spansOver t k a [] = 0
+spansOver t k a (p ∷ ps) = partAt t k a p .span + spansOver t k a ps
+
+unfoldable pub storesOver : List ℕ → ℕ → ℕ → ℕ → List ℕ → List Edit
+storesOver t k a h [] = []
+storesOver t k a h (p ∷ ps) = edit p (refNum h (partAt t k a p .len)) ∷ storesOver t k a (h + partAt t k a p .span) ps
+
+unfoldable pub objectsOver : List ℕ → ℕ → ℕ → ℕ → List ℕ → List ℕ
+objectsOver t k a h [] = []
+objectsOver t k a h (p ∷ ps) = bytesAt t k a h p ++ objectsOver t k a (h + partAt t k a p .span) ps
+
+-- ---- all references of the record of kind k at a
+
+-- the first n references name what these numbers say
+pub record Named (t : List ℕ) (k a : ℕ) (from len span : List ℕ) (n : ℕ) : Type 0 where
+  pub froms : (i : ℕ) → i < n → getD from i 0 ≡ partAt t k a (getD (refsOf k) i 0) .at
+  pub lens : (i : ℕ) → i < n → getD len i 0 ≡ partAt t k a (getD (refsOf k) i 0) .len
+  pub spans : (i : ℕ) → i < n → getD span i 0 ≡ partAt t k a (getD (refsOf k) i 0) .span
+  pub short : (i : ℕ) → i < n → getD span i 0 ≤ 131072
+
+pub record Gathered (t : List ℕ) (k a : ℕ) (z : Parts) : Type 0 where
+  pub each : Named t k a (z .from) (z .len) (z .span) (length (refsOf k))
+  pub whole : z .total ≡ sizeOf (slotsIn (layoutOf k) t a)
+  pub few : z .total ≤ 786432

@@ -1,0 +1,4 @@
+pub mod LaidLaws
+pub mod FormLaws
+pub mod AnswerLaws
+pub mod DemandThree

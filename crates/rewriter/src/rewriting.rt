@@ -1,0 +1,99 @@
+// The rewriter: the reader's answer, then 17, then 14; only where all pass is a byte written.
+use crate::objects::lay_objects;
+use crate::records::lay_entry;
+use crate::records::lay_lists;
+use parts::references::gather;
+use table::Answer;
+use table::Rewritten;
+use writer::front::Counts;
+use writer::front::write_control;
+use writer::front::write_header;
+use writer::stores::put_u8;
+ghost use mathlib.Core.Path.{_≡_};
+ghost use mathlib.Core.List.{_∷_, []};
+ghost use Prim.Native.Nat.{_+_, _≤_};
+ghost use lib.ListN.{length, getD, take};
+ghost use lib.Dec.{leb};
+ghost use Rattle.table.specs.Bytes.{part, splice, checksum};
+ghost use Rattle.table.specs.Rules.{test, firstFail};
+ghost use Rattle.table.specs.Meaning.{limit, meaning, heapLen, formLength, laidOut};
+ghost use Rattle.table.specs.Rewriting as definition;
+ghost use Rattle.reader.specs.Accepted.{Accepted};
+ghost use Rattle.writer.specs.Front.{headerFor, controlFor};
+
+// Header and control record; `n` is Length, `h` and `k` are place and length of the heap, `d` is the length of the driver signature.
+fn lay_front(out: &mut [u8], t: &[u8], n: usize, h: usize, k: usize, d: usize)
+    requires { ⌜ (160 ≤ length (now t)) × (160 ≤ length (now out)) ⌝ }
+    ensures { λ r. ⌜ now (out .exit) ≡ splice (splice (now (out .entry)) 0 (headerFor n (part (now (t .entry)) 10 26) h k d)) 64 (controlFor (getD (now (t .entry)) 87 0 ∷ getD (now (t .entry)) 95 0 ∷ getD (now (t .entry)) 103 0 ∷ getD (now (t .entry)) 111 0 ∷ [])) ⌝ }
+{
+    write_header(&mut out[0..64], &t[10..36], n, h, k, d);
+    let counts = Counts {
+        hfi: t[87],
+        ssns: t[95],
+        security: t[103],
+        discovery: t[111],
+    };
+    write_control(&mut out[64..128], counts);
+}
+
+// The one form but for its checksum, which is 0.
+fn lay_form(out: &mut [u8], t: &[u8], n: usize, k: usize)
+    requires { ⌜ Accepted (now t) × (n ≡ formLength (meaning (now t))) × (k ≡ heapLen (meaning (now t))) ⌝ }
+    requires { ⌜ (n ≤ length (now out)) × (n ≤ 65536) ⌝ }
+    ensures { λ r. ⌜ now (out .exit) ≡ splice (now (out .entry)) 0 (laidOut (meaning (now (t .entry))) n 0 k) ⌝ }
+{
+    let h = n - k;
+    let driver = gather(t, 0, 0);
+    let d = driver.total;
+    lay_front(out, t, n, h, k, d);
+    lay_objects(out, h, t, 0, 0, driver);
+    let u = lay_entry(out, 128, h + d, t, 2, wire::u32_at(t, 72));
+    lay_lists(out, u, t);
+}
+
+// The checksum of the first `n` bytes, stored among them.
+fn seal(out: &mut [u8], n: usize)
+    requires { ⌜ (160 ≤ n) × (n ≤ length (now out)) ⌝ }
+    ensures { λ r. ⌜ now (out .exit) ≡ splice (now (out .entry)) 9 (checksum (take n (now (out .entry))) ∷ []) ⌝ }
+{
+    let sum = wire::sum8(&out[0..n]);
+    put_u8(out, 9, writer::stores::low(256 - wire::wide(sum)));
+}
+
+// `n` bytes are to be written, of which there are `room`.
+fn room_fault(n: usize, room: usize) -> Answer
+    ensures { λ r. ⌜ r ≡ firstFail (test (leb n limit) 17 0 0 ∷ test (leb n room) 14 0 0 ∷ []) ⌝ }
+{
+    if n > 65536 {
+        return table::refuse(17, 0, 0);
+    }
+    if n > room {
+        return table::refuse(14, 0, 0);
+    }
+    table::done()
+}
+
+fn refused(a: Answer) -> Rewritten
+    ensures { λ r. ⌜ (r .answer ≡ a) × (r .len ≡ 0) ⌝ }
+{
+    Rewritten { answer: a, len: 0 }
+}
+
+// The table's one form in the first bytes of `out`, and its length. Any bytes may be handed in.
+pub fn rewrite(t: &[u8], out: &mut [u8]) -> Rewritten
+    ensures { λ r. ⌜ (r ≡ definition.rewrite (now (t .entry)) (length (now (out .entry)))) × (now (out .exit) ≡ definition.rewriteBytes (now (t .entry)) (now (out .entry))) ⌝ }
+{
+    let a = reader::check(t);
+    if a.number != 0 {
+        return refused(a);
+    }
+    let k = parts::sizes::heap_size(t);
+    let n = 160 + parts::sizes::records_size(t) + k;
+    let f = room_fault(n, out.len());
+    if f.number != 0 {
+        return refused(f);
+    }
+    lay_form(out, t, n, k);
+    seal(out, n);
+    Rewritten { answer: f, len: n }
+}

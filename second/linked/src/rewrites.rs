@@ -1,0 +1,228 @@
+//! Tables rewritten by both programs, each into outputs of many lengths that
+//! are full of noise, so that a byte shows whether it was written.
+
+use crate::guard::Guarded;
+use crate::{hex, long_forms, tables};
+use second::answer::number::{OUTPUT_TOO_SHORT, TOO_FEW_BYTES};
+use second::damage::{empty_heap, outer_damage};
+use second::faults::damages;
+use second::frame::GREATEST_LENGTH;
+use second::goods::goods;
+use second::random::Random;
+use second::samples::{crowded, known, machine, smallest};
+use second::{form, form_length, Answer, Meaning};
+use std::collections::BTreeMap;
+
+/// What a rewrite gives, and every byte of the output when it has ended.
+#[derive(PartialEq, Eq)]
+pub struct Rewrite {
+    answer: Answer,
+    length: usize,
+    output: Vec<u8>,
+}
+
+/// Bytes before and behind the output that are not lent, and what they hold.
+const MARGIN: usize = 64;
+const UNLENT: u8 = 0xA5;
+
+/// The library's rewrite of a table into an output that holds these bytes.
+pub fn by_library(table: &[u8], output: &[u8]) -> Result<Rewrite, String> {
+    let mut around = vec![UNLENT; MARGIN + output.len() + MARGIN];
+    let (before, rest) = around.split_at_mut(MARGIN);
+    let (lent_output, behind) = rest.split_at_mut(output.len());
+    lent_output.copy_from_slice(output);
+    let lent = table.to_vec();
+    let rewrite = call(table, &lent, lent_output)?;
+    if before.iter().chain(behind.iter()).any(|byte| *byte != UNLENT) {
+        return Err("the library writes outside the output".to_string());
+    }
+    Ok(rewrite)
+}
+
+/// The same four times: table and output each end at, or start behind, a page that nothing may touch.
+pub fn by_library_in_pages(pages: &mut [Guarded; 2], table: &[u8], output: &[u8]) -> Result<Rewrite, String> {
+    let [table_pages, output_pages] = pages;
+    let ends_end = call(table, table_pages.ending(table), output_pages.ending(output))?;
+    let ends_start = call(table, table_pages.ending(table), output_pages.starting(output))?;
+    let starts_end = call(table, table_pages.starting(table), output_pages.ending(output))?;
+    let starts_start = call(table, table_pages.starting(table), output_pages.starting(output))?;
+    if [ends_start, starts_end, starts_start].iter().all(|other| *other == ends_end) {
+        Ok(ends_end)
+    } else {
+        Err("the library's rewrite depends on the place".to_string())
+    }
+}
+
+/// Lends a copy of the table, which the library must leave as it is.
+fn call(table: &[u8], lent: &[u8], output: &mut [u8]) -> Result<Rewrite, String> {
+    let (answer, length) = crate::rewrite(lent, output);
+    if lent != table {
+        return Err("the library changes the table".to_string());
+    }
+    Ok(Rewrite { answer, length, output: output.to_vec() })
+}
+
+fn by_second(table: &[u8], output: &[u8]) -> Rewrite {
+    let mut output = output.to_vec();
+    let (answer, length) = second::rewrite(table, &mut output);
+    Rewrite { answer, length, output }
+}
+
+/// Directed tables, then generated ones until `count` of these have been
+/// rewritten. `rewrite` is the library's, of a table and an output's bytes.
+pub fn compare(
+    count: u64,
+    seed: u64,
+    rewrite: impl FnMut(&[u8], &[u8]) -> Result<Rewrite, String>,
+) -> Result<String, String> {
+    compare_into_nothing()?;
+    let mut random = Random::seeded(seed);
+    let noise = random.bytes(LONGEST_OUTPUT);
+    let mut comparison = Comparison { rewrite, random, noise, tally: Tally::default() };
+    for table in directed() {
+        comparison.of_table(&table)?;
+    }
+    let goal = comparison.tally.rewritten + count;
+    while comparison.tally.rewritten < goal {
+        let table = next(&mut comparison.random);
+        comparison.of_table(&table)?;
+    }
+    Ok(comparison.tally.told(seed))
+}
+
+/// An output of no bytes, lent where nothing can be written.
+fn compare_into_nothing() -> Result<(), String> {
+    for (table, number) in [(smallest(), OUTPUT_TOO_SHORT), (Vec::new(), TOO_FEW_BYTES)] {
+        for given in crate::rewrite_into_nothing(&table) {
+            if given != (Answer::plain(number), 0) {
+                return Err(format!("the library gives {given:?} for no output, on\n{}", hex(&table)));
+            }
+        }
+    }
+    Ok(())
+}
+
+/// Tables of every sort: most of them good, in any layout, and some whose forms are long.
+fn next(random: &mut Random) -> Vec<u8> {
+    match random.below(40) {
+        0 | 1 => long_forms::near_the_limit(random),
+        2 | 3 => long_forms::crowd(random),
+        4..=15 => tables::next(random),
+        _ => tables::good(random),
+    }
+}
+
+/// The samples, good tables that each show one thing, every damage of one
+/// table, and forms around the greatest length and its multiples.
+fn directed() -> Vec<Vec<u8>> {
+    let good = form(&machine());
+    let mut samples = known();
+    samples.extend(goods());
+    samples.extend(damages(&good).iter().map(|damage| damage.apply(&good)));
+    samples.extend(outer_damage(&good));
+    samples.push(empty_heap(&good));
+    let mut tables: Vec<Vec<u8>> = samples.into_iter().map(|sample| sample.table).collect();
+    tables.extend([form(&crowded(97)), long_forms::far_too_long()]);
+    let mut random = Random::seeded(0);
+    for length in [65_535, 65_536, 65_537, 65_538, 65_700, 131_071, 131_072, 131_073, 131_400, 196_608, 200_000] {
+        for _ in 0..4 {
+            tables.push(long_forms::of_length(&mut random, machine(), length));
+        }
+    }
+    tables
+}
+
+/// Both rewrites of many tables, side by side.
+struct Comparison<F> {
+    rewrite: F,
+    random: Random,
+    /// What outputs hold before they are lent is cut from this.
+    noise: Vec<u8>,
+    tally: Tally,
+}
+
+/// No output is longer. A form that is longer still is far too long.
+const LONGEST_OUTPUT: usize = 1 << 18;
+
+impl<F: FnMut(&[u8], &[u8]) -> Result<Rewrite, String>> Comparison<F> {
+    /// A table into all outputs. Where it has a form, that is rewritten too and must stay as it is.
+    fn of_table(&mut self, table: &[u8]) -> Result<(), String> {
+        self.tally.tables += 1;
+        let length = Meaning::read(table).ok().map(|meaning| form_length(&meaning));
+        for room in self.rooms(length.unwrap_or(table.len())) {
+            self.call_both(table, room)?;
+        }
+        match length {
+            Some(length) if length <= GREATEST_LENGTH => self.of_form(table, length),
+            _ => Ok(()),
+        }
+    }
+
+    fn of_form(&mut self, table: &[u8], length: usize) -> Result<(), String> {
+        self.tally.rewritten += 1;
+        let form = self.call_both(table, length)?.output;
+        let longer = length + self.random.below(20);
+        let again = self.call_both(&form, longer)?.output;
+        if again[..length] == form {
+            return Ok(());
+        }
+        Err(format!("the form is rewritten to something else, on\n{}", hex(&form)))
+    }
+
+    /// Lengths of outputs around a form's, or what might be one's: that one, a byte less, more, none, any.
+    fn rooms(&mut self, length: usize) -> Vec<usize> {
+        let length = length.clamp(1, LONGEST_OUTPUT - 100);
+        let mut rooms = vec![length, length - 1, length + 1 + self.random.below(64), 0];
+        rooms.extend((0..3).map(|_| self.random.below(length + 100)));
+        if self.random.one_in(8) {
+            rooms.push(GREATEST_LENGTH - 1 + self.random.below(3));
+        }
+        rooms
+    }
+
+    /// Both programs rewrite a table into an output of this length.
+    fn call_both(&mut self, table: &[u8], room: usize) -> Result<Rewrite, String> {
+        let start = self.random.below(self.noise.len() - room + 1);
+        let output = &self.noise[start..start + room];
+        let expected = by_second(table, output);
+        let given = (self.rewrite)(table, output)
+            .and_then(|given| same(&expected, given))
+            .map_err(|difference| format!("{difference}, for an output of {room} bytes, on\n{}", hex(table)))?;
+        self.tally.calls += 1;
+        *self.tally.by_number.entry(given.answer.number).or_default() += 1;
+        Ok(given)
+    }
+}
+
+fn same(expected: &Rewrite, given: Rewrite) -> Result<Rewrite, String> {
+    if given == *expected {
+        return Ok(given);
+    }
+    let told = |rewrite: &Rewrite| format!("{:?} and length {}", rewrite.answer, rewrite.length);
+    let mut outputs = given.output.iter().zip(&expected.output).enumerate();
+    let bytes = match outputs.find(|(_, (given, expected))| given != expected) {
+        Some((place, (given, expected))) => format!("; byte {place} of the output is {given:02X} and not {expected:02X}"),
+        None => String::new(),
+    };
+    Err(format!("the library gives {}, the second program {}{bytes}", told(&given), told(expected)))
+}
+
+/// What was compared; a rewritten table is one that has a form.
+#[derive(Default)]
+struct Tally {
+    tables: u64,
+    rewritten: u64,
+    calls: u64,
+    by_number: BTreeMap<u8, u64>,
+}
+
+impl Tally {
+    fn told(&self, seed: u64) -> String {
+        let Tally { tables, rewritten, calls, .. } = self;
+        let by_number: Vec<String> = self.by_number.iter().map(|(number, times)| format!("{number}: {times}")).collect();
+        format!(
+            "{calls} rewrites of {tables} tables agree (seed {seed}), {rewritten} tables have a form; by number {}",
+            by_number.join(", ")
+        )
+    }
+}
