@@ -8,7 +8,8 @@
 #   make vectors  write the vectors, sample tables and cases anew
 #   make clean    remove what the others made
 
-CARGO  := cargo
+# Without make's flags, since cargo cannot reach the job slots that they name and warns of it.
+CARGO  := MAKEFLAGS= cargo
 SECOND := second/target/release/second
 CASES  := crates/agreement/specs
 
@@ -20,13 +21,17 @@ RUN     :=
 LINKING := $(CARGO)
 else
 RUN     := qemu-x86_64
-LINKING := PATH=/usr/bin:$$PATH CARGO_TARGET_X86_64_UNKNOWN_LINUX_GNU_LINKER=x86_64-linux-gnu-gcc cargo
+LINKING := PATH=/usr/bin:$$PATH CARGO_TARGET_X86_64_UNKNOWN_LINUX_GNU_LINKER=x86_64-linux-gnu-gcc $(CARGO)
 endif
 BIN     := $(RUN) target/bin
 LINKED  := $(RUN) second/linked/target/$(X86)/release/linked
 BENCH   := bench/target/$(X86)/release/bench
 
-.PHONY: run test library soak bench vectors clean second linked
+# Whether the library has the builder's functions, which `linked` is then compiled to call: `yes`, or empty while it has not.
+BUILDER :=
+
+.PHONY: run test proofs compared second-tests comparisons compared-checks compared-reads compared-rewrites library soak bench vectors clean \
+        second linked
 
 # The programs are proved, then compiled: the first run takes some minutes.
 run:
@@ -39,17 +44,40 @@ run:
 	@$(BIN)/nbft_rewrite samples/machine.nbft target/machine.form
 	@$(BIN)/nbft_rewrite --same samples/machine.nbft target/machine.form
 
-# The last step is the proofs: its last line is 'N passed, M failed'.
-test: second linked
+# All proofs, and beside them what is compared: where the one leaves a core idle the other has it, and if either fails so does the test.
+# The comparisons take a fraction of the proofs' time, so that the last line is that of `rt ci`: 'N passed, M failed'.
+test:
+	@$(MAKE) --no-print-directory --jobs=2 proofs compared
+
+proofs:
+	rt fmt --check
+	rt ci
+
+# The library is made in a copy of the crates: `rt ci` removes target/, and counts every Rattle file below the repository's top as the
+# repository's own. Each target prints when it is done, so that its lines stay together.
+compared:
+	@copy=$$(mktemp -d) && trap 'rm -rf "$$copy"' EXIT && trap 'exit 1' HUP INT TERM && cp -R crates crates.txt "$$copy" && \
+	RT_JOBS=1 $(MAKE) --no-print-directory --output-sync=target --directory="$$copy" --file="$(CURDIR)/Makefile" library && \
+	$(MAKE) --no-print-directory --output-sync=target NBFT_LIB="$$copy/target/staticlib" second-tests comparisons
+
+# The second program's own tests, and that the committed vectors, samples and cases are what it writes.
+second-tests: second
 	cd second && $(CARGO) test --offline --quiet
 	$(SECOND) vectors check second/vectors
 	$(SECOND) samples check samples
 	$(SECOND) cases check $(CASES)
+
+# The library beside the second program.
+comparisons: compared-checks compared-reads compared-rewrites
+
+compared-checks: linked
 	$(LINKED) compare 40000 1
+
+compared-reads: linked
 	$(LINKED) reads 400 2
+
+compared-rewrites: linked
 	$(LINKED) rewrite 6000 3
-	rt fmt --check
-	rt ci
 
 # `rt staticlib` proves one crate after the other; `rt check` before it proves several at a time.
 library:
@@ -60,6 +88,7 @@ soak: linked
 	$(LINKED) compare 1000000 2026
 	$(LINKED) reads 10000 2028
 	$(LINKED) rewrite 100000 2029
+	$(if $(BUILDER),$(LINKED) build 50000 2030)
 	$(LINKED) guard 200000 2027
 
 bench: linked
@@ -75,8 +104,9 @@ vectors: second
 second:
 	@cd second && $(CARGO) build --offline --quiet --release
 
-linked: library
-	@cd second/linked && $(LINKING) build --target $(X86) --offline --quiet --release
+# With the library that stands in the folder NBFT_LIB, if that is given.
+linked: $(if $(NBFT_LIB),,library)
+	@cd second/linked && $(LINKING) build --target $(X86) --offline --quiet --release $(if $(BUILDER),--features builder)
 
 clean:
 	rm -rf target build second/target second/linked/target bench/target

@@ -6,6 +6,7 @@ use crate::frame::GREATEST_LENGTH;
 use crate::host::Host;
 use crate::interface::Interface;
 use crate::record::Record;
+use crate::wire::{array_at, put, put_u16, u16_at};
 
 /// Between two builder calls. A plain value, so that a caller can also hold
 /// one that no call ever handed out; such a state is refused.
@@ -42,6 +43,26 @@ impl State {
             position: 0,
             counts,
             used,
+        }
+    }
+
+    /// The state as sixteen bytes, numbers little endian, for a caller who
+    /// keeps it as such. Any sixteen bytes are some state's.
+    pub fn to_bytes(self) -> [u8; 16] {
+        let mut bytes = [0; 16];
+        put_u16(&mut bytes, 0, self.turn);
+        put_u16(&mut bytes, 2, self.position);
+        put(&mut bytes, 4, &self.counts);
+        put(&mut bytes, 8, &(self.used as u64).to_le_bytes());
+        bytes
+    }
+
+    pub fn from_bytes(bytes: [u8; 16]) -> State {
+        State {
+            turn: u16_at(&bytes, 0),
+            position: u16_at(&bytes, 2),
+            counts: array_at(&bytes, 4),
+            used: u64::from_le_bytes(array_at(&bytes, 8)) as usize,
         }
     }
 

@@ -173,6 +173,24 @@ fn calls_out_of_turn_change_nothing() {
 }
 
 #[test]
+fn sixteen_bytes_and_states_say_the_same() {
+    let state = State {
+        turn: 4,
+        position: 0x0102,
+        counts: [5, 6, 7, 8],
+        used: 0xFEDC,
+    };
+    let bytes = [4, 0, 2, 1, 5, 6, 7, 8, 0xDC, 0xFE, 0, 0, 0, 0, 0, 0];
+    assert_eq!(state.to_bytes(), bytes);
+    assert_eq!(State::from_bytes([0; 16]), State::EMPTY);
+    let mut random = Random::seeded(11);
+    for _ in 0..100 {
+        let any = random.array();
+        assert_eq!(State::from_bytes(any).to_bytes(), any);
+    }
+}
+
+#[test]
 fn a_buffer_one_byte_short_is_refused_and_unchanged() {
     let mut random = Random::seeded(6);
     let told = machine();

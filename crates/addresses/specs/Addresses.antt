@@ -7,7 +7,7 @@ use lib.Dec.{eqb, ltb, leb}
 use lib.ListN.{getD, take, drop, replicate}
 use Rattle.text.specs.Ascii.{ascii}
 use Rattle.text.specs.Numerals.{numeral, digitsOf}
-use Rattle.text.specs.Hexadecimal.{hexDigit, hexOf}
+use Rattle.hexadecimal.specs.Hexadecimal.{hexDigit, hexOf}
 
 -- two bytes are a group, the high one first
 unfoldable pub groups : List ℕ → List ℕ

@@ -1,10 +1,10 @@
 // Internet addresses of 16 bytes: a dotted quad where IPv4 is mapped, and else what RFC 5952 asks for.
+use hexadecimal::with_hex;
 use text::Text;
 use text::append::empty;
 use text::append::with_byte;
 use text::append::with_bytes;
 use text::decimals::with_number;
-use text::hexadecimal::with_hex;
 ghost use mathlib.Core.Path.{_≡_};
 ghost use mathlib.Core.List.{_++_};
 ghost use Prim.Native.Nat.{_+_, _*_, _≤_, _<_};

@@ -3,7 +3,7 @@ use mathlib.Core.Path.{_≡_, refl, sym, ap, _∙_}
 use mathlib.Core.Bool.{Bool, true, false, not, _&&_, _||_}
 use mathlib.Core.List.{List, [], _∷_}
 use Prim.Native.Nat.{ℕ, _+_, _*_, _%_, _≤_, _<_}
-use native.Mathlib.Nat.{add-zero, le-trans, le-of-lt, mul-le-mul-left, mul-le-mul-right}
+use native.Mathlib.Nat.{add-zero, le-trans}
 use native.Mathlib.Omega.{arith}
 use lib.ListN.{length, getD, take}
 use lib.Dec.{T, leb, eqb, leb→le}
@@ -18,15 +18,15 @@ use Rattle.table.specs.Rules.{answer, first, test, firstFail, apart, apartAll, 
 use Rattle.table.specs.Meaning.{limit}
 use Rattle.table.specs.Numbers.{tests, regions, minorRight}
 use Rattle.laws.specs.TestLaws.{all-pass}
-use Rattle.frame.specs.declared.Entry.{Entry}
-use Rattle.frame.specs.declared.Head.{Head}
-use Rattle.frame.specs.declared.Span.{Span}
-use Rattle.frame.specs.Head.{headOf, entryIn, sizeTests, controlWrong, tooShort, shortLists, listSpan, spansOf, outside, outsides, regionOf, overlap, overlapsOf, overlaps, misplaced, wrongVersion, wrongVersions, judged, headTests}
+use Rattle.head.specs.declared.Entry.{Entry}
+use Rattle.head.specs.declared.Head.{Head}
+use Rattle.spans.specs.declared.Span.{Span}
+use Rattle.head.specs.Head.{headOf, entryIn}
+use Rattle.judging.specs.Judging.{sizeTests, judged}
+use Rattle.frame.specs.Tests.{controlWrong, tooShort, shortLists, wrongVersion, wrongVersions, headTests}
+use Rattle.regions.specs.Regions.{listSpan, spansOf, outsides, overlapsOf, overlaps, misplaced}
+use Rattle.spans.specs.Spans.{outside, regionOf, overlap}
 use Rattle.frame.specs.Bounds.{LaidOut}
-
--- a product of two bounded numbers is bounded
-pub prod : {a b : ℕ} (m n : ℕ) → a < m → b < n → a * b ≤ m * n
-prod {a} {b} m n ha hb = le-trans (mul-le-mul-left a (le-of-lt hb)) (mul-le-mul-right n (le-of-lt ha))
 
 -- ---- a count of faults is 0 where the tests hold
 

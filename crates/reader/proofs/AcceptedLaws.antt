@@ -18,19 +18,24 @@ use Rattle.table.specs.FixedLayouts.{layoutOf, listKinds, info, extended, ssns}
 use Rattle.table.specs.Objects.{readBody}
 use Rattle.table.specs.Rules.{answer, bodyRule, done, first, firstFail, firstOf, isSound, reaches, refRule}
 use Rattle.table.specs.Meaning.{meaning}
-use Rattle.table.specs.Numbers.{check, heapIn, records, tests}
+use Rattle.table.specs.Numbers.{heapIn, records, tests}
 use Rattle.laws.specs.Sound.{first-of, pick-of}
 use Rattle.laws.specs.Fields.{imageIn}
 use Rattle.laws.specs.RefWalk.{firstOver, partRule}
 use Rattle.laws.specs.ListWalk.{envIn, validIn, walk-more, walk-stop}
 use Rattle.frame.specs.Bounds.{LaidOut, ListIn}
 use Rattle.frame.proofs.Laws.{laid-out}
-use Rattle.rules.specs.Records.{IsHeap, refFault, rightRule, spot}
+use Rattle.rules.specs.Rules.{IsHeap, refFault}
+use Rattle.records.specs.Records.{rightRule}
+use Rattle.heap_records.specs.HeapRecords.{spot}
 use Rattle.rules.proofs.HeapLaws.{Inside, extended-no, extended-yes, info-no, info-yes, reached}
-use Rattle.reader.specs.Walks.{counts, hostFault, listFault, listFrom, namesRule, numbered, recordFault, refsFault, usedFault}
+use Rattle.lists.specs.Lists.{counts, listFault, listFrom, recordFault, usedFault}
+use Rattle.reader.specs.Stages.{hostFault, numbered}
+use Rattle.indexes.specs.Indexes.{namesRule, refsFault}
 use Rattle.reader.specs.Accepted.{Accepted}
-use Rattle.reader.proofs.Laws.{body-is, check-is, parts-are, record-by, refs-are, used-is}
-use Rattle.reader.proofs.IndexLaws.{stride}
+use Rattle.reader.proofs.Laws.{body-is, check-is, parts-are}
+use Rattle.lists.proofs.Laws.{record-by, refs-are, used-is}
+use Rattle.indexes.proofs.Laws.{stride}
 
 -- ---- the stages of the check, taken apart
 

@@ -1,127 +1,28 @@
--- The first fault of several, over a kind's references, over a list, over the stages of the check. Assumes nothing.
+-- The first fault of several, over the stages of the check. Assumes nothing.
 use mathlib.Core.Path.{_≡_, refl, sym, ap, ap₂, _∙_}
 use mathlib.Core.Bool.{Bool, true, false}
 use mathlib.Core.List.{List}
-use Prim.Native.Nat.{ℕ, zero, suc, _+_, _-_, _*_, _%_, _≤_, _<_}
+use Prim.Native.Nat.{ℕ, zero, suc, _+_, _-_, _%_, _≤_, _<_}
 use native.Mathlib.Omega.{arith}
-use native.Mathlib.Nat.{suc-mul, add-assoc}
-use native.Mathlib.Numerals.{add-one}
-use lib.ListN.{length, getD, take, drop, drop-of-length-le, length-take, length-drop}
-use lib.Seq.{drop-cons, getD-take}
-use lib.Dec.{T, ltb, ltb→lt}
-use mir.Facts.{and-yes}
+use lib.ListN.{length, getD, length-take, length-drop}
 use borrow.Author.Tests.{eq-eqb, ne-eqb}
 use Rattle.table.specs.declared.Region.{Region}
 use Rattle.table.specs.declared.Answer.{Answer}
 use Rattle.table.specs.Bytes.{pick, part, num, odd}
-use Rattle.table.specs.Layout.{baseOf, isValid, region, offsets, used, unused}
-use Rattle.table.specs.FixedLayouts.{layoutOf, header, host, hfi, ssns, security, discovery, listKinds}
+use Rattle.table.specs.Layout.{isValid, region, used, unused}
+use Rattle.table.specs.FixedLayouts.{layoutOf, header, host, listKinds}
 use Rattle.table.specs.Objects.{readBody, readEntry, readSlots}
-use Rattle.table.specs.Rules.{answer, done, first, firstFail, firstOf, refsRule, usedRule, bodyRule}
+use Rattle.table.specs.Rules.{answer, done, first, firstFail, refsRule, bodyRule}
 use Rattle.table.specs.Meaning.{meaning}
 use Rattle.table.specs.Numbers.{heapIn, tests, driverRule, hostRule, records, check}
 use Rattle.laws.specs.Fields.{imageIn}
-use Rattle.laws.specs.RefWalk.{firstOver, refs-over}
-use Rattle.laws.specs.ListWalk.{validIn, envIn, usedIt, record-is, flagOk, flag-is, walk, walk-stop, walk-more, walk-none, kinds-distinct}
-use Rattle.rules.specs.Records.{IsHeap, rightRule, refFault}
-use Rattle.reader.specs.Walks.{refsFault, namesRule, usedFault, recordFault, counts, listFrom, listFault, numbered, hostFault}
-
--- ---- the first of two
-
-pub stop : {n x : ℕ} (y : ℕ) → n ≡ x → (n ≡ 0 → ⊥) → n ≡ firstOf x y
-stop {n} {x} y e z = e ∙ sym (ap (λ (c : Bool). pick c y x) (ne-eqb x 0 (λ w. z (e ∙ w))))
-
-pub more : {n x m y : ℕ} → n ≡ x → n ≡ 0 → m ≡ y → m ≡ firstOf x y
-more {n} {x} {m} {y} e z f = f ∙ sym (ap (λ (c : Bool). pick c y x) (eq-eqb x 0 (sym e ∙ z)))
-
--- ---- over the references of a kind
-
-pub refs-are : (k : ℕ) (heap : Region) (t : List ℕ) (a pos : ℕ) → refsFault k heap t a pos ≡ firstOver (refFault k heap t a pos) (offsets (layoutOf k .refs))
-unfolding refsFault refFault
-refs-are k heap t a pos = refs-over heap (envIn t pos) t a (imageIn (layoutOf k) t a) (layoutOf k .refs) (kinds-distinct k)
-
-pub lists-at : (n : ℕ) (xs : List ℕ) {l : List ℕ} → take n xs ≡ l → (i : ℕ) → i < n → getD xs i 0 ≡ getD l i 0
-lists-at n xs {l} p i h = sym (getD-take n xs i 0 h) ∙ ap (λ (ys : List ℕ). getD ys i 0) p
-
-module _ (f : ℕ → ℕ) (n : ℕ) (xs : List ℕ) {l : List ℕ} (p : take n xs ≡ l) (q : n ≡ length l) {i : ℕ} (h : i < n) {a : ℕ} (e : a ≡ f (getD xs i 0)) where
-  found : a ≡ f (getD l i 0)
-  found = e ∙ ap f (lists-at n xs p i h)
-
-  within : i < length l
-  within = rw q at h
-
-  pub over-stop : (a ≡ 0 → ⊥) → a ≡ firstOver f (drop i l)
-  over-stop z = rw (drop-cons l i 0 within) (stop (firstOver f (drop (suc i) l)) found z)
-
-  pub over-more : a ≡ 0 → firstOver f (drop (i + 1) l) ≡ firstOver f (drop i l)
-  over-more z = rw (add-one i, drop-cons l i 0 within) (more found z refl)
-
-pub over-none : (f : ℕ → ℕ) (l : List ℕ) (i : ℕ) → length l ≤ i → 0 ≡ firstOver f (drop i l)
-over-none f l i h = rw (drop-of-length-le l h)
-
--- ---- a record
-
-pub used-is : (k : ℕ) (heap : Region) (t : List ℕ) (a pos : ℕ) → firstOf (rightRule k t a pos) (firstOf (refsFault k heap t a pos) (namesRule k t a)) ≡ usedFault k heap t a pos
-unfolding usedFault usedIt usedRule rightRule refsFault namesRule
-used-is k heap t a pos = refl
-
--- the kinds whose valid bit stands in their flags: one computed test
-pub flags-stand : (k : ℕ) → 2 ≤ k → k ≤ 6 → T (flagOk (layoutOf k))
-unfolding layoutOf host hfi ssns security discovery
-flags-stand zero x y = absurd (omega arith)
-flags-stand (suc zero) x y = absurd (omega arith)
-flags-stand (suc (suc zero)) x y = tt
-flags-stand (suc (suc (suc zero))) x y = tt
-flags-stand (suc (suc (suc (suc zero)))) x y = tt
-flags-stand (suc (suc (suc (suc (suc zero))))) x y = tt
-flags-stand (suc (suc (suc (suc (suc (suc zero)))))) x y = tt
-flags-stand (suc (suc (suc (suc (suc (suc (suc k))))))) x y = absurd (omega arith)
-
-pub flag-within : (k : ℕ) → 2 ≤ k → k ≤ 6 → layoutOf k .shape .flags .at < baseOf (layoutOf k)
-flag-within k x y = ltb→lt _ _ (and-yes (ltb (layoutOf k .shape .flags .at) (baseOf (layoutOf k))) _ (flags-stand k x y) .0)
-
-pub record-by : (k : ℕ) (heap : Region) (t : List ℕ) (a pos : ℕ) → 2 ≤ k → k ≤ 6
-    → pick (odd (getD t (a + layoutOf k .shape .flags .at) 0)) (usedFault k heap t a pos) 0 ≡ recordFault k heap t a pos
-unfolding usedFault recordFault
-record-by k heap t a pos x y = sym (record-is (layoutOf k) (validIn t) heap (envIn t pos) t a (flags-stand k x y))
-
--- ---- a list
-
-pub next-start : (a i s : ℕ) → a + i * s + s ≡ a + (i + 1) * s
-next-start a i s = rw (add-one i, suc-mul i s, add-assoc a (i * s) s)
-
-pub kind-of : (k : ℕ) → 2 ≤ k → k ≤ 6 → layoutOf k .kind ≡ k
-unfolding layoutOf host hfi ssns security discovery
-kind-of zero x y = absurd (omega arith)
-kind-of (suc zero) x y = absurd (omega arith)
-kind-of (suc (suc zero)) x y = refl
-kind-of (suc (suc (suc zero))) x y = refl
-kind-of (suc (suc (suc (suc zero)))) x y = refl
-kind-of (suc (suc (suc (suc (suc zero))))) x y = refl
-kind-of (suc (suc (suc (suc (suc (suc zero)))))) x y = refl
-kind-of (suc (suc (suc (suc (suc (suc (suc k))))))) x y = absurd (omega arith)
-
--- a turn of the walk at position i + 1
-module _ (k : ℕ) (heap : Region) (t : List ℕ) (step base i count : ℕ) where
-  left : i < count → count - i ≡ suc (count - (i + 1))
-  left h = omega arith
-
-  pub turn-stop : {n : ℕ} → 2 ≤ k → k ≤ 6 → i < count → n ≡ recordFault k heap t base (i + 1) → (n ≡ 0 → ⊥)
-      → listFrom k heap t step (i + 1) base (count - i) ≡ answer n k (i + 1)
-  unfolding listFrom recordFault envIn counts
-  turn-stop {n} x y h f z =
-      rw (left h) (walk-stop (layoutOf k) (validIn t) (counts t) heap t step (i + 1) base (count - (i + 1)) n f z ∙ ap (λ (j : ℕ). answer n j (i + 1)) (kind-of k x y))
-
-  pub turn-more : {n : ℕ} → i < count → n ≡ recordFault k heap t base (i + 1) → n ≡ 0
-      → listFrom k heap t step (i + 1 + 1) (base + step) (count - (i + 1)) ≡ listFrom k heap t step (i + 1) base (count - i)
-  unfolding listFrom recordFault envIn counts
-  turn-more {n} h f z =
-      sym (rw (left h) (walk-more (layoutOf k) (validIn t) (counts t) heap t step (i + 1) base (count - (i + 1)) n f z
-      ∙ ap (λ (p : ℕ). walk (layoutOf k) (validIn t) (counts t) heap t step p (base + step) (count - (i + 1))) (sym (add-one (i + 1)))))
-
-  pub turn-none : count ≤ i → listFrom k heap t step (i + 1) base (count - i) ≡ done
-  unfolding listFrom
-  turn-none h = let z : count - i ≡ 0 = omega arith in rw z (walk-none (layoutOf k) (validIn t) (counts t) heap t step (i + 1) base)
+use Rattle.laws.specs.ListWalk.{validIn, envIn, usedIt, flag-is, walk}
+use Rattle.rules.specs.Rules.{IsHeap}
+use Rattle.indexes.specs.Indexes.{refsFault}
+use Rattle.lists.specs.Lists.{usedFault, counts, listFrom, listFault}
+use Rattle.reader.specs.Stages.{numbered, hostFault}
+-- passed on to the crates above, which walk the same lists
+pub use Rattle.lists.proofs.Laws.{flag-within, flags-stand, next-start}
 
 -- ---- the stages of the check
 

@@ -14,7 +14,7 @@ use Rattle.table.specs.Objects.{under}
 use Rattle.table.specs.Reads.{Seat, nowhere, seat, listSeat, heapSeat}
 use Rattle.laws.specs.Fields.{imageIn}
 use Rattle.laws.specs.ListWalk.{flag-is}
-use Rattle.reader.proofs.Laws.{flags-stand}
+use Rattle.lists.proofs.Laws.{flags-stand}
 use Rattle.reads.specs.declared.seats.Seat as code
 use Rattle.reads.specs.declared.seats.Seat.the-variants.{Nowhere, At}
 use Rattle.reads.specs.Seats.{asSeat, singleAt, heapAt, infoOf, extendedAt, extendedOf}

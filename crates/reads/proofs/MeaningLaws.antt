@@ -12,7 +12,7 @@ use borrow.Author.Tests.{eqb-true, le-leb, lt-ltb}
 use Rattle.table.specs.declared.Need.{Need}
 use Rattle.table.specs.declared.Need.the-variants.{Ignored, Optional, Required}
 use Rattle.table.specs.Bytes.{pick, part, num, padded}
-use Rattle.table.specs.Layout.{Keep, low, Shape, Refs, none, plain, nest, Slots, bytes, gone, rec, Layout, baseOf, image, isValid, Entry, unused, used}
+use Rattle.table.specs.Layout.{Keep, low, Shape, Refs, none, plain, nest, Slots, bytes, gone, rec, Layout, baseOf, image, isValid, Entry, used}
 use Rattle.table.specs.FixedLayouts.{header, control, host, hfi, ssns, security, discovery, info, extended, whenSet}
 use Rattle.table.specs.Objects.{under, readSlots, readEntry, readList, readBody}
 use Rattle.table.specs.Rules.{done}
@@ -22,7 +22,7 @@ use Rattle.laws.specs.Fields.{Bytes, imageIn, whole}
 use Rattle.laws.specs.ListWalk.{flag-is}
 use Rattle.reader.specs.Accepted.{Accepted}
 use Rattle.reader.proofs.AcceptedLaws.{laid, host-passes}
-use Rattle.reader.proofs.Laws.{next-start}
+use Rattle.lists.proofs.Laws.{next-start}
 use Rattle.laws.specs.ImageLaws.{length-image}
 use Rattle.images.proofs.Laws.{part-long, part-byte}
 use Rattle.reads.specs.Objects.{objectIn}

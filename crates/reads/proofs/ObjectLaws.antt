@@ -24,7 +24,7 @@ use Rattle.laws.specs.Fields.{Bytes, imageIn}
 use Rattle.laws.specs.ListWalk.{by-layout}
 use Rattle.laws.specs.DemandTwo.{check-zero}
 use Rattle.wire.proofs.Laws.{num2, num4}
-use Rattle.rules.specs.Records.{plainNeed}
+use Rattle.needs.specs.Needs.{plainNeed}
 use Rattle.reader.specs.Accepted.{Accepted}
 use Rattle.reader.proofs.AcceptedLaws.{laid}
 use Rattle.images.proofs.Laws.{by-kind, other-layout}

@@ -24,8 +24,8 @@ use Rattle.laws.specs.ListWalk.{envIn, flag-is}
 use Rattle.frame.specs.Bounds.{LaidOut}
 use Rattle.rules.proofs.HeapLaws.{Inside}
 use Rattle.reader.specs.Accepted.{Accepted}
-use Rattle.reader.specs.Walks.{refsFault}
-use Rattle.reader.proofs.Laws.{flags-stand}
+use Rattle.indexes.specs.Indexes.{refsFault}
+use Rattle.lists.proofs.Laws.{flags-stand}
 use Rattle.reader.proofs.AcceptedLaws.{laid, driver-passes, host-passes, lists-pass, record-passes, record-in, used-passes, used-parts, required-in, optional-in}
 use Rattle.images.proofs.Laws.{by-kind, Other}
 use Rattle.reads.specs.Seats.{Seated, Entered, Listed, Good, Held, heapAt, extendedAt, heapRecord}

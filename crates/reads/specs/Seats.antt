@@ -13,7 +13,7 @@ use Rattle.table.specs.Numbers.{heapIn}
 use Rattle.table.specs.Reads as reads
 use Rattle.laws.specs.Fields.{imageIn}
 use Rattle.frame.specs.Bounds.{ListIn}
-use Rattle.reader.specs.Walks.{listFault}
+use Rattle.lists.specs.Lists.{listFault}
 use Rattle.reads.specs.declared.seats.Seat.{Seat}
 use Rattle.reads.specs.declared.seats.Seat.the-variants.{Nowhere, At}
 

@@ -6,24 +6,24 @@ use Prim.Native.Nat.{ℕ, zero, suc, _+_, _-_, _/_, _%_, _≤_, _<_}
 use native.Mathlib.Omega.{arith}
 use lib.ListN.{length, length-take, length-drop}
 use lib.Dec.{T, leb, eqb, leb→le, lit≤}
-use borrow.Author.Tests.{eq-eqb, ne-eqb, le-leb, lt-leb}
 use mir.Facts.{and-yes, eqb-no}
 use Rattle.table.specs.declared.Region.{Region}
 use Rattle.table.specs.declared.Need.{Need}
-use Rattle.table.specs.declared.Need.the-variants.{Optional}
 use Rattle.table.specs.Bytes.{pick, part, num}
-use Rattle.table.specs.Layout.{region, isRight, image, Shape, plain}
+use Rattle.table.specs.Layout.{region, isRight, Shape}
 use Rattle.table.specs.FixedLayouts.{layoutOf, header, control, host, hfi, ssns, security, discovery, info, extended}
-use Rattle.table.specs.Rules.{firstOf, reaches, refRule, isSound}
+use Rattle.table.specs.Rules.{firstOf, reaches, refRule}
 use Rattle.table.specs.Reads.{needAt}
 use Rattle.laws.specs.Fields.{imageIn, part-part}
 use Rattle.laws.specs.RefWalk.{ruleAt, plain-at, partRule, nest-ref}
 use Rattle.laws.specs.ListWalk.{envIn}
 use Rattle.laws.specs.Refusals.{any-free}
-use Rattle.rules.specs.declared.references.Ref.the-variants.{Absent, Wrong, Part}
-use Rattle.rules.specs.References.{refOf}
-use Rattle.rules.specs.Records.{IsHeap, spot, ssnsNeed, plainNeed, refFault}
-use Rattle.rules.proofs.RecordLaws.{ssns-need}
+use Rattle.references.specs.declared.Ref.the-variants.{Absent, Wrong, Part}
+use Rattle.references.specs.References.{refOf}
+use Rattle.rules.specs.Rules.{IsHeap, refFault}
+use Rattle.heap_records.specs.HeapRecords.{spot}
+use Rattle.needs.specs.Needs.{ssnsNeed, plainNeed}
+use Rattle.needs.proofs.Laws.{ssns-need}
 
 -- ---- what a reference is
 
@@ -187,21 +187,3 @@ plain-left heap t a pos q (suc (suc (suc (suc zero)))) l x y z = absurd (y refl)
 plain-left heap t a pos q (suc (suc (suc (suc (suc zero))))) l x y z = absurd (z refl)
 plain-left heap t a pos q (suc (suc (suc (suc (suc (suc zero)))))) l x y z = discovery-plain heap t a pos q
 plain-left heap t a pos q (suc (suc (suc (suc (suc (suc (suc k))))))) l x y z = absurd (omega arith)
-
--- ---- a heap record by its own bytes, in the order of the code
-
-module _ (heap : Region) (pos : ℕ) (shape : Shape) (p : ℕ) (x : List ℕ) where
-  pub part-short : length x < length (shape .keep) → 12 ≡ partRule heap (spot pos) shape p x
-  unfolding partRule
-  part-short k = rw (lt-leb (length (shape .keep)) (length x) k)
-
-  module _ (v : ℕ) (k : length (shape .keep) ≤ length x) (e : v ≡ pick (isSound shape (spot pos) (image (shape .keep) x)) 0 12) where
-    part-first : firstOf v (refRule heap Optional (num x p 4) (num x (p + 4) 2)) ≡ partRule heap (spot pos) shape p x
-    unfolding partRule
-    part-first = rw (le-leb (length (shape .keep)) (length x) k, e)
-
-    pub part-stop : (v ≡ 0 → ⊥) → v ≡ partRule heap (spot pos) shape p x
-    part-stop z = rw (ne-eqb v 0 z) at part-first
-
-    pub part-on : (r : ℕ) → v ≡ 0 → r ≡ refRule heap Optional (num x p 4) (num x (p + 4) 2) → r ≡ partRule heap (spot pos) shape p x
-    part-on r z f = f ∙ (rw (eq-eqb v 0 z) at part-first)

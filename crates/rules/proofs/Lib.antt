@@ -1,3 +1,1 @@
-pub mod Laws
-pub mod RecordLaws
 pub mod HeapLaws

@@ -1,9 +1,97 @@
-// The rules of one record, read byte by byte: its own fields, its references, and the heap records that these refer to.
-pub mod heap; // heap records: transport info and extended info
-pub mod needs; // which references count
-pub mod records; // a record's own fields, by kind
-pub mod references; // what a reference is, and its number under a need
+// The rules of a record's references: each by kind and offset, with the heap record that it refers to. The heap is lent as a part of the table, a heap record as a part of the heap.
+use needs::plain_need;
+use needs::security_need;
+use needs::ssns_need;
+use records::ssns_flags;
+use references::Ref;
+use references::plain_fault;
+use references::ref_at;
+ghost use mathlib.Core.Path.{_≡_};
+ghost use Prim.Native.Nat.{_+_, _≤_};
+ghost use lib.ListN.{length};
+ghost use Rattle.table.specs.Layout.{baseOf, region};
+ghost use Rattle.table.specs.FixedLayouts.{layoutOf};
+ghost use Rattle.rules.specs.Rules.{IsHeap, refFault};
 
-pub use heap::ref_fault;
-pub use records::right_fault;
-pub use references::Ref;
+// The heap record of a required reference is handed on as the part of the heap that it is.
+fn info_ref(t: &[u8], a: usize, position: usize, heap: &[u8], from: usize) -> u8
+    requires { ⌜ (a + 32 ≤ length (now t)) × IsHeap (now t) (now heap) from ⌝ }
+    ensures { λ r. ⌜ r ≡ refFault 3 (region from (length (now (heap .entry)))) (now (t .entry)) a position 16 ⌝ }
+{
+    let r = ref_at(t, a + 16, from, heap.len());
+    match r {
+        Ref::Absent => 11,
+        Ref::Wrong => 11,
+        Ref::Part { at, len } => {
+            let start = at - from;
+            let end = start + len;
+            heap_records::info_fault(&heap[start..end], position, from, heap.len())
+        }
+    }
+}
+
+fn extended_ref(t: &[u8], a: usize, position: usize, heap: &[u8], from: usize) -> u8
+    requires { ⌜ (a + 128 ≤ length (now t)) × IsHeap (now t) (now heap) from ⌝ }
+    ensures { λ r. ⌜ r ≡ refFault 4 (region from (length (now (heap .entry)))) (now (t .entry)) a position 60 ⌝ }
+{
+    if ssns_flags(t, a) / 16 % 2 == 0 {
+        return 0;
+    }
+    let r = ref_at(t, a + 60, from, heap.len());
+    match r {
+        Ref::Absent => 11,
+        Ref::Wrong => 11,
+        Ref::Part { at, len } => {
+            let start = at - from;
+            let end = start + len;
+            heap_records::extended_fault(&heap[start..end], position, from, heap.len())
+        }
+    }
+}
+
+fn hfi_ref(t: &[u8], a: usize, position: usize, off: usize, heap: &[u8], from: usize) -> u8
+    requires { ⌜ (a + 32 ≤ length (now t)) × IsHeap (now t) (now heap) from ⌝ }
+    ensures { λ r. ⌜ r ≡ refFault 3 (region from (length (now (heap .entry)))) (now (t .entry)) a position off ⌝ }
+{
+    if off == 16 {
+        return info_ref(t, a, position, heap, from);
+    }
+    0
+}
+
+fn ssns_ref(t: &[u8], a: usize, position: usize, off: usize, heap: &[u8], from: usize) -> u8
+    requires { ⌜ (a + 128 ≤ length (now t)) × (a + off + 6 ≤ length (now t)) × IsHeap (now t) (now heap) from ⌝ }
+    ensures { λ r. ⌜ r ≡ refFault 4 (region from (length (now (heap .entry)))) (now (t .entry)) a position off ⌝ }
+{
+    if off == 60 {
+        return extended_ref(t, a, position, heap, from);
+    }
+    plain_fault(
+        t,
+        a + off,
+        ssns_need(ssns_flags(t, a), off),
+        from,
+        heap.len(),
+    )
+}
+
+// The reference at a field offset of the record at `a`, with its heap record and that one's own reference: 0, 11 or 12.
+pub fn ref_fault(
+    t: &[u8],
+    kind: u8,
+    a: usize,
+    position: usize,
+    off: usize,
+    heap: &[u8],
+    from: usize,
+) -> u8
+    requires { ⌜ (kind ≤ 6) × (a + baseOf (layoutOf kind) ≤ length (now t)) × (a + off + 6 ≤ length (now t)) × IsHeap (now t) (now heap) from ⌝ }
+    ensures { λ r. ⌜ r ≡ refFault kind (region from (length (now (heap .entry)))) (now (t .entry)) a position off ⌝ }
+{
+    match kind {
+        3 => hfi_ref(t, a, position, off, heap, from),
+        4 => ssns_ref(t, a, position, off, heap, from),
+        5 => plain_fault(t, a + off, security_need(t, a, off), from, heap.len()),
+        _ => plain_fault(t, a + off, plain_need(kind, off), from, heap.len()),
+    }
+}

@@ -1,10 +1,10 @@
 // The same as JSON: one object, with an object for header and host each and a list of objects for each list.
 use crate::cells::print_cell;
-use crate::columns::column_at;
-use crate::columns::column_count;
-use crate::names::key;
 use crate::records::count_of;
 use crate::records::is_used;
+use columns::column_at;
+use columns::column_count;
+use columns::names::key;
 use tool::print;
 use tool::print_bytes;
 ghost use Rattle.reader.specs.Accepted.{Accepted};

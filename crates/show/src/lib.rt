@@ -1,12 +1,9 @@
 // What a table says, for people and as JSON. Both print the same columns of an accepted table.
 
 pub mod cells; // a column's cell at a position
-pub mod columns; // what is shown, and how
 pub mod json; // as JSON
-pub mod names; // the columns' names
 pub mod people; // for people
 pub mod records; // which records there are
-pub mod values; // values as they are printed
 
 // Any bytes: what a good table says; else number, kind and position of its first fault, and the words.
 pub fn show(t: &[u8], as_json: bool) {

@@ -1,13 +1,13 @@
 // For people: a heading, the columns' names, and a line for each record.
 use crate::cells::print_cell;
-use crate::columns::column_at;
-use crate::columns::column_count;
-use crate::names::title;
 use crate::records::count_of;
 use crate::records::is_used;
-use crate::values::print_plain;
-use crate::values::print_rule;
+use columns::column_at;
+use columns::column_count;
+use columns::names::title;
 use tool::print_bytes;
+use values::print_plain;
+use values::print_rule;
 ghost use Rattle.reader.specs.Accepted.{Accepted};
 
 fn print_title(kind: u8, i: usize) {

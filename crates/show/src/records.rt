@@ -1,5 +1,5 @@
 // Which records there are.
-use reads::fields::field_in;
+use field_reads::field_in;
 ghost use Rattle.reader.specs.Accepted.{Accepted};
 
 // Where the control record has the count of a kind's list.

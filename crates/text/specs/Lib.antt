@@ -1,4 +1,2 @@
 pub mod Ascii
 pub mod Numerals
-pub mod Hexadecimal
-pub mod Escapes

@@ -2,14 +2,7 @@
 // not what is written. A text goes in by value and comes back longer.
 pub mod append; // the text, and one byte, a string or a text more
 pub mod decimals; // numbers
-pub mod escapes; // bytes of unknown meaning
-pub mod hexadecimal; // bytes, interfaces and functions of devices
 
 pub use append::Text;
 pub use decimals::decimal;
 pub use decimals::numbers_line;
-pub use escapes::escaped;
-pub use escapes::json_escaped;
-pub use hexadecimal::hex_byte;
-pub use hexadecimal::mac;
-pub use hexadecimal::pci;

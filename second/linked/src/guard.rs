@@ -35,7 +35,8 @@ impl Guarded {
 
     /// The bytes, placed so that the next one is on the closed page.
     pub fn ending(&mut self, bytes: &[u8]) -> &mut [u8] {
-        self.place(self.length - bytes.len(), bytes)
+        let at = self.length.checked_sub(bytes.len()).expect("the bytes fit in the open pages");
+        self.place(at, bytes)
     }
 
     /// The bytes, placed so that the one before is on the closed page.

@@ -2,6 +2,8 @@
 
 use linked::guard::Guarded;
 use linked::{hex, reads, rewrites, tables};
+#[cfg(feature = "builder")]
+use linked::{builder, builds};
 use second::answer::number::TOO_FEW_BYTES;
 use second::random::Random;
 use second::{samples, Answer};
@@ -14,8 +16,11 @@ linked: compares the static library's answers with the second program's
   linked compare COUNT SEED    COUNT generated tables; the same SEED gives the same ones
   linked reads COUNT SEED      every kind, position and offset of COUNT generated tables
   linked rewrite COUNT SEED    generated tables until COUNT of them have a form, each into outputs of many lengths
-  linked guard COUNT SEED      checks, a twentieth as many rewrites and a hundredth as many tables' reads, all lent between pages that
-                               nothing may touch
+  linked build COUNT SEED      COUNT runs of the builder, each call with answer, state and every byte of the buffer
+  linked guard COUNT SEED      checks, a twentieth as many rewrites and runs of the builder and a hundredth as many tables' reads, all
+                               lent between pages that nothing may touch
+
+'build', and the builder's runs of 'guard', need the feature 'builder'.
 ";
 
 fn main() -> ExitCode {
@@ -42,6 +47,7 @@ fn run(words: &[&str]) -> Result<String, String> {
             reads::compare(table, table)
         }),
         ["rewrite", count, seed] => rewrites::compare(number(count)?, number(seed)?, rewrites::by_library),
+        ["build", count, seed] => compare_builds(number(count)?, number(seed)?),
         ["guard", count, seed] => guarded(number(count)?, number(seed)?),
         _ => Err(HELP.to_string()),
     }
@@ -63,7 +69,33 @@ fn guarded(count: u64, seed: u64) -> Result<String, String> {
     let rewrites = rewrites::compare(count / 20, seed, |table, output| {
         rewrites::by_library_in_pages(&mut two, table, output)
     })?;
-    Ok(format!("{checks}\n{reads}\n{rewrites}"))
+    let builds = guarded_builds(count / 20, seed)?;
+    Ok(format!("{checks}\n{reads}\n{rewrites}{builds}"))
+}
+
+#[cfg(feature = "builder")]
+fn compare_builds(count: u64, seed: u64) -> Result<String, String> {
+    builds::compare(count, seed, builder::by_library)
+}
+
+/// A line of its own, behind the others.
+#[cfg(feature = "builder")]
+fn guarded_builds(count: u64, seed: u64) -> Result<String, String> {
+    let mut pages = builder::pages();
+    let line = builds::compare(count, seed, |call, state, buffer| {
+        builder::by_library_in_pages(&mut pages, call, state, buffer)
+    })?;
+    Ok(format!("\n{line}"))
+}
+
+#[cfg(not(feature = "builder"))]
+fn compare_builds(_count: u64, _seed: u64) -> Result<String, String> {
+    Err("linked build: this program was compiled without the feature 'builder'".to_string())
+}
+
+#[cfg(not(feature = "builder"))]
+fn guarded_builds(_count: u64, _seed: u64) -> Result<String, String> {
+    Ok(String::new())
 }
 
 fn number(word: &str) -> Result<u64, String> {

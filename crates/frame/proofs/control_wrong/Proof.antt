@@ -1,4 +1,4 @@
-use Rattle.frame.specs.Head.{controlWrong}
+use Rattle.frame.specs.Tests.{controlWrong}
 use Rattle.table.proofs.Rules.{picks}
 use borrow.Author.Needs.{needs}
 use Rattle.frame.proofs.control_wrong.Statement.{statement}

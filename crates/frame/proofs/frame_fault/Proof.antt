@@ -4,7 +4,8 @@ use lib.ListN.{length, take, length-take}
 use Prim.Native.Nat.{_%_, _≤_}
 use mathlib.Core.Path.{_≡_}
 use Rattle.frame.proofs.Laws.{staged, tests-are, size-lent}
-use Rattle.frame.specs.Head.{headOf, sizeTests}
+use Rattle.head.specs.Head.{headOf}
+use Rattle.judging.specs.Judging.{sizeTests}
 use native.Mathlib.Omega.{arith}
 use Rattle.table.proofs.Rules.{picks}
 use borrow.Author.Needs.{needs}

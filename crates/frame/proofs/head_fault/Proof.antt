@@ -1,4 +1,4 @@
-use Rattle.frame.specs.Head.{headTests}
+use Rattle.frame.specs.Tests.{headTests}
 use borrow.Author.Needs.{needs}
 use Rattle.frame.proofs.head_fault.Statement.{statement}
 use Rattle.frame.proofs.head_fault.Tie as tie

@@ -1,4 +1,4 @@
-use Rattle.frame.specs.Head.{tooShort}
+use Rattle.frame.specs.Tests.{tooShort}
 use Rattle.table.proofs.Rules.{picks}
 use Rattle.frame.proofs.one_short.Statement.{statement}
 use Rattle.frame.proofs.one_short.Tie as tie

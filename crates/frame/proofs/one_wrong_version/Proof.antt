@@ -1,4 +1,4 @@
-use Rattle.frame.specs.Head.{wrongVersion}
+use Rattle.frame.specs.Tests.{wrongVersion}
 use Rattle.table.proofs.Rules.{picks}
 use Rattle.frame.proofs.one_wrong_version.Statement.{statement}
 use Rattle.frame.proofs.one_wrong_version.Tie as tie

@@ -1,5 +1,5 @@
 use Rattle.table.specs.FixedLayouts.{hfi, ssns, security, discovery}
-use Rattle.frame.specs.Head.{shortLists}
+use Rattle.frame.specs.Tests.{shortLists}
 use Rattle.table.proofs.Rules.{picks}
 use borrow.Author.Needs.{needs}
 use Rattle.frame.proofs.short_lists.Statement.{statement}

@@ -1,4 +1,4 @@
-use Rattle.frame.specs.Head.{wrongVersions}
+use Rattle.frame.specs.Tests.{wrongVersions}
 use Rattle.table.proofs.Rules.{picks}
 use borrow.Author.Needs.{needs}
 use Rattle.frame.proofs.wrong_versions.Statement.{statement}

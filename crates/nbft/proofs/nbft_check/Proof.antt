@@ -1,13 +1,13 @@
 use native.Mathlib.Omega.{arith}
 use mathlib.Core.Path.{ap, _∙_}
 use Rattle.laws.specs.Positions.{check-placed}
-use Rattle.nbft.specs.Packed.{packed}
+use Rattle.packing.specs.Packed.{packed}
 use borrow.Author.Needs.{needs}
 use Rattle.nbft.proofs.nbft_check.Statement.{statement}
 use Rattle.nbft.proofs.nbft_check.Tie as tie
 use Rattle.nbft.proofs.nbft_check.Reads as reads
 use Rattle.nbft.proofs.nbft_check.Lts as lts
-use Rattle.nbft.proofs.pack.Reads as pack-reads
+use Rattle.packing.proofs.pack.Reads as pack-reads
 use Rattle.reader.proofs.check.Reads as check-reads
 
 check-requires : tie.Need-check-requires

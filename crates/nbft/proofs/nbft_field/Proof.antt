@@ -1,5 +1,5 @@
 use Rattle.nbft.proofs.Laws.{field-fits}
-use Rattle.nbft.specs.Packed.{packedField, valueAfter}
+use Rattle.packing.specs.Packed.{packedField, valueAfter}
 use native.Mathlib.Omega.{arith}
 use mathlib.Core.Path.{ap, _∙_}
 use borrow.Author.Needs.{needs}
@@ -7,9 +7,9 @@ use Rattle.nbft.proofs.nbft_field.Statement.{statement}
 use Rattle.nbft.proofs.nbft_field.Tie as tie
 use Rattle.nbft.proofs.nbft_field.Reads as reads
 use Rattle.nbft.proofs.nbft_field.Lts as lts
-use Rattle.nbft.proofs.pack_field.Reads as pack-field-reads
-use Rattle.nbft.proofs.store.Reads as store-reads
-use Rattle.reads.proofs.field.Reads as field-reads
+use Rattle.packing.proofs.pack_field.Reads as pack-field-reads
+use Rattle.packing.proofs.store.Reads as store-reads
+use Rattle.field_reads.proofs.field.Reads as field-reads
 
 field-requires : tie.Need-field-requires
 field-requires c κs = search needs

@@ -1,5 +1,5 @@
 use Rattle.nbft.proofs.Laws.{place-fits}
-use Rattle.nbft.specs.Packed.{packedPlace}
+use Rattle.packing.specs.Packed.{packedPlace}
 use native.Mathlib.Omega.{arith}
 use mathlib.Core.Path.{ap, _∙_}
 use borrow.Author.Needs.{needs}
@@ -7,8 +7,8 @@ use Rattle.nbft.proofs.nbft_object.Statement.{statement}
 use Rattle.nbft.proofs.nbft_object.Tie as tie
 use Rattle.nbft.proofs.nbft_object.Reads as reads
 use Rattle.nbft.proofs.nbft_object.Lts as lts
-use Rattle.nbft.proofs.pack_place.Reads as pack-place-reads
-use Rattle.reads.proofs.object_place.Reads as object-place-reads
+use Rattle.packing.proofs.pack_place.Reads as pack-place-reads
+use Rattle.object_reads.proofs.object_place.Reads as object-place-reads
 
 object-place-requires : tie.Need-object-place-requires
 object-place-requires c κs = search needs

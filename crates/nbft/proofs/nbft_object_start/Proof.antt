@@ -7,7 +7,7 @@ use Rattle.nbft.proofs.nbft_object_start.Statement.{statement}
 use Rattle.nbft.proofs.nbft_object_start.Tie as tie
 use Rattle.nbft.proofs.nbft_object_start.Reads as reads
 use Rattle.nbft.proofs.nbft_object_start.Lts as lts
-use Rattle.reads.proofs.object_place.Reads as object-place-reads
+use Rattle.object_reads.proofs.object_place.Reads as object-place-reads
 
 object-place-requires : tie.Need-object-place-requires
 object-place-requires c κs = search needs

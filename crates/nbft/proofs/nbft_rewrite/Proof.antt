@@ -1,5 +1,5 @@
 use Rattle.nbft.proofs.Laws.{rewrite-fits}
-use Rattle.nbft.specs.Packed.{packedRewritten}
+use Rattle.packing.specs.Packed.{packedRewritten}
 use lib.ListN.{length}
 use native.Mathlib.Omega.{arith}
 use mathlib.Core.Path.{ap, _∙_}
@@ -8,7 +8,7 @@ use Rattle.nbft.proofs.nbft_rewrite.Statement.{statement}
 use Rattle.nbft.proofs.nbft_rewrite.Tie as tie
 use Rattle.nbft.proofs.nbft_rewrite.Reads as reads
 use Rattle.nbft.proofs.nbft_rewrite.Lts as lts
-use Rattle.nbft.proofs.pack_rewritten.Reads as pack-rewritten-reads
+use Rattle.packing.proofs.pack_rewritten.Reads as pack-rewritten-reads
 use Rattle.rewriter.proofs.rewrite.Reads as rewrite-reads
 
 rewrite-requires : tie.Need-rewrite-requires

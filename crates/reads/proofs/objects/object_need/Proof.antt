@@ -1,7 +1,7 @@
 use lib.Dec.{eqb}
-use Rattle.rules.specs.Records.{ssnsNeed}
+use Rattle.needs.specs.Needs.{ssnsNeed}
 use Rattle.reads.proofs.ObjectLaws.{only-one, plain-need}
-use Rattle.rules.proofs.RecordLaws.{ssns-need}
+use Rattle.needs.proofs.Laws.{ssns-need}
 use Rattle.laws.specs.Fields.{imageIn}
 use Rattle.table.specs.FixedLayouts.{layoutOf, ssns, security, info, extended}
 use native.Mathlib.Omega.{arith}
@@ -12,10 +12,10 @@ use Rattle.reads.proofs.objects.object_need.Statement.{statement}
 use Rattle.reads.proofs.objects.object_need.Tie as tie
 use Rattle.reads.proofs.objects.object_need.Reads as reads
 use Rattle.reads.proofs.objects.object_need.Lts as lts
-use Rattle.rules.proofs.needs.plain_need.Reads as plain-need-reads
-use Rattle.rules.proofs.needs.security_need.Reads as security-need-reads
-use Rattle.rules.proofs.needs.ssns_need.Reads as ssns-need-reads
-use Rattle.rules.proofs.records.ssns_flags.Reads as ssns-flags-reads
+use Rattle.needs.proofs.plain_need.Reads as plain-need-reads
+use Rattle.needs.proofs.security_need.Reads as security-need-reads
+use Rattle.needs.proofs.ssns_need.Reads as ssns-need-reads
+use Rattle.records.proofs.ssns_flags.Reads as ssns-flags-reads
 
 ssns-flags-requires : tie.Need-ssns-flags-requires
 unfolding layoutOf ssns

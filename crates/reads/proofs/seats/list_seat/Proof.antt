@@ -1,5 +1,5 @@
 use Rattle.reads.proofs.Laws.{list-none, list-past, list-there}
-use Rattle.reader.proofs.Laws.{flag-within}
+use Rattle.lists.proofs.Laws.{flag-within}
 use Rattle.reader.proofs.AcceptedLaws.{record-in}
 use Rattle.table.specs.FixedLayouts.{layoutOf}
 use Rattle.table.specs.Layout.{baseOf}

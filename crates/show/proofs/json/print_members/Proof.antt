@@ -4,7 +4,7 @@ use Rattle.show.proofs.json.print_members.Statement.{statement}
 use Rattle.show.proofs.json.print_members.Tie as tie
 use Rattle.show.proofs.json.print_members.Reads as reads
 use Rattle.show.proofs.json.print_members.Lts as lts
-use Rattle.show.proofs.columns.column_count.Reads as column-count-reads
+use Rattle.columns.proofs.column_count.Reads as column-count-reads
 use Rattle.show.proofs.json.print_member.Reads as print-member-reads
 use Rattle.tool.proofs.print_bytes.Reads as print-bytes-reads
 

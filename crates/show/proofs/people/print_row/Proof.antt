@@ -5,8 +5,8 @@ use Rattle.show.proofs.people.print_row.Tie as tie
 use Rattle.show.proofs.people.print_row.Reads as reads
 use Rattle.show.proofs.people.print_row.Lts as lts
 use Rattle.show.proofs.cells.print_cell.Reads as print-cell-reads
-use Rattle.show.proofs.columns.column_at.Reads as column-at-reads
-use Rattle.show.proofs.columns.column_count.Reads as column-count-reads
+use Rattle.columns.proofs.column_at.Reads as column-at-reads
+use Rattle.columns.proofs.column_count.Reads as column-count-reads
 use Rattle.tool.proofs.print_bytes.Reads as print-bytes-reads
 
 abbrev Inv-loop : tie.InvT-loop

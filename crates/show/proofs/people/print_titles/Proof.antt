@@ -4,7 +4,7 @@ use Rattle.show.proofs.people.print_titles.Statement.{statement}
 use Rattle.show.proofs.people.print_titles.Tie as tie
 use Rattle.show.proofs.people.print_titles.Reads as reads
 use Rattle.show.proofs.people.print_titles.Lts as lts
-use Rattle.show.proofs.columns.column_count.Reads as column-count-reads
+use Rattle.columns.proofs.column_count.Reads as column-count-reads
 use Rattle.show.proofs.people.print_title.Reads as print-title-reads
 use Rattle.tool.proofs.print_bytes.Reads as print-bytes-reads
 

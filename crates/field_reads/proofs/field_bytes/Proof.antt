@@ -1,0 +1,25 @@
+use Rattle.reads.proofs.ReadLaws.{zeros-padded, part-zeros}
+use Rattle.laws.specs.Fields.{imageIn}
+use Rattle.table.specs.FixedLayouts.{layoutOf}
+use Rattle.table.specs.Layout.{baseOf}
+use Rattle.table.specs.Bytes.{padded}
+use mathlib.Core.Path.{sym, ap, _∙_}
+use borrow.Author.Needs.{needs}
+use Rattle.field_reads.proofs.field_bytes.Statement.{statement}
+use Rattle.field_reads.proofs.field_bytes.Tie as tie
+use Rattle.field_reads.proofs.field_bytes.Reads as reads
+use Rattle.field_reads.proofs.field_bytes.Lts as lts
+use Rattle.images.proofs.field_at.Reads as field-at-reads
+
+field-at-requires : tie.Need-field-at-requires
+field-at-requires c κs = search needs
+
+returns : tie.Need-returns
+unfolding imageIn
+returns c = rw (c .before .if1 .taken) (c .field-at .ensures)
+
+returns-2 : tie.Need-returns-2
+returns-2 c = let a = c .before .before .args in rw (c .if1 .left) (zeros-padded (a .len) 16 (c .before .before .pre .2) ∙ ap (padded 16) (sym (part-zeros (baseOf (layoutOf (a .kind))) (a .off) (a .len) (c .before .before .pre .1))))
+
+pub field-bytes-spec : {M : Type 1} → statement M
+field-bytes-spec = tie.close (tie.spec field-at-requires returns returns-2)

@@ -1,0 +1,92 @@
+// Header and control record, read once into a struct by value, so that no test reads the table anew.
+use table::Region;
+ghost use mathlib.Core.Path.{_≡_};
+ghost use Prim.Native.Nat.{_+_, _≤_};
+ghost use lib.ListN.{length};
+ghost use Rattle.head.specs.Head.{longRegion, shortRegion, entryIn, headOf, Narrow, NarrowRegion, NarrowEntry};
+
+// A list as the control record has it: where it starts, how long each record is, their version and their number.
+pub struct Entry {
+    pub at: usize,
+    pub step: usize,
+    pub version: u8,
+    pub count: usize,
+}
+
+// What header and control record say, as far as the tests look at it.
+pub struct Head {
+    pub signature: usize,
+    pub size: usize,
+    pub major: u8,
+    pub minor: u8,
+    pub controlid: u8,
+    pub controlmajor: u8,
+    pub controlminor: u8,
+    pub csl: usize,
+    pub flags: u8,
+    pub host: Region,
+    pub hostversion: u8,
+    pub heap: Region,
+    pub hfi: Entry,
+    pub ssns: Entry,
+    pub security: Entry,
+    pub discovery: Entry,
+}
+
+// An offset with a length of four bytes, as the heap has it.
+pub fn region_at(t: &[u8], at: usize) -> Region
+    requires { ⌜ at + 8 ≤ length (now t) ⌝ }
+    ensures { λ r. ⌜ (r ≡ longRegion (now (t .entry)) at) × NarrowRegion r ⌝ }
+{
+    Region {
+        at: wire::u32_at(t, at),
+        len: wire::u32_at(t, at + 4),
+    }
+}
+
+// An offset with a length of two bytes, as every reference has it.
+pub fn reference_at(t: &[u8], at: usize) -> Region
+    requires { ⌜ at + 6 ≤ length (now t) ⌝ }
+    ensures { λ r. ⌜ (r ≡ shortRegion (now (t .entry)) at) × NarrowRegion r ⌝ }
+{
+    Region {
+        at: wire::u32_at(t, at),
+        len: wire::u16_at(t, at + 4),
+    }
+}
+
+pub fn entry_at(t: &[u8], at: usize) -> Entry
+    requires { ⌜ at + 8 ≤ length (now t) ⌝ }
+    ensures { λ r. ⌜ (r ≡ entryIn (now (t .entry)) at) × NarrowEntry r ⌝ }
+{
+    Entry {
+        at: wire::u32_at(t, at),
+        step: wire::u16_at(t, at + 4),
+        version: t[at + 6],
+        count: wire::wide(t[at + 7]),
+    }
+}
+
+pub fn head_of(t: &[u8]) -> Head
+    requires { ⌜ 160 ≤ length (now t) ⌝ }
+    ensures { λ r. ⌜ (r ≡ headOf (now (t .entry))) × Narrow r ⌝ }
+{
+    Head {
+        signature: wire::u32_at(t, 0),
+        size: wire::u32_at(t, 4),
+        major: t[8],
+        minor: t[50],
+        controlid: t[64],
+        controlmajor: t[65],
+        controlminor: t[66],
+        csl: wire::u16_at(t, 68),
+        flags: t[70],
+        host: reference_at(t, 72),
+        hostversion: t[78],
+        heap: region_at(t, 36),
+        hfi: entry_at(t, 80),
+        ssns: entry_at(t, 88),
+        security: entry_at(t, 96),
+        discovery: entry_at(t, 104),
+    }
+}

@@ -1,0 +1,61 @@
+use Rattle.heap_records.specs.HeapRecords.{spot}
+use Rattle.table.specs.Rules.{isSound}
+use mathlib.Core.Path.{_≡_}
+use Rattle.heap_records.proofs.Laws.{extended-sound}
+use Rattle.table.specs.Bytes.{pick}
+use Rattle.heap_records.proofs.Laws.{part-short, part-stop, part-on}
+use Rattle.table.specs.FixedLayouts.{extended}
+use Rattle.table.specs.Layout.{region, image}
+use native.Mathlib.Omega.{arith}
+use borrow.Author.Needs.{needs}
+use Rattle.heap_records.proofs.extended_fault.Statement.{statement}
+use Rattle.heap_records.proofs.extended_fault.Tie as tie
+use Rattle.heap_records.proofs.extended_fault.Reads as reads
+use Rattle.heap_records.proofs.extended_fault.Lts as lts
+use Rattle.heap_records.proofs.extended_judge.Reads as extended-judge-reads
+use Rattle.references.proofs.plain_fault.Reads as plain-fault-reads
+use Rattle.wire.proofs.u16_at.Reads as u16-at-reads
+
+returns : tie.Need-returns
+unfolding extended
+returns c = part-short (region (c .before .before .args .from) (c .before .before .args .n)) (c .before .before .args .position) (extended .shape) 12 (c .before .before .args .x .now) (omega (arith, c .if1 .taken))
+
+shared-slice-read-extended-judge : tie.Need-shared-slice-read-extended-judge
+shared-slice-read-extended-judge c = search needs
+
+shared-slice-read-extended-judge-2 : tie.Need-shared-slice-read-extended-judge-2
+shared-slice-read-extended-judge-2 c = search needs
+
+shared-slice-read-extended-judge-3 : tie.Need-shared-slice-read-extended-judge-3
+shared-slice-read-extended-judge-3 c = search needs
+
+u16-at-requires : tie.Need-u16-at-requires
+u16-at-requires c κs = search needs
+
+extended-judge-requires : tie.Need-extended-judge-requires
+extended-judge-requires c κs = search needs
+
+returns-2 : tie.Need-returns-2
+unfolding extended
+returns-2 c = let v : c .before .extended-judge .result ≡ pick (isSound (extended .shape) (spot (c .before .before .before .before .before .before .before .before .args .position)) (image (extended .shape .keep) (c .before .before .before .before .before .before .before .before .args .x .now))) 0 12 = rw (← extended-sound (c .before .before .before .before .before .before .before .before .args .x .now) (c .before .before .before .before .before .before .before .before .args .position) (λ i. omega (arith, c .before .before .before .before .before .before .before .shared-slice-known .given i))) (cc (c .before .extended-judge .ensures, c .before .before .u16-at .ensures .0)) in part-stop (region (c .before .before .before .before .before .before .before .before .args .from) (c .before .before .before .before .before .before .before .before .args .n)) (c .before .before .before .before .before .before .before .before .args .position) (extended .shape) 12 (c .before .before .before .before .before .before .before .before .args .x .now) (c .before .extended-judge .result) (omega (arith, c .before .before .before .before .before .before .if1 .left)) v (c .if2 .taken)
+
+plain-fault-requires : tie.Need-plain-fault-requires
+plain-fault-requires c κs = search needs
+
+returns-3 : tie.Need-returns-3
+unfolding extended
+returns-3 c = let v : c .before .before .extended-judge .result ≡ pick (isSound (extended .shape) (spot (c .before .before .before .before .before .before .before .before .before .args .position)) (image (extended .shape .keep) (c .before .before .before .before .before .before .before .before .before .args .x .now))) 0 12 = rw (← extended-sound (c .before .before .before .before .before .before .before .before .before .args .x .now) (c .before .before .before .before .before .before .before .before .before .args .position) (λ i. omega (arith, c .before .before .before .before .before .before .before .before .shared-slice-known .given i))) (cc (c .before .before .extended-judge .ensures, c .before .before .before .u16-at .ensures .0)) in part-on (region (c .before .before .before .before .before .before .before .before .before .args .from) (c .before .before .before .before .before .before .before .before .before .args .n)) (c .before .before .before .before .before .before .before .before .before .args .position) (extended .shape) 12 (c .before .before .before .before .before .before .before .before .before .args .x .now) (c .before .before .extended-judge .result) (omega (arith, c .before .before .before .before .before .before .before .if1 .left)) v (c .plain-fault .result) (c .before .if2 .left) (c .plain-fault .ensures)
+
+pub extended-fault-spec : {M : Type 1} → statement M
+extended-fault-spec =
+    tie.close
+    (tie.spec
+    returns
+    shared-slice-read-extended-judge
+    shared-slice-read-extended-judge-2
+    shared-slice-read-extended-judge-3
+    u16-at-requires
+    extended-judge-requires
+    returns-2
+    plain-fault-requires
+    returns-3)

@@ -1,0 +1,233 @@
+-- Indexes: which positions are used, by the lists' flags; the rules of a record's indexes by the bytes that are read. Assumes nothing.
+use mathlib.Core.Path.{_≡_, refl, sym, ap, ap₂, _∙_}
+use mathlib.Core.Bool.{Bool, true, false, _&&_, _||_}
+use mathlib.Core.List.{List}
+use Prim.Native.Nat.{ℕ, _+_, _-_, _*_, _/_, _%_, _≤_, _<_}
+use native.Mathlib.Nat.{suc-mul, mul-le-mul-right, le-trans, mod-eq-of-lt}
+use native.Mathlib.Numerals.{add-one}
+use native.Mathlib.Omega.{arith}
+use lib.ListN.{length, getD, drop, drop-of-length-le}
+use lib.Seq.{drop-cons, getD-drop}
+use lib.Dec.{eqb, lit<}
+use borrow.Author.Tests.{eq-eqb, ne-eqb, eqb-true, eqb-false}
+use Rattle.table.specs.declared.Region.{Region}
+use Rattle.table.specs.declared.Need.the-variants.{Optional}
+use Rattle.table.specs.Bytes.{pick, part, num, every}
+use Rattle.table.specs.declared.Need.{Need}
+use Rattle.table.specs.Layout.{Env, Refs, plain, image, region, Layout, slotAt}
+use Rattle.table.specs.FixedLayouts.{layoutOf, header, control, host, hfi, ssns, security, discovery, info, extended, noKind, zeroOr}
+use Rattle.table.specs.Objects.{readSlots, readBody, usedIn, under}
+use Rattle.table.specs.Rules.{firstOf, refRule, plainRule, refsRule, reaches, ruled}
+use Rattle.laws.specs.ImageLaws.{image-at}
+use Rattle.laws.specs.Sound.{first-of}
+use Rattle.laws.specs.Fields.{Bytes, imageIn, whole, two-bytes}
+use Rattle.laws.specs.ListWalk.{validIn, envIn, flagged, flagged-is}
+use Rattle.frame.specs.Bounds.{ListIn}
+use Rattle.references.specs.References.{refOf}
+use Rattle.references.specs.declared.Ref.the-variants.{Absent, Wrong, Part}
+use Rattle.rules.specs.Rules.{IsHeap}
+use Rattle.rules.proofs.HeapLaws.{object-part}
+use Rattle.indexes.specs.Indexes.{namesRule, securityIndex, secondaryRule, refsFault, RefsPass}
+
+-- ---- the first of two
+
+pub stop : {n x : ℕ} (y : ℕ) → n ≡ x → (n ≡ 0 → ⊥) → n ≡ firstOf x y
+stop {n} {x} y e z = e ∙ sym (ap (λ (c : Bool). pick c y x) (ne-eqb x 0 (λ w. z (e ∙ w))))
+
+pub more : {n x m y : ℕ} → n ≡ x → n ≡ 0 → m ≡ y → m ≡ firstOf x y
+more {n} {x} {m} {y} e z f = f ∙ sym (ap (λ (c : Bool). pick c y x) (eq-eqb x 0 (sym e ∙ z)))
+
+-- ---- lists
+
+-- the next record lies in the list
+pub stride : (i n s : ℕ) → i < n → i * s + s ≤ n * s
+stride i n s h = rw (← suc-mul i s) (mul-le-mul-right s h)
+
+pub list-less : (t : List ℕ) (c b d : ℕ) → ListIn t c b → d ≤ b → ListIn t c d
+list-less t c b d p h = record { long = λ z. le-trans h (p .long z); within = λ z. p .within z }
+
+-- ---- which positions are used
+
+module _ (t : List ℕ) (n : ℕ) where
+  pub valid-3 : flagged t (num t 80 4) (num t 84 2) (getD t 87 0) 2 n ≡ validIn t 3 n
+  unfolding validIn usedIn readBody hfi
+  valid-3 = sym (flagged-is hfi t (num t 80 4) (num t 84 2) (getD t 87 0) n tt)
+
+  pub valid-4 : flagged t (num t 88 4) (num t 92 2) (getD t 95 0) 3 n ≡ validIn t 4 n
+  unfolding validIn usedIn readBody hfi ssns
+  valid-4 = sym (flagged-is ssns t (num t 88 4) (num t 92 2) (getD t 95 0) n tt)
+
+  pub valid-5 : flagged t (num t 96 4) (num t 100 2) (getD t 103 0) 2 n ≡ validIn t 5 n
+  unfolding validIn usedIn readBody hfi ssns security
+  valid-5 = sym (flagged-is security t (num t 96 4) (num t 100 2) (getD t 103 0) n tt)
+
+  pub valid-6 : flagged t (num t 104 4) (num t 108 2) (getD t 111 0) 1 n ≡ validIn t 6 n
+  unfolding validIn usedIn readBody hfi ssns security discovery
+  valid-6 = sym (flagged-is discovery t (num t 104 4) (num t 108 2) (getD t 111 0) n tt)
+
+-- ---- 13 from several indexes
+
+both13 : (a b : Bool) → firstOf (pick a 0 13) (pick b 0 13) ≡ pick (a && b) 0 13
+both13 true b = refl
+both13 false b = refl
+
+pub discovery-names : (t : List ℕ) (a : ℕ) → Bytes t
+    → firstOf (pick (validIn t 3 (getD t (a + 3) 0)) 0 13) (pick (zeroOr (validIn t 5) (getD t (a + 4) 0)) 0 13) ≡ namesRule 6 t a
+unfolding namesRule layoutOf discovery imageIn
+discovery-names t a b =
+    both13 (validIn t 3 (getD t (a + 3) 0)) (zeroOr (validIn t 5) (getD t (a + 4) 0))
+    ∙ sym (ap₂ (λ (x y : ℕ). pick (validIn t 3 x && zeroOr (validIn t 5) y) 0 13)
+    (whole (discovery .shape .keep) t a 3 tt refl (b (a + 3))) (whole (discovery .shape .keep) t a 4 tt refl (b (a + 4))))
+
+-- the security index, under flag 2, is the table's byte
+flag-two : (x : ℕ) → x % 8 / 4 ≡ x / 4 % 2
+flag-two x = omega arith
+
+index-on : (t : List ℕ) (a : ℕ) → Bytes t → eqb (num (imageIn ssns t a) 3 2 / 4 % 2) 0 ≡ false → getD (imageIn ssns t a) 45 0 ≡ getD t (a + 45) 0
+unfolding imageIn ssns
+index-on t a b e =
+    let ks = ssns .shape .keep in
+    let x = image ks (drop a t) in
+    let z = eqb-false (num x 3 2 / 4 % 2) 0 e in
+    let f : getD x 3 0 ≡ getD t (a + 3) 0 = whole ks t a 3 tt refl (b (a + 3)) in
+    let g : getD (drop a t) 3 0 ≡ getD t (a + 3) 0 = getD-drop a t 3 0 in
+    let k : getD (drop a t) 3 0 % (2 * 4) / 4 ≡ 0 → ⊥ = λ w. z (omega (arith, two-bytes x 3)) in
+    image-at ks (drop a t) 45 (lit< tt)
+    ∙ ap (λ (c : Bool). getD (drop a t) 45 0 % pick c 1 256) (ne-eqb (getD (drop a t) 3 0 % (2 * 4) / 4) 0 k)
+    ∙ ap (λ (y : ℕ). y % 256) (getD-drop a t 45 0)
+    ∙ mod-eq-of-lt (b (a + 45))
+
+pub security-off : (t : List ℕ) (a : ℕ) → num (imageIn ssns t a) 3 2 / 4 % 2 ≡ 0 → 0 ≡ securityIndex t a
+unfolding securityIndex
+security-off t a e = rw (eq-eqb (num (imageIn ssns t a) 3 2 / 4 % 2) 0 e)
+
+pub security-on : (t : List ℕ) (a : ℕ) → Bytes t → (num (imageIn ssns t a) 3 2 / 4 % 2 ≡ 0 → ⊥) → pick (validIn t 5 (getD t (a + 45) 0)) 0 13 ≡ securityIndex t a
+unfolding securityIndex
+security-on t a b z =
+    let e = ne-eqb (num (imageIn ssns t a) 3 2 / 4 % 2) 0 z in
+    rw (e, index-on t a b e)
+
+-- its only number
+pub security-thirteen : (t : List ℕ) (a : ℕ) → (securityIndex t a ≡ 0 → ⊥) → securityIndex t a ≡ 13
+unfolding securityIndex
+security-thirteen t a z = go (eqb (num (imageIn ssns t a) 3 2 / 4 % 2) 0 || validIn t 5 (getD (imageIn ssns t a) 45 0)) z
+  where
+    go : (c : Bool) → (_≡_ {A = ℕ} (pick c 0 13) 0 → ⊥) → _≡_ {A = ℕ} (pick c 0 13) 13
+    go true w = absurd (w refl)
+    go false w = refl
+
+-- ---- the secondary list
+
+slot-48 : (t : List ℕ) (a : ℕ) (img : List ℕ) → slotAt 48 (readSlots t a img (ssns .refs)) ≡ part t (num t (a + 48) 4) (num t (a + 48 + 4) 2)
+unfolding slotAt readSlots ssns
+slot-48 t a img = refl
+
+-- the rule of the indexes by the values that stand there
+ssns-rule : (t : List ℕ) (a d p : ℕ) (x : List ℕ) → getD (imageIn ssns t a) 8 0 ≡ d → getD (imageIn ssns t a) 46 0 ≡ p → slotAt 48 (readSlots t a (imageIn ssns t a) (ssns .refs)) ≡ x
+    → _≡_ {A = ℕ} (pick (zeroOr (validIn t 6) d && ((eqb (num (imageIn ssns t a) 3 2 / 4 % 2) 0 || validIn t 5 (getD (imageIn ssns t a) 45 0)) && (validIn t 3 p && every (validIn t 3) x))) 0 13)
+    (pick (ssns .names (validIn t) (imageIn ssns t a) (readSlots t a (imageIn ssns t a) (ssns .refs))) 0 13)
+ssns-rule t a d p x e f g = rw (← e, ← f, ← g) (unfold ssns in refl)
+
+pub ssns-names : (t : List ℕ) (a : ℕ) → Bytes t
+    → firstOf (pick (zeroOr (validIn t 6) (getD t (a + 8) 0)) 0 13) (firstOf (securityIndex t a) (firstOf (pick (validIn t 3 (getD t (a + 46) 0)) 0 13) (secondaryRule t a))) ≡ namesRule 4 t a
+unfolding namesRule layoutOf securityIndex secondaryRule
+ssns-names t a b =
+    let e8 : getD (imageIn ssns t a) 8 0 ≡ getD t (a + 8) 0 = unfold imageIn ssns in (whole (ssns .shape .keep) t a 8 tt refl (b (a + 8))) in
+    let e46 : getD (imageIn ssns t a) 46 0 ≡ getD t (a + 46) 0 = unfold imageIn ssns in (whole (ssns .shape .keep) t a 46 tt refl (b (a + 46))) in
+    let s = slot-48 t a (imageIn ssns t a) in
+    four (zeroOr (validIn t 6) (getD t (a + 8) 0)) (eqb (num (imageIn ssns t a) 3 2 / 4 % 2) 0 || validIn t 5 (getD (imageIn ssns t a) 45 0)) (validIn t 3 (getD t (a + 46) 0)) (every (validIn t 3) (part t (num t (a + 48) 4) (num t (a + 48 + 4) 2)))
+    ∙ ssns-rule t a _ _ _ e8 e46 s
+  where
+    four : (x y z w : Bool) → firstOf (pick x 0 13) (firstOf (pick y 0 13) (firstOf (pick z 0 13) (pick w 0 13))) ≡ pick (x && (y && (z && w))) 0 13
+    four x y z w = ap (λ (n : ℕ). firstOf (pick x 0 13) n) (ap (λ (n : ℕ). firstOf (pick y 0 13) n) (both13 z w) ∙ both13 y (z && w)) ∙ both13 x (y && (z && w))
+
+-- ---- the bytes of the secondary list, one by one
+
+module _ (f : ℕ → Bool) (x : List ℕ) (i : ℕ) where
+  pub every-stop : i < length x → f (getD x i 0) ≡ false → every f (drop i x) ≡ false
+  every-stop h e = rw (drop-cons x i 0 h) (simp e)
+
+  pub every-more : i < length x → f (getD x i 0) ≡ true → every f (drop i x) ≡ every f (drop (i + 1) x)
+  every-more h e = rw (add-one i, drop-cons x i 0 h) (simp e)
+
+  pub every-none : length x ≤ i → every f (drop i x) ≡ true
+  every-none h = rw (drop-of-length-le x h)
+
+-- its reference, as the record's references have passed
+plain-passes : (heap : Region) (e : Env) (t : List ℕ) (a : ℕ) (img : List ℕ) (p : ℕ) (need : List ℕ → Need) (rule : Env → List ℕ → ℕ) (rest : Refs) → refsRule heap e t a img (plain p need rule rest) ≡ 0
+    → (refRule heap (need img) (num t (a + p) 4) (num t (a + p + 4) 2) ≡ 0) × (refsRule heap e t a img rest ≡ 0)
+unfolding refsRule
+plain-passes heap e t a img p need rule rest z =
+    let u = first-of (plainRule heap (need img) rule e t (a + p)) (refsRule heap e t a img rest) z in
+    (first-of (refRule heap (need img) (num t (a + p) 4) (num t (a + p + 4) 2)) (under (need img) 0 (ruled rule e (part t (num t (a + p) 4) (num t (a + p + 4) 2)))) (u .0) .0, u .1)
+
+secondary-passed : (heap : Region) (t : List ℕ) (a pos : ℕ) → RefsPass 4 heap t a pos → refRule heap Optional (num t (a + 48) 4) (num t (a + 48 + 4) 2) ≡ 0
+unfolding refsFault layoutOf ssns
+secondary-passed heap t a pos p =
+    let e = envIn t pos in
+    let img = imageIn ssns t a in
+    let u = plain-passes heap e t a img _ _ _ _ (p .passed) in
+    let v = plain-passes heap e t a img _ _ _ _ (u .1) in
+    plain-passes heap e t a img _ _ _ _ (v .1) .0
+
+right-or-absent : (heap : Region) (off len : ℕ) → refRule heap Optional off len ≡ 0 → refOf heap off len ≡ Wrong → ⊥
+unfolding refOf
+right-or-absent heap off len z e = go (eqb off 0 && eqb len 0) (reaches heap off len) z e
+  where
+    go : (c d : Bool) → _≡_ {A = ℕ} (pick c 0 (pick d 0 11)) 0 → pick c Absent (pick d (Part off len) Wrong) ≡ Wrong → ⊥
+    go true d f g = let z : _≡_ {A = ℕ} 0 1 = cc in absurd (omega arith)
+    go false true f g = let z : _≡_ {A = ℕ} 0 1 = cc in absurd (omega arith)
+    go false false f g = absurd (omega arith)
+
+pub secondary-right : (heap : Region) (t : List ℕ) (a pos : ℕ) → RefsPass 4 heap t a pos → refOf heap (num t (a + 48) 4) (num t (a + 48 + 4) 2) ≡ Wrong → ⊥
+secondary-right heap t a pos p = right-or-absent heap (num t (a + 48) 4) (num t (a + 48 + 4) 2) (secondary-passed heap t a pos p)
+
+absent-length : (heap : Region) (off len : ℕ) → refOf heap off len ≡ Absent → len ≡ 0
+unfolding refOf
+absent-length heap off len e = go (eqb off 0) (eqb len 0) (reaches heap off len) refl e
+  where
+    go : (b c d : Bool) → eqb len 0 ≡ c → pick (b && c) Absent (pick d (Part off len) Wrong) ≡ Absent → len ≡ 0
+    go b true d f g = eqb-true len 0 f
+    go true false true f g = let z : _≡_ {A = ℕ} 0 1 = cc in absurd (omega arith)
+    go true false false f g = let z : _≡_ {A = ℕ} 0 1 = cc in absurd (omega arith)
+    go false false true f g = let z : _≡_ {A = ℕ} 0 1 = cc in absurd (omega arith)
+    go false false false f g = let z : _≡_ {A = ℕ} 0 1 = cc in absurd (omega arith)
+
+pub secondary-absent : (heap : Region) (t : List ℕ) (a : ℕ) → refOf heap (num t (a + 48) 4) (num t (a + 48 + 4) 2) ≡ Absent → 0 ≡ secondaryRule t a
+unfolding secondaryRule
+secondary-absent heap t a e = rw (absent-length heap (num t (a + 48) 4) (num t (a + 48 + 4) 2) e)
+
+pub secondary-part : (t heap : List ℕ) (from a : ℕ) → IsHeap t heap from → reaches (region from (length heap)) (num t (a + 48) 4) (num t (a + 48 + 4) 2) ≡ true
+    → pick (every (validIn t 3) (part heap (num t (a + 48) 4 - from) (num t (a + 48 + 4) 2))) 0 13 ≡ secondaryRule t a
+unfolding secondaryRule
+secondary-part t heap from a h e =
+    ap (λ (x : List ℕ). pick (every (validIn t 3) x) 0 13) (object-part t heap from h (num t (a + 48) 4) (num t (a + 48 + 4) 2) e)
+
+-- ---- kinds without indexes
+
+abbrev namesOf : List ℕ → ℕ → Layout → ℕ
+namesOf t a l = pick (l .names (validIn t) (imageIn l t a) (readSlots t a (imageIn l t a) (l .refs))) 0 13
+
+pub no-names : (t : List ℕ) (a k : ℕ) → (k ≡ 4 → ⊥) → (k ≡ 6 → ⊥) → 0 ≡ namesRule k t a
+unfolding namesRule layoutOf header control host hfi security info extended noKind
+no-names t a k x y = rw (ne-eqb k 4 x, ne-eqb k 6 y) (go (eqb k 0) (eqb k 1) (eqb k 2) (eqb k 3) (eqb k 5) (eqb k 7) (eqb k 9))
+  where
+    go : (b0 b1 b2 b3 b5 b7 b9 : Bool) → 0 ≡ namesOf t a (pick b0 header (pick b1 control (pick b2 host (pick b3 hfi (pick b5 security (pick b7 info (pick b9 extended noKind)))))))
+    go true b1 b2 b3 b5 b7 b9 = refl
+    go false true b2 b3 b5 b7 b9 = refl
+    go false false true b3 b5 b7 b9 = refl
+    go false false false true b5 b7 b9 = refl
+    go false false false false true b7 b9 = refl
+    go false false false false false true b9 = refl
+    go false false false false false false true = refl
+    go false false false false false false false = refl
+
+-- ---- what an answer of 0 or 13 says
+
+pub holds : {n : ℕ} (b : Bool) → n ≡ pick b 0 13 → n ≡ 0 → b ≡ true
+holds true e z = refl
+holds false e z = absurd (omega arith)
+
+pub fails : {n : ℕ} (b : Bool) → n ≡ pick b 0 13 → (n ≡ 0 → ⊥) → b ≡ false
+fails true e z = absurd (z e)
+fails false e z = refl

@@ -1,0 +1,19 @@
+use Rattle.table.proofs.Rules.{picks}
+use borrow.Author.Needs.{needs}
+use Rattle.indexes.proofs.optional_index.Statement.{statement}
+use Rattle.indexes.proofs.optional_index.Tie as tie
+use Rattle.indexes.proofs.optional_index.Reads as reads
+use Rattle.indexes.proofs.optional_index.Lts as lts
+use Rattle.indexes.proofs.index_fault.Reads as index-fault-reads
+
+returns : tie.Need-returns
+returns c = search picks
+
+index-fault-requires : tie.Need-index-fault-requires
+index-fault-requires c κs = search needs
+
+returns-2 : tie.Need-returns-2
+returns-2 c = search picks
+
+pub optional-index-spec : {M : Type 1} → statement M
+optional-index-spec = tie.close (tie.spec returns index-fault-requires returns-2)

@@ -1,0 +1,108 @@
+// Indexes: each names a position of a list, whose record must be valid. Only the valid bit is looked at here; the record's own turn finds its other faults.
+use references::Ref;
+ghost use mathlib.Core.Path.{_≡_};
+ghost use Prim.Native.Nat.{_+_, _*_, _≤_, _<_};
+ghost use lib.ListN.{length, getD};
+ghost use Rattle.table.specs.Bytes.{num, pick, every};
+ghost use Rattle.table.specs.Layout.{region};
+ghost use Rattle.table.specs.FixedLayouts.{zeroOr};
+ghost use Rattle.laws.specs.ListWalk.{validIn, flagged};
+ghost use Rattle.frame.specs.Bounds.{ListIn, LaidOut};
+ghost use Rattle.rules.specs.Rules.{IsHeap};
+ghost use Rattle.indexes.specs.Indexes.{secondaryRule, RefsPass};
+
+// Position n of a list is one of it, and its valid bit is set.
+fn listed(t: &[u8], at: usize, step: usize, count: usize, flag: usize, n: usize) -> bool
+    requires { ⌜ (0 < count → at + count * step ≤ length (now t)) × (0 < count → flag < step) ⌝ }
+    ensures { λ r. ⌜ r ≡ flagged (now (t .entry)) at step count flag n ⌝ }
+{
+    if n == 0 {
+        return false;
+    }
+    if count < n {
+        return false;
+    }
+    let i = n - 1;
+    let d = i * step;
+    t[at + d + flag] % 2 == 1
+}
+
+// Position n of the list whose entry in the control record stands at c.
+fn valid_in(t: &[u8], c: usize, flag: usize, n: usize) -> bool
+    requires { ⌜ (c + 8 ≤ length (now t)) × ListIn (now t) c (flag + 1) ⌝ }
+    ensures { λ r. ⌜ r ≡ flagged (now (t .entry)) (num (now (t .entry)) c 4) (num (now (t .entry)) (c + 4) 2) (getD (now (t .entry)) (c + 7) 0) flag n ⌝ }
+{
+    listed(
+        t,
+        wire::u32_at(t, c),
+        wire::u16_at(t, c + 4),
+        wire::wide(t[c + 7]),
+        flag,
+        n,
+    )
+}
+
+// Position n of a kind.
+pub fn valid_at(t: &[u8], kind: u8, n: usize) -> bool
+    requires { ⌜ LaidOut (now t) ⌝ }
+    ensures { λ r. ⌜ r ≡ validIn (now (t .entry)) kind n ⌝ }
+{
+    match kind {
+        3 => valid_in(t, 80, 2, n),
+        4 => valid_in(t, 88, 3, n),
+        5 => valid_in(t, 96, 2, n),
+        6 => valid_in(t, 104, 1, n),
+        _ => false,
+    }
+}
+
+pub fn index_fault(t: &[u8], kind: u8, n: usize) -> u8
+    requires { ⌜ LaidOut (now t) ⌝ }
+    ensures { λ r. ⌜ r ≡ pick (validIn (now (t .entry)) kind n) 0 13 ⌝ }
+{
+    if valid_at(t, kind, n) { 0 } else { 13 }
+}
+
+// An index that may be 0.
+pub fn optional_index(t: &[u8], kind: u8, n: usize) -> u8
+    requires { ⌜ LaidOut (now t) ⌝ }
+    ensures { λ r. ⌜ r ≡ pick (zeroOr (validIn (now (t .entry)) kind) n) 0 13 ⌝ }
+{
+    if n == 0 {
+        return 0;
+    }
+    index_fault(t, kind, n)
+}
+
+// Each byte of the list names a valid HFI, never 0.
+fn secondaries_fault(x: &[u8], t: &[u8]) -> u8
+    requires { ⌜ LaidOut (now t) ⌝ }
+    ensures { λ r. ⌜ r ≡ pick (every (validIn (now (t .entry)) 3) (now (x .entry))) 0 13 ⌝ }
+{
+    let mut i: usize = 0;
+    while i < x.len() {
+        let fault = index_fault(t, 3, wire::wide(x[i]));
+        if fault != 0 {
+            return fault;
+        }
+        i += 1;
+    }
+    0
+}
+
+// The secondary list is a part of the heap, whose reference has passed.
+pub fn secondary_names(t: &[u8], a: usize, position: usize, heap: &[u8], from: usize) -> u8
+    requires { ⌜ LaidOut (now t) × (a + 128 ≤ length (now t)) × IsHeap (now t) (now heap) from × RefsPass 4 (region from (length (now heap))) (now t) a position ⌝ }
+    ensures { λ r. ⌜ r ≡ secondaryRule (now (t .entry)) a ⌝ }
+{
+    let r = references::ref_at(t, a + 48, from, heap.len());
+    match r {
+        Ref::Absent => 0,
+        Ref::Wrong => 0,
+        Ref::Part { at, len } => {
+            let start = at - from;
+            let end = start + len;
+            secondaries_fault(&heap[start..end], t)
+        }
+    }
+}

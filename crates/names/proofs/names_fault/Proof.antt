@@ -1,0 +1,30 @@
+use Rattle.table.specs.FixedLayouts.{layoutOf, ssns, discovery}
+use Rattle.indexes.proofs.Laws.{no-names}
+use Rattle.table.proofs.Rules.{picks}
+use Rattle.names.proofs.names_fault.Statement.{statement}
+use Rattle.names.proofs.names_fault.Tie as tie
+use Rattle.names.proofs.names_fault.Reads as reads
+use Rattle.names.proofs.names_fault.Lts as lts
+use Rattle.names.proofs.discovery_names.Reads as discovery-names-reads
+use Rattle.names.proofs.ssns_names.Reads as ssns-names-reads
+
+ssns-names-requires : tie.Need-ssns-names-requires
+unfolding layoutOf ssns
+ssns-names-requires c κs = (c .before .before .before .pre .0, rw (c .match .keys1) at (c .before .before .before .pre .1), c .before .before .before .pre .2, rw (c .match .keys1) at (c .before .before .before .pre .3))
+
+discovery-names-requires : tie.Need-discovery-names-requires
+unfolding layoutOf discovery
+discovery-names-requires c κs = (c .before .before .before .pre .0, rw (c .match .keys2) at (c .before .before .before .pre .1))
+
+returns : tie.Need-returns
+returns c = rw (c .before .match .keys1) (c .ssns-names .ensures)
+
+returns-2 : tie.Need-returns-2
+returns-2 c = rw (c .before .match .keys2) (c .discovery-names .ensures)
+
+returns-3 : tie.Need-returns-3
+returns-3 c = no-names (c .before .before .before .args .t .now) (c .before .before .before .args .a) (c .before .before .before .args .kind) (search picks) (search picks)
+
+pub names-fault-spec : {M : Type 1} → statement M
+names-fault-spec =
+    tie.close (tie.spec ssns-names-requires discovery-names-requires returns returns-2 returns-3)

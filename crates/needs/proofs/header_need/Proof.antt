@@ -1,0 +1,17 @@
+use Rattle.needs.specs.Needs.{plainNeed}
+use Rattle.table.proofs.Rules.{picks}
+use Rattle.needs.proofs.header_need.Statement.{statement}
+use Rattle.needs.proofs.header_need.Tie as tie
+use Rattle.needs.proofs.header_need.Reads as reads
+use Rattle.needs.proofs.header_need.Lts as lts
+
+returns : tie.Need-returns
+unfolding Rattle.needs.specs.Needs.plainNeed
+returns c = search picks
+
+returns-2 : tie.Need-returns-2
+unfolding Rattle.needs.specs.Needs.plainNeed
+returns-2 c = search picks
+
+pub header-need-spec : {M : Type 1} → statement M
+header-need-spec = tie.close (tie.spec returns returns-2)

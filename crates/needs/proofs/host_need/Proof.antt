@@ -1,0 +1,17 @@
+use Rattle.needs.specs.Needs.{plainNeed}
+use Rattle.table.proofs.Rules.{picks}
+use Rattle.needs.proofs.host_need.Statement.{statement}
+use Rattle.needs.proofs.host_need.Tie as tie
+use Rattle.needs.proofs.host_need.Reads as reads
+use Rattle.needs.proofs.host_need.Lts as lts
+
+returns : tie.Need-returns
+unfolding Rattle.needs.specs.Needs.plainNeed
+returns c = search picks
+
+returns-2 : tie.Need-returns-2
+unfolding Rattle.needs.specs.Needs.plainNeed
+returns-2 c = search picks
+
+pub host-need-spec : {M : Type 1} → statement M
+host-need-spec = tie.close (tie.spec returns returns-2)

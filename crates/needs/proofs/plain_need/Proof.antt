@@ -1,0 +1,47 @@
+use Rattle.needs.specs.Needs.{plainNeed}
+use Rattle.table.proofs.Rules.{picks}
+use borrow.Author.Needs.{needs}
+use Rattle.needs.proofs.plain_need.Statement.{statement}
+use Rattle.needs.proofs.plain_need.Tie as tie
+use Rattle.needs.proofs.plain_need.Reads as reads
+use Rattle.needs.proofs.plain_need.Lts as lts
+use Rattle.needs.proofs.discovery_need.Reads as discovery-need-reads
+use Rattle.needs.proofs.header_need.Reads as header-need-reads
+use Rattle.needs.proofs.host_need.Reads as host-need-reads
+
+header-need-requires : tie.Need-header-need-requires
+header-need-requires c κs = search needs
+
+host-need-requires : tie.Need-host-need-requires
+host-need-requires c κs = search needs
+
+discovery-need-requires : tie.Need-discovery-need-requires
+discovery-need-requires c κs = search needs
+
+returns : tie.Need-returns
+unfolding plainNeed
+returns c = rw (c .before .match .keys1) (cc)
+
+returns-2 : tie.Need-returns-2
+unfolding plainNeed
+returns-2 c = rw (c .before .match .keys2) (cc)
+
+returns-3 : tie.Need-returns-3
+unfolding plainNeed
+returns-3 c = rw (c .before .match .keys3) (cc)
+
+returns-4 : tie.Need-returns-4
+unfolding Rattle.needs.specs.Needs.plainNeed
+returns-4 c = search picks
+
+pub plain-need-spec : {M : Type 1} → statement M
+plain-need-spec =
+    tie.close
+    (tie.spec
+    header-need-requires
+    host-need-requires
+    discovery-need-requires
+    returns
+    returns-2
+    returns-3
+    returns-4)

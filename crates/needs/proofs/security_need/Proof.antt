@@ -1,0 +1,42 @@
+use Rattle.table.specs.FixedLayouts.{security}
+use Rattle.laws.specs.Fields.{imageIn}
+use native.Mathlib.Omega.{arith}
+use Rattle.needs.proofs.Laws.{security-need}
+use Rattle.records.proofs.Laws.{security-secret}
+use borrow.Author.Needs.{needs}
+use Rattle.needs.proofs.security_need.Statement.{statement}
+use Rattle.needs.proofs.security_need.Tie as tie
+use Rattle.needs.proofs.security_need.Reads as reads
+use Rattle.needs.proofs.security_need.Lts as lts
+use Rattle.needs.proofs.security_judge.Reads as security-judge-reads
+use Rattle.records.proofs.security_flags.Reads as security-flags-reads
+use Rattle.wire.proofs.wide.Reads as wide-reads
+
+security-flags-requires : tie.Need-security-flags-requires
+security-flags-requires c κs = search needs
+
+add-wide : tie.Need-add-wide
+add-wide c = search needs
+
+shared-slice-read-wide : tie.Need-shared-slice-read-wide
+shared-slice-read-wide c = search needs
+
+wide-requires : tie.Need-wide-requires
+wide-requires c κs = search needs
+
+security-judge-requires : tie.Need-security-judge-requires
+security-judge-requires c κs = search needs
+
+returns : tie.Need-returns
+returns c = rw (← security-need (imageIn security (c .before .before .before .before .before .args .t .now) (c .before .before .before .before .before .args .a)) (c .before .before .before .before .before .args .off), security-secret (c .before .before .before .before .before .args .t .now) (c .before .before .before .before .before .args .a) 0 (λ i. omega (arith, c .before .before .before .before .shared-slice-known .given i))) (cc)
+
+pub security-need-spec : {M : Type 1} → statement M
+security-need-spec =
+    tie.close
+    (tie.spec
+    security-flags-requires
+    add-wide
+    shared-slice-read-wide
+    wide-requires
+    security-judge-requires
+    returns)

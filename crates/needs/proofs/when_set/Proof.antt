@@ -1,0 +1,17 @@
+use Rattle.needs.specs.Needs.{whenSet}
+use Rattle.table.proofs.Rules.{picks}
+use Rattle.needs.proofs.when_set.Statement.{statement}
+use Rattle.needs.proofs.when_set.Tie as tie
+use Rattle.needs.proofs.when_set.Reads as reads
+use Rattle.needs.proofs.when_set.Lts as lts
+
+returns : tie.Need-returns
+unfolding Rattle.needs.specs.Needs.whenSet
+returns c = search picks
+
+returns-2 : tie.Need-returns-2
+unfolding Rattle.needs.specs.Needs.whenSet
+returns-2 c = search picks
+
+pub when-set-spec : {M : Type 1} → statement M
+when-set-spec = tie.close (tie.spec returns returns-2)

@@ -1,0 +1,27 @@
+use Rattle.packing.specs.Packed.{packedRewritten}
+use native.Mathlib.Omega.{arith}
+use borrow.Author.Needs.{needs}
+use Rattle.packing.proofs.pack_rewritten.Statement.{statement}
+use Rattle.packing.proofs.pack_rewritten.Tie as tie
+use Rattle.packing.proofs.pack_rewritten.Reads as reads
+use Rattle.packing.proofs.pack_rewritten.Lts as lts
+use Rattle.packing.proofs.pack.Reads as pack-reads
+
+pack-requires : tie.Need-pack-requires
+pack-requires c κs = search needs
+
+cast-answer : tie.Need-cast-answer
+cast-answer c = search needs
+
+mul-result : tie.Need-mul-result
+mul-result c = search needs
+
+add-result : tie.Need-add-result
+add-result c = search needs
+
+returns : tie.Need-returns
+unfolding packedRewritten
+returns c = omega (arith, c .pack .ensures)
+
+pub pack-rewritten-spec : {M : Type 1} → statement M
+pack-rewritten-spec = tie.close (tie.spec pack-requires cast-answer mul-result add-result returns)

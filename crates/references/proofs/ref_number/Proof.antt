@@ -1,0 +1,49 @@
+use Rattle.references.specs.References.{refNumber}
+use Rattle.table.proofs.Rules.{picks}
+use borrow.Author.Needs.{needs}
+use Rattle.references.proofs.ref_number.Statement.{statement}
+use Rattle.references.proofs.ref_number.Tie as tie
+use Rattle.references.proofs.ref_number.Reads as reads
+use Rattle.references.proofs.ref_number.Lts as lts
+use Rattle.references.proofs.optional_number.Reads as optional-number-reads
+use Rattle.references.proofs.required_number.Reads as required-number-reads
+
+enum-told : tie.Need-enum-told
+enum-told c = search needs
+
+enum-told-2 : tie.Need-enum-told-2
+enum-told-2 c = search needs
+
+optional-number-requires : tie.Need-optional-number-requires
+optional-number-requires c κs = search needs
+
+enum-told-3 : tie.Need-enum-told-3
+enum-told-3 c = search needs
+
+required-number-requires : tie.Need-required-number-requires
+required-number-requires c κs = search needs
+
+returns : tie.Need-returns
+unfolding Rattle.references.specs.References.refNumber
+returns c = search picks
+
+returns-2 : tie.Need-returns-2
+unfolding Rattle.references.specs.References.refNumber
+returns-2 c = search picks
+
+returns-3 : tie.Need-returns-3
+unfolding Rattle.references.specs.References.refNumber
+returns-3 c = search picks
+
+pub ref-number-spec : {M : Type 1} → statement M
+ref-number-spec =
+    tie.close
+    (tie.spec
+    enum-told
+    enum-told-2
+    optional-number-requires
+    enum-told-3
+    required-number-requires
+    returns
+    returns-2
+    returns-3)

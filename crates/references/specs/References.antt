@@ -1,0 +1,25 @@
+-- What a reference is, for each case its number: the definitions of the answer `Ref`. Definitions only.
+use mathlib.Core.Bool.{_&&_}
+use Prim.Native.Nat.{ℕ}
+use lib.Dec.{eqb}
+use Rattle.table.specs.declared.Region.{Region}
+use Rattle.table.specs.declared.Need.{Need}
+use Rattle.table.specs.declared.Need.the-variants.{Ignored, Optional, Required}
+use Rattle.table.specs.Bytes.{pick}
+use Rattle.table.specs.Rules.{reaches}
+use Rattle.references.specs.declared.Ref.{Ref}
+use Rattle.references.specs.declared.Ref.the-variants.{Absent, Wrong, Part}
+
+-- the reference with these halves
+unfoldable pub refOf : Region → ℕ → ℕ → Ref
+refOf heap off len = pick (eqb off 0 && eqb len 0) Absent (pick (reaches heap off len) (Part off len) Wrong)
+
+-- its number under a need: 0 or 11
+unfoldable pub refNumber : Need → Ref → ℕ
+refNumber Ignored r = 0
+refNumber Optional Absent = 0
+refNumber Optional Wrong = 11
+refNumber Optional (Part at len) = 0
+refNumber Required Absent = 11
+refNumber Required Wrong = 11
+refNumber Required (Part at len) = 0

@@ -1,0 +1,27 @@
+use Rattle.spans.specs.Spans.{outside}
+use Rattle.table.proofs.Rules.{picks}
+use borrow.Author.Needs.{needs}
+use Rattle.spans.proofs.one_outside.Statement.{statement}
+use Rattle.spans.proofs.one_outside.Tie as tie
+
+returns : tie.Need-returns
+unfolding outside
+returns c = search picks
+
+returns-2 : tie.Need-returns-2
+unfolding outside
+returns-2 c = search picks
+
+add-if3 : tie.Need-add-if3
+add-if3 c = search needs
+
+returns-3 : tie.Need-returns-3
+unfolding outside
+returns-3 c = search picks
+
+returns-4 : tie.Need-returns-4
+unfolding outside
+returns-4 c = search picks
+
+pub one-outside-spec : {M : Type 1} → statement M
+one-outside-spec = tie.close (tie.spec returns returns-2 add-if3 returns-3 returns-4)

@@ -1,0 +1,234 @@
+//! Tables built by both programs, call by call. After every call the answer, the state and every byte of the buffer
+//! are compared. Buffers are full of noise, so that a byte shows whether it was written.
+
+use crate::hex;
+use crate::mischief::any_call;
+use second::random::Random;
+use second::retell::Call;
+use second::{Answer, State};
+use std::collections::BTreeMap;
+
+/// What a call gives, with the state and every byte of the buffer when it has ended.
+#[derive(PartialEq, Eq)]
+pub struct Outcome {
+    pub answer: Answer,
+    pub state: [u8; 16],
+    pub buffer: Vec<u8>,
+}
+
+/// What a call is told, in the order of the arguments in C.
+pub fn told(call: &Call) -> Vec<&[u8]> {
+    match call {
+        Call::Begin(header, counts, signature) => vec![header, counts, signature],
+        Call::Host(record, name) => vec![record, name],
+        Call::Hfi(record, info, name) => vec![record, &info[..], name],
+        Call::Ssns(record, extended, [address, service, others, name, path]) => {
+            vec![&record[..], address, service, others, name, extended, path]
+        }
+        Call::Security(record, objects) => {
+            let mut parts: Vec<&[u8]> = vec![record];
+            parts.extend(objects.iter().map(Vec::as_slice));
+            parts
+        }
+        Call::Discovery(record, address, name) => vec![record, address, name],
+        Call::Leave | Call::Finish => Vec::new(),
+    }
+}
+
+fn name(call: &Call) -> &'static str {
+    match call {
+        Call::Begin(..) => "begin",
+        Call::Host(..) => "host",
+        Call::Hfi(..) => "hfi",
+        Call::Ssns(..) => "ssns",
+        Call::Security(..) => "security",
+        Call::Discovery(..) => "discovery",
+        Call::Leave => "leave",
+        Call::Finish => "finish",
+    }
+}
+
+fn by_second(call: &Call, state: State, buffer: &[u8]) -> Outcome {
+    let mut buffer = buffer.to_vec();
+    let (answer, state) = call.make(&mut buffer, state);
+    Outcome { answer, state: state.to_bytes(), buffer }
+}
+
+/// A run whose answers are known, then `count` runs of every sort. `make` is the library's call, of what is told, the
+/// state's bytes and the buffer's.
+pub fn compare(
+    count: u64,
+    seed: u64,
+    make: impl FnMut(&Call, [u8; 16], &[u8]) -> Result<Outcome, String>,
+) -> Result<String, String> {
+    let mut random = Random::seeded(seed);
+    let noise = random.bytes(LONGEST_BUFFER);
+    let mut comparison = Comparison { make, random, noise, tally: Tally::default() };
+    comparison.full_lists()?;
+    for _ in 0..count {
+        comparison.any_run()?;
+    }
+    Ok(comparison.tally.told(1 + count, seed))
+}
+
+/// The library's call.
+pub trait Make: FnMut(&Call, [u8; 16], &[u8]) -> Result<Outcome, String> {}
+
+impl<F: FnMut(&Call, [u8; 16], &[u8]) -> Result<Outcome, String>> Make for F {}
+
+/// What a caller keeps between two calls.
+pub struct Kept {
+    pub state: State,
+    pub buffer: Vec<u8>,
+}
+
+/// Both builders, side by side through many runs.
+pub struct Comparison<F> {
+    make: F,
+    pub random: Random,
+    /// What buffers hold before they are lent is cut from this.
+    noise: Vec<u8>,
+    tally: Tally,
+}
+
+/// No buffer is longer.
+pub const LONGEST_BUFFER: usize = 70_000;
+
+impl<F: Make> Comparison<F> {
+    /// Both programs make the call; what they leave is kept.
+    pub fn call(&mut self, kept: &mut Kept, call: &Call) -> Result<Answer, String> {
+        let before = kept.state.to_bytes();
+        let expected = by_second(call, kept.state, &kept.buffer);
+        (self.make)(call, before, &kept.buffer)
+            .and_then(|given| same(&expected, &given))
+            .map_err(|difference| format!("{difference}, {}", shown(call, kept)))?;
+        kept.state = State::from_bytes(expected.state);
+        kept.buffer = expected.buffer;
+        self.tally.add(call, expected.answer);
+        if matches!(call, Call::Finish) && expected.answer.is_done() {
+            self.finished(kept)?;
+        }
+        Ok(expected.answer)
+    }
+
+    /// The reader takes a finished table, and a call that comes after the last leaves it as it is.
+    fn finished(&mut self, kept: &mut Kept) -> Result<(), String> {
+        let answer = second::check(&kept.buffer[..kept.state.used]);
+        if !answer.is_done() {
+            return Err(format!("a finished table is refused: {answer:?}, on\n{}", hex(&kept.buffer)));
+        }
+        self.tally.finished += 1;
+        let late = any_call(&mut self.random);
+        self.call(kept, &late).map(|_| ())
+    }
+
+    /// The call on copies, which are dropped: whatever comes of it, the run goes on as if it had not been made.
+    pub fn call_aside(&mut self, state: State, buffer: &[u8], call: &Call) -> Result<Answer, String> {
+        let mut aside = Kept { state, buffer: buffer.to_vec() };
+        self.call(&mut aside, call)
+    }
+
+    /// The call where the answer is known beforehand.
+    pub fn call_known(&mut self, kept: &mut Kept, call: &Call, known: Answer) -> Result<(), String> {
+        let answer = self.call(kept, call)?;
+        if answer == known {
+            return Ok(());
+        }
+        Err(format!("both answer {answer:?} to {}, but {known:?} is right", name(call)))
+    }
+
+    /// The empty state, and a buffer of noise.
+    pub fn start(&mut self, length: usize) -> Kept {
+        let from = self.random.below(self.noise.len() - length + 1);
+        Kept { state: State::EMPTY, buffer: self.noise[from..from + length].to_vec() }
+    }
+}
+
+fn same(expected: &Outcome, given: &Outcome) -> Result<(), String> {
+    if given == expected {
+        return Ok(());
+    }
+    let told = |outcome: &Outcome| format!("{:?} and state {}", outcome.answer, hex(&outcome.state));
+    let mut buffers = given.buffer.iter().zip(&expected.buffer).enumerate();
+    let bytes = match buffers.find(|(_, (given, expected))| given != expected) {
+        Some((place, (given, expected))) => format!("; byte {place} of the buffer is {given:02X} and not {expected:02X}"),
+        None => String::new(),
+    };
+    Err(format!("the library gives {}, the second program {}{bytes}", told(given), told(expected)))
+}
+
+/// A call with all that it was given, as a message shows it.
+fn shown(call: &Call, kept: &Kept) -> String {
+    let parts: Vec<String> = told(call).iter().map(|part| format!("[{}]", hex(part))).collect();
+    let (state, buffer) = (hex(&kept.state.to_bytes()), hex(&kept.buffer));
+    format!("for {} {} in state {state}, on\n{buffer}", name(call), parts.join(" "))
+}
+
+/// What was compared.
+#[derive(Default)]
+struct Tally {
+    calls: u64,
+    finished: u64,
+    by_number: BTreeMap<u8, u64>,
+    by_call: BTreeMap<&'static str, u64>,
+}
+
+impl Tally {
+    fn add(&mut self, call: &Call, answer: Answer) {
+        self.calls += 1;
+        *self.by_number.entry(answer.number).or_default() += 1;
+        *self.by_call.entry(name(call)).or_default() += 1;
+    }
+
+    fn told(&self, runs: u64, seed: u64) -> String {
+        let Tally { calls, finished, .. } = self;
+        let by_number: Vec<String> = self.by_number.iter().map(|(number, times)| format!("{number}: {times}")).collect();
+        let by_call: Vec<String> = self.by_call.iter().map(|(call, times)| format!("{call}: {times}")).collect();
+        format!(
+            "{runs} runs, {calls} calls agree (seed {seed}), {finished} tables finished; by number {}; by call {}",
+            by_number.join(", "),
+            by_call.join(", ")
+        )
+    }
+}
+
+#[cfg(test)]
+mod tests {
+    use super::*;
+
+    /// The second program itself, as the library.
+    fn by_itself(call: &Call, state: [u8; 16], buffer: &[u8]) -> Outcome {
+        by_second(call, State::from_bytes(state), buffer)
+    }
+
+    #[test]
+    fn runs_meet_every_number_that_a_call_can_give() {
+        let line =
+            compare(1000, 4, |call, state, buffer| Ok(by_itself(call, state, buffer))).expect("it agrees with itself");
+        for number in [0, 2, 6, 7, 8, 9, 10, 11, 12, 13, 14, 15, 17] {
+            assert!(line.contains(&format!(" {number}: ")), "{number} is missing: {line}");
+        }
+    }
+
+    #[test]
+    fn a_difference_of_one_bit_is_found() {
+        let spoils: [fn(&mut Outcome); 4] = [
+            |outcome| outcome.answer.position ^= 1,
+            |outcome| outcome.state[2] ^= 1,
+            |outcome| outcome.state[15] ^= 0x80,
+            |outcome| *outcome.buffer.last_mut().expect("the first runs lend buffers") ^= 1,
+        ];
+        for spoil in spoils {
+            let mut calls = 0;
+            let compared = compare(20, 5, |call, state, buffer| {
+                let mut outcome = by_itself(call, state, buffer);
+                calls += 1;
+                if calls == 1100 {
+                    spoil(&mut outcome);
+                }
+                Ok(outcome)
+            });
+            assert!(compared.is_err_and(|difference| difference.starts_with("the library gives")));
+        }
+    }
+}

@@ -1,0 +1,166 @@
+//! What may go wrong between a caller and the builder: calls told wrong, states that no call handed out, and buffers
+//! that others wrote to.
+
+use second::faults::damages;
+use second::form::records_end;
+use second::frame::GREATEST_LENGTH;
+use second::random::Random;
+use second::retell::Call;
+use second::state::{FINISHED, READY};
+use second::wire::set_two_bits;
+use second::State;
+
+/// The objects of a call, in the order of their arguments but for the SSNS's, whose root path is the last.
+pub fn objects(call: &mut Call) -> Vec<&mut Vec<u8>> {
+    match call {
+        Call::Begin(_, _, object) | Call::Host(_, object) | Call::Hfi(_, _, object) => vec![object],
+        Call::Ssns(_, _, objects) => objects.iter_mut().collect(),
+        Call::Security(_, objects) => objects.iter_mut().collect(),
+        Call::Discovery(_, address, name) => vec![address, name],
+        Call::Leave | Call::Finish => Vec::new(),
+    }
+}
+
+/// The record with its two-bit fields, each by its byte and its lower bit.
+fn record_with_pairs(call: &mut Call) -> Option<(&mut [u8], &'static [(usize, usize)])> {
+    match call {
+        Call::Host(record, _) => Some((record, &[(1, 3)])),
+        Call::Ssns(record, ..) => Some((&mut record[..], &[(3, 7)])),
+        Call::Security(record, _) => Some((record, &[(2, 1), (2, 3), (2, 5), (2, 7)])),
+        _ => None,
+    }
+}
+
+/// The same call with one thing told in another way: a two-bit field wrong, an object empty, too long for its length
+/// field or as long as that can say, or all bytes of the records noise.
+pub fn spoiled(random: &mut Random, call: &Call) -> Call {
+    let mut call = call.clone();
+    let kind = random.below(6);
+    if kind == 0 {
+        return noisy(random, call);
+    }
+    if kind <= 2 {
+        if let Some((record, pairs)) = record_with_pairs(&mut call) {
+            let (at, place) = *random.pick(pairs);
+            set_two_bits(record, at, place, 3);
+            return call;
+        }
+    }
+    let length = *random.pick(&[0, 0, 0, 1, 65_535, 65_536, 70_000]);
+    let mut objects = objects(&mut call);
+    if !objects.is_empty() {
+        let which = random.below(objects.len());
+        objects[which].resize(length, 1);
+    }
+    call
+}
+
+/// The same objects, but noise for all that is told at a fixed length.
+fn noisy(random: &mut Random, call: Call) -> Call {
+    match call {
+        Call::Begin(_, _, signature) => Call::Begin(random.array(), random.array(), signature),
+        Call::Host(_, name) => Call::Host(random.array(), name),
+        Call::Hfi(_, _, name) => Call::Hfi(random.array(), Box::new(random.array()), name),
+        Call::Ssns(_, _, objects) => Call::Ssns(Box::new(random.array()), random.array(), objects),
+        Call::Security(_, objects) => Call::Security(random.array(), objects),
+        Call::Discovery(_, address, name) => Call::Discovery(random.array(), address, name),
+        Call::Leave | Call::Finish => call,
+    }
+}
+
+/// A call for any turn, from the empty state's to that of a finished one, for which there is none.
+pub fn any_call(random: &mut Random) -> Call {
+    let turn = random.below(usize::from(FINISHED) + 1);
+    call_of_noise(random, turn as u16)
+}
+
+/// A call for this turn, with noise for all that is told; where there is none, a position is left unused. Counts are
+/// small, so that a run of such calls comes to its end.
+pub fn call_of_noise(random: &mut Random, turn: u16) -> Call {
+    match turn {
+        0 => {
+            let counts = std::array::from_fn(|_| random.below(3) as u8);
+            Call::Begin(random.array(), counts, any_object(random))
+        }
+        2 => Call::Host(random.array(), any_object(random)),
+        3 => Call::Hfi(random.array(), Box::new(random.array()), any_object(random)),
+        4 => {
+            let objects = std::array::from_fn(|_| any_object(random));
+            Call::Ssns(Box::new(random.array()), random.array(), objects)
+        }
+        5 => Call::Security(random.array(), std::array::from_fn(|_| any_object(random))),
+        6 => Call::Discovery(random.array(), any_object(random), any_object(random)),
+        READY => Call::Finish,
+        _ => Call::Leave,
+    }
+}
+
+/// Now and then empty; its bytes are small, so that a list of indexes may name records that are there.
+fn any_object(random: &mut Random) -> Vec<u8> {
+    let length = random.below(8).saturating_sub(1);
+    (0..length).map(|_| 1 + random.below(3) as u8).collect()
+}
+
+/// A state that differs from this one, most often in one field alone.
+pub fn forged(random: &mut Random, state: State) -> State {
+    match random.below(10) {
+        0 => State::from_bytes(random.array()),
+        1 => State { turn: random.below(10) as u16, ..state },
+        2 => State { turn: random.word() as u16, ..state },
+        3 => State { position: position_near(random, state.position), ..state },
+        4 | 5 => State { counts: counts_near(random, state.counts), ..state },
+        6 | 7 => State { used: used_near(random, state), ..state },
+        8 => State { turn: *random.pick(&[READY, FINISHED]), position: 0, ..state },
+        _ => in_some_list(random, state),
+    }
+}
+
+fn position_near(random: &mut Random, position: u16) -> u16 {
+    let any = random.below(300) as u16;
+    *random.pick(&[0, 1, any, position.wrapping_sub(1), position.wrapping_add(1), position | 256, u16::MAX])
+}
+
+fn counts_near(random: &mut Random, mut counts: [u8; 4]) -> [u8; 4] {
+    let list = random.below(4);
+    let count = counts[list];
+    counts[list] = *random.pick(&[0, 255, count.wrapping_sub(1), count.wrapping_add(1)]);
+    counts
+}
+
+/// Around the least and the most that can be used, around what is used, and the same with a bit above these set.
+fn used_near(random: &mut Random, state: State) -> usize {
+    let end = records_end(state.counts);
+    let near = *random.pick(&[end, state.used, GREATEST_LENGTH]);
+    match random.below(8) {
+        0 => 0,
+        1 => usize::MAX,
+        2 => near | 1 << (17 + random.below(47)),
+        3 => end + random.below(GREATEST_LENGTH + 1 - end),
+        _ => near.wrapping_sub(2).wrapping_add(random.below(5)),
+    }
+}
+
+/// A position of a list, as if its turn had come.
+fn in_some_list(random: &mut Random, state: State) -> State {
+    let list = random.below(4);
+    let position = 1 + random.below(usize::from(state.counts[list]).max(1));
+    State { turn: 3 + list as u16, position: position as u16, ..state }
+}
+
+/// Some bytes below the bytes used changed, most of them in header, control record and first records.
+pub fn overwrite(random: &mut Random, buffer: &mut [u8], used: usize) {
+    for _ in 0..=random.below(3) {
+        let reach = if random.flag() { 200 } else { used };
+        let place = random.below(reach.clamp(1, buffer.len()));
+        let noise = random.byte();
+        buffer[place] = *random.pick(&[0, 1, 2, 255, noise, buffer[place] ^ 1, buffer[place].wrapping_add(1)]);
+    }
+}
+
+/// The table with one fault of a known number.
+pub fn damage(random: &mut Random, table: &[u8]) -> Vec<u8> {
+    let all = damages(table);
+    let mut damaged = random.pick(&all).apply(table).table;
+    damaged.resize(table.len(), 0);
+    damaged
+}
