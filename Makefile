@@ -25,7 +25,17 @@ LINKING := PATH=/usr/bin:$$PATH CARGO_TARGET_X86_64_UNKNOWN_LINUX_GNU_LINKER=x86
 endif
 BIN     := $(RUN) target/bin
 LINKED  := $(RUN) second/linked/target/$(X86)/release/linked
+
+# Times under an emulator say nothing: on another processor the benchmark links the library's module compiled for that one.
+ifeq ($(RUN),)
+NATIVE  := true
+BENCHED := $(CARGO) build --target $(X86)
 BENCH   := bench/target/$(X86)/release/bench
+else
+NATIVE  := bench/native target/native
+BENCHED := NBFT_LIB=$(CURDIR)/target/native $(CARGO) build
+BENCH   := bench/target/release/bench
+endif
 
 # Whether the library has the builder's functions, which `linked` is then compiled to call: `yes`, or empty while it has not.
 BUILDER :=
@@ -91,9 +101,9 @@ soak: linked
 	$(if $(BUILDER),$(LINKED) build 50000 2030)
 	$(LINKED) guard 200000 2027
 
-bench: linked
-	@[ -z "$(RUN)" ] || { echo "make bench: times under an emulator say nothing; run it on x86-64" >&2; exit 1; }
-	@cd bench && $(LINKING) build --target $(X86) --offline --quiet --release
+bench: $(if $(RUN),library,linked)
+	@$(NATIVE)
+	@cd bench && $(BENCHED) --offline --quiet --release
 	$(BENCH)
 
 vectors: second

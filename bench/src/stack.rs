@@ -11,7 +11,14 @@ const PATTERN: u8 = 0xA5;
 fn stack_pointer() -> *mut u8 {
     let pointer: *mut u8;
     // SAFETY: reads a register.
-    unsafe { asm!("mov {}, rsp", out(reg) pointer, options(nomem, nostack)) };
+    #[cfg(target_arch = "x86_64")]
+    unsafe {
+        asm!("mov {}, rsp", out(reg) pointer, options(nomem, nostack))
+    };
+    #[cfg(target_arch = "aarch64")]
+    unsafe {
+        asm!("mov {}, sp", out(reg) pointer, options(nomem, nostack))
+    };
     pointer
 }
 

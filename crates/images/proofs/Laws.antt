@@ -3,6 +3,7 @@ use mathlib.Core.Path.{_≡_, refl, sym, ap, ap₂, subst, _∙_}
 use mathlib.Core.Bool.{Bool, true, false, not, _&&_}
 use mathlib.Core.List.{List, [], _∷_, _++_}
 use Prim.Native.Nat.{ℕ, zero, suc, _+_, _-_, _*_, _/_, _%_, _^_, _≤_, _<_}
+use native.Mathlib.Nat.{zero-add}
 use native.Mathlib.Numerals.{add-one}
 use native.Mathlib.Omega.{arith}
 use lib.Bits.{bitAnd, and-mask}
@@ -11,13 +12,13 @@ use lib.ListN.{length, getD, take, drop, replicate, set, length-take, length-dro
 use lib.Seq.{take-suc, drop-cons, append-snoc, set-at, length-take-le, take-length, getD-drop, getD-take}
 use mir.Facts.{and-yes}
 use borrow.Author.Tests.{eqb-true, ltb-true, ltb-false}
-use Rattle.table.specs.Bytes.{pick, part, padded}
+use Rattle.table.specs.Bytes.{pick, part, splice, padded}
 use Rattle.table.specs.Layout.{Keep, low, sel, modOf, baseOf, Layout}
 use Rattle.table.specs.FixedLayouts.{layoutOf, header, control, host, hfi, ssns, security, discovery, info, extended, noKind}
 use Rattle.laws.specs.Lawful.{allKeep}
 use Rattle.laws.specs.ImageLaws.{all-at, image-at}
 use Rattle.laws.specs.Fields.{imageIn}
-use Rattle.images.specs.Masks.{maskOf, masksOf, switchOf, switched, onIn, eights, rowsOf, over}
+use Rattle.images.specs.Masks.{maskOf, masksOf, switchOf, switched, onIn, masksFor, over}
 
 -- ---- a law over the kind numbers
 
@@ -115,34 +116,14 @@ length-masks : (more : Bool) (ks : List Keep) → length (masksOf more ks) ≡ l
 length-masks more [] = refl
 length-masks more (k ∷ ks) = ap suc (length-masks more ks)
 
--- an element of rows of eight
-eights-at : (n : ℕ) (xs : List ℕ) (i : ℕ) → i < 8 * n → getD (getD (eights n xs) (i / 8) []) (i % 8) 0 ≡ getD xs i 0
-eights-at zero xs i h = absurd (omega arith)
-eights-at (suc n) xs i h = go (ltb i 8) refl (λ l. eights-at n (drop 8 xs) (i - 8) l) where
-  go : (c : Bool) → ltb i 8 ≡ c → (i - 8 < 8 * n → getD (getD (eights n (drop 8 xs)) ((i - 8) / 8) []) ((i - 8) % 8) 0 ≡ getD (drop 8 xs) (i - 8) 0)
-      → getD (getD (eights (suc n) xs) (i / 8) []) (i % 8) 0 ≡ getD xs i 0
-  go true e r =
-      let l : i < 8 = ltb-true i 8 e in
-      let d : i / 8 ≡ 0 = omega arith in
-      let m : i % 8 ≡ i = omega arith in
-      rw (d, m) (getD-take 8 xs i 0 l)
-  go false e r =
-      let l : 8 ≤ i = ltb-false i 8 e in
-      let d : i / 8 ≡ suc ((i - 8) / 8) = omega arith in
-      let m : i % 8 ≡ (i - 8) % 8 = omega arith in
-      let w : 8 + (i - 8) ≡ i = omega arith in
-      rw (d, m) (r (omega arith) ∙ getD-drop 8 xs (i - 8) 0 ∙ ap (λ (j : ℕ). getD xs j 0) w)
-
 -- byte i of the image of the record of kind k at a
-pub masked-byte : (k : ℕ) (t : List ℕ) (a i : ℕ) → i < baseOf (layoutOf k) → i < 128
-    → bitAnd (getD t (a + i) 0) (getD (getD (rowsOf k (onIn k t a)) (i / 8) []) (i % 8) 0) ≡ getD (imageIn (layoutOf k) t a) i 0
-unfolding imageIn rowsOf
-masked-byte k t a i h b =
+pub masked-byte : (k : ℕ) (t : List ℕ) (a i : ℕ) → i < baseOf (layoutOf k) → bitAnd (getD t (a + i) 0) (getD (masksFor k (onIn k t a)) i 0) ≡ getD (imageIn (layoutOf k) t a) i 0
+unfolding imageIn masksFor
+masked-byte k t a i h =
     let ks = layoutOf k .shape .keep in
     let ms = masksOf (onIn k t a) ks in
     let p = getD ks i (low 1) in
-    ap (bitAnd (getD t (a + i) 0))
-    (eights-at 16 (padded 128 ms) i (omega arith) ∙ List·getD-append ms (replicate (128 - length ms) 0) 0 i (rw (length-masks (onIn k t a) ks) h) ∙ mask-at (onIn k t a) ks i)
+    ap (bitAnd (getD t (a + i) 0)) (List·getD-append ms (replicate (128 - length ms) 0) 0 i (rw (length-masks (onIn k t a) ks) h) ∙ mask-at (onIn k t a) ks i)
     ∙ masked-by k t a (getD t (a + i) 0) p (all-at (maskable k) ks (maskables k) i h)
     ∙ sym (image-at ks (drop a t) i h ∙ ap (λ (x : ℕ). x % modOf p (drop a t)) (getD-drop a t i 0))
 
@@ -162,6 +143,10 @@ drop-zeros (suc n) (suc m) = let e : m - n ≡ suc m - suc n = omega arith in dr
 -- the whole copied over zeros is padded
 pub over-padded : (m : ℕ) (s : List ℕ) → length s ≤ m → over (replicate m 0) s (length s) ≡ padded m s
 over-padded m s h = ap₂ (λ (x y : List ℕ). x ++ y) (take-length s) (drop-zeros (length s) m)
+
+-- stored over zeros, s is padded
+pub splice-padded : (m : ℕ) (s : List ℕ) → splice (replicate m 0) 0 s ≡ padded m s
+splice-padded m s = ap (λ (n : ℕ). s ++ drop n (replicate m 0)) (zero-add (length s)) ∙ ap (λ (y : List ℕ). s ++ y) (drop-zeros (length s) m)
 
 -- ---- a part
 

@@ -1,7 +1,7 @@
 -- The bits of each byte that count, as masks: what code reads the layouts from. Definitions only.
 use mathlib.Core.Bool.{Bool, true, false, not}
 use mathlib.Core.List.{List, [], _∷_, _++_}
-use Prim.Native.Nat.{ℕ, zero, suc, _+_, _-_, _/_, _%_}
+use Prim.Native.Nat.{ℕ, _+_, _-_, _/_, _%_}
 use lib.ListN.{getD, take, drop}
 use lib.Dec.{eqb}
 use Rattle.table.specs.Bytes.{pick, padded}
@@ -27,14 +27,9 @@ switched k = pick (eqb k 4) true (eqb k 7)
 unfoldable pub onIn : ℕ → List ℕ → ℕ → Bool
 onIn k t a = pick (switched k) (not (eqb (getD t (a + switchOf k) 0 % 8 / 4) 0)) false
 
--- n rows of eight
-abbrev pub eights : ℕ → List ℕ → List (List ℕ)
-eights zero xs = []
-eights (suc n) xs = take 8 xs ∷ eights n (drop 8 xs)
-
--- the masks of kind k
-unfoldable pub rowsOf : ℕ → Bool → List (List ℕ)
-rowsOf k more = eights 16 (padded 128 (masksOf more (layoutOf k .shape .keep)))
+-- the masks of kind k, filled up to the size of the longest record
+unfoldable pub masksFor : ℕ → Bool → List ℕ
+masksFor k more = padded 128 (masksOf more (layoutOf k .shape .keep))
 
 -- d, with its first i elements those of s
 abbrev pub over : List ℕ → List ℕ → ℕ → List ℕ

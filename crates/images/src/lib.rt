@@ -4,3 +4,4 @@ pub mod masks; // which bits count, by kind
 
 pub use images::field_at;
 pub use images::image_at;
+pub use images::put_image;

@@ -23,9 +23,8 @@ use Rattle.reads.specs.Seats.{Seated, Entered, Held, heapRecord}
 use Rattle.reads.specs.Told.{innerKind}
 use Rattle.reads.proofs.SeatLaws.{record-held}
 use Rattle.reads.proofs.ObjectLaws.{seat-room}
-use Rattle.parts.specs.declared.references.Part.{Part}
-use Rattle.parts.specs.Parts.{refsOf, OneObject, slotsIn, recordPart, partAt, recordBytes, bytesAt, spansOver, objectsOver}
-use Rattle.parts.proofs.PartLaws.{plain-part, nest-part, plain-bytes, nest-bytes, one-object, own-size, sized-all, heaped-all, entry-used, entry-unused}
+use Rattle.parts.specs.Parts.{Part, refsOf, OneObject, slotsIn, recordPart, partAt, recordBytes, bytesAt, spansOver, objectsOver}
+use Rattle.parts.proofs.PartLaws.{plain-part, nest-part, plain-bytes, nest-bytes, single, one-object, own-size, sized-all, heaped-all, entry-used, entry-unused}
 
 refs-ok : (k : ℕ) → T (okRefs 0 (layoutOf k .shape .keep) (layoutOf k .refs))
 unfolding header control host hfi ssns security discovery info extended noKind
@@ -52,14 +51,9 @@ module _ (t : List ℕ) (ok : Accepted t) (k a : ℕ) (s : Seated t (layoutOf k)
 
   -- ---- a heap record's one object
 
-  only : (h : ℕ) (ps : List ℕ) → length ps ≡ 1 → objectsOver t k a h ps ≡ bytesAt t k a h (getD ps 0 0)
-  unfolding objectsOver
-  only h [] e = absurd (omega arith)
-  only h (p ∷ []) e = append-nil (bytesAt t k a h p)
-  only h (p ∷ q ∷ ps) e = absurd (omega arith)
-
   pub one-heaped : (h : ℕ) → OneObject k → heapOf h (slotsIn (layoutOf k) t a) ≡ bytesAt t k a h (getD (refsOf k) 0 0)
-  one-heaped h o = heaped-all t ok k a s h ∙ only h (refsOf k) (o .one)
+  unfolding objectsOver
+  one-heaped h o = heaped-all t ok k a s h ∙ ap (objectsOver t k a h) (single (refsOf k) (o .one)) ∙ append-nil (bytesAt t k a h (getD (refsOf k) 0 0))
 
   pub one-size : OneObject k → sizeOf (slotsIn (layoutOf k) t a) ≡ partAt t k a (getD (refsOf k) 0 0) .span
   one-size o = own-size t ok k a s o ∙ sym (ap (λ (q : Part). q .span) (plain-part t ok k a s (getD (refsOf k) 0 0) (o .object)))
@@ -102,34 +96,6 @@ module _ (t : List ℕ) (ok : Accepted t) (k a : ℕ) (s : Seated t (layoutOf k)
 
   pub slots-long : (h : ℕ) → length (heapOf h (slotsIn (layoutOf k) t a)) ≡ sizeOf (slotsIn (layoutOf k) t a)
   slots-long h = ap length (heaped-all t ok k a s h) ∙ objects-long h (refsOf k) ∙ sym (sized-all t ok k a s)
-
-  -- ---- the heap record of a reference, by its numbers
-
-  -- there is none
-  pub none-held : (h p : ℕ) → hasPlain p (layoutOf k .refs) ≡ false → partAt t k a p .span ≡ 0 → bytesAt t k a h p ≡ []
-  none-held h p e z = empty (bytesAt t k a h p) (nest-long h p e ∙ z) where
-    empty : (xs : List ℕ) → length xs ≡ 0 → xs ≡ []
-    empty [] f = refl
-    empty (x ∷ xs) f = absurd (omega arith)
-
-  -- there is one, where the part says
-  pub one-held : (p : ℕ) → hasPlain p (layoutOf k .refs) ≡ false → (partAt t k a p .span ≡ 0 → ⊥)
-      → Seated t (layoutOf (innerKind k)) (partAt t k a p .at) true
-      × (recordPart t (innerKind k) (At (partAt t k a p .at) true) .span ≡ partAt t k a p .span)
-      × ((h : ℕ) → bytesAt t k a h p ≡ recordBytes t (innerKind k) h (At (partAt t k a p .at) true))
-  unfolding recordPart recordBytes
-  one-held p e z = go (heapRecord t k a) refl where
-    go : (w : Seat) → heapRecord t k a ≡ w → Seated t (layoutOf (innerKind k)) (partAt t k a p .at) true
-        × (recordPart t (innerKind k) (At (partAt t k a p .at) true) .span ≡ partAt t k a p .span)
-        × ((h : ℕ) → bytesAt t k a h p ≡ recordBytes t (innerKind k) h (At (partAt t k a p .at) true))
-    go Nowhere f = absurd (z (ap (λ (q : Part). q .span) (nest-part t ok k a s p e ∙ ap (recordPart t (innerKind k)) f)))
-    go (At b on) f =
-        let q = nest-part t ok k a s p e ∙ ap (recordPart t (innerKind k)) f in
-        let at = ap (λ (x : Part). x .at) q in (
-          subst (λ (i : ℕ). Seated t (layoutOf (innerKind k)) i true) (sym at) (subst (Held t (innerKind k)) f held),
-          ap (λ (i : ℕ). recordPart t (innerKind k) (At i true) .span) at ∙ sym (ap (λ (x : Part). x .span) q),
-          λ h. nest-bytes t ok k a s h p e ∙ ap (recordBytes t (innerKind k) h) f ∙ sym (ap (λ (i : ℕ). recordBytes t (innerKind k) h (At i true)) at),
-        )
 
 -- ---- a record of a list
 

@@ -1,23 +1,24 @@
 -- What the references of a record name, one after the other, is what its slots say: bytes taken, stores, bytes in the heap. Assumes nothing.
 use mathlib.Core.Path.{_≡_, refl, sym, ap, ap₂, subst, _∙_}
-use mathlib.Core.Bool.{Bool, true, false}
+use mathlib.Core.Bool.{Bool, true, false, true≢false}
 use mathlib.Core.List.{List, [], _∷_, _++_}
 use Prim.Native.Nat.{ℕ, suc, _+_, _-_, _*_, _/_, _%_, _≤_, _<_}
-use native.Mathlib.Nat.{add-zero, zero-add, not-suc-le-zero}
+use native.Mathlib.Nat.{add-zero, zero-add}
 use native.Mathlib.Numerals.{add-one}
 use native.Mathlib.Omega.{arith}
-use lib.ListN.{length, getD, set, take, drop}
-use lib.Seq.{getD-take, getD-set-same, getD-set-other, drop-cons, drop-length}
+use lib.ListN.{length, getD, take, drop}
+use lib.Seq.{getD-take, drop-cons, drop-length}
 use lib.Dec.{eqb, lit<}
-use borrow.Author.Tests.{eqb-true, eqb-false}
+use borrow.Author.Tests.{eqb-true}
 use Rattle.table.specs.declared.Need.{Need}
-use Rattle.table.specs.declared.Need.the-variants.{Ignored, Required}
+use Rattle.table.specs.declared.Need.the-variants.{Ignored, Optional, Required}
 use Rattle.table.specs.Bytes.{pick, part, num, Edit, edit}
 use Rattle.table.specs.Layout.{Shape, Layout, Refs, none, plain, nest, Slots, bytes, gone, rec, image, isValid, unused, used, baseOf, offsets}
 use Rattle.table.specs.FixedLayouts.{layoutOf, header, control, host, hfi, ssns, security, discovery, info, extended, noKind, whenSet}
 use Rattle.table.specs.Objects.{under, readSlots, readEntry, readList, sizeOf, sizeEntry, sizeList, sizeBody, spanBody, readBody, stores, heapOf, ref6}
 use Rattle.table.specs.Meaning.{meaning, heapLen}
-use Rattle.table.specs.Reads.{seat, hasPlain, needAt, placeAt}
+use Rattle.table.specs.Rules.{done}
+use Rattle.table.specs.Reads.{seat, hasPlain, needAt, noPlace, refPlace, placeAt}
 use Rattle.laws.specs.Fields.{Bytes, imageIn}
 use Rattle.laws.specs.Sound.{length-readList}
 use Rattle.images.proofs.Laws.{by-kind, part-long, other-layout}
@@ -30,8 +31,7 @@ use Rattle.reads.specs.Seats.{Seated, heapAt, extendedAt, heapRecord}
 use Rattle.reads.specs.Told.{innerKind}
 use Rattle.reads.proofs.ObjectLaws.{seat-room}
 use Rattle.reads.proofs.MeaningLaws.{place-is}
-use Rattle.parts.specs.declared.references.Part.{Part}
-use Rattle.parts.specs.Parts.{refsOf, OneObject, Named, slotsIn, listIn, objectPart, recordPart, partAt, recordBytes, bytesAt, spansOver, storesOver, objectsOver}
+use Rattle.parts.specs.Parts.{Part, refsOf, OneObject, slotsIn, listIn, objectPart, recordPart, partAt, recordBytes, bytesAt, spansOver, storesOver, objectsOver}
 
 -- ---- a heap record, or none
 
@@ -214,6 +214,12 @@ module _ (t : List ℕ) (ok : Accepted t) (a : ℕ) where
 
 -- ---- all references of a record
 
+-- a table of one offset
+pub single : (ps : List ℕ) → length ps ≡ 1 → ps ≡ getD ps 0 0 ∷ []
+single [] e = absurd (omega arith)
+single (p ∷ []) e = refl
+single (p ∷ q ∷ ps) e = absurd (omega arith)
+
 module _ (t : List ℕ) (ok : Accepted t) (k a : ℕ) (s : Seated t (layoutOf k) a true) where
   pub sized-all : sizeOf (slotsIn (layoutOf k) t a) ≡ spansOver t k a (refsOf k)
   unfolding slotsIn
@@ -227,15 +233,12 @@ module _ (t : List ℕ) (ok : Accepted t) (k a : ℕ) (s : Seated t (layoutOf k)
   unfolding slotsIn
   heaped-all h = slots-heaped t ok k a s (layoutOf k .refs) (all-fit t ok a k s) h
 
-  only : (ps : List ℕ) → length ps ≡ 1 → spansOver t k a ps ≡ partAt t k a (getD ps 0 0) .span
-  unfolding spansOver
-  only [] e = absurd (omega arith)
-  only (p ∷ []) e = add-zero (partAt t k a p .span)
-  only (p ∷ q ∷ ps) e = absurd (omega arith)
-
   -- the one object of a heap record
   pub own-size : OneObject k → sizeOf (slotsIn (layoutOf k) t a) ≡ placeAt t (getD (refsOf k) 0 0) (seat (layoutOf k) a true) .len
-  own-size o = sized-all ∙ only (refsOf k) (o .one) ∙ ap (λ (q : Part). q .span) (plain-part t ok k a s (getD (refsOf k) 0 0) (o .object))
+  unfolding spansOver
+  own-size o =
+      let p : ℕ = getD (refsOf k) 0 0 in
+      sized-all ∙ ap (spansOver t k a) (single (refsOf k) (o .one)) ∙ add-zero (partAt t k a p .span) ∙ ap (λ (q : Part). q .span) (plain-part t ok k a s p (o .object))
 
 -- transport info and extended info are such
 pub one-object : (k : ℕ) → OneObject (innerKind k)
@@ -249,33 +252,88 @@ one-object k = go (eqb k 3) where
 pub offset-is : (ps full : List ℕ) (n i : ℕ) → take n ps ≡ full → n ≡ length full → i < n → getD ps i 0 ≡ getD full i 0
 offset-is ps full n i e m h = sym (getD-take n ps i 0 h) ∙ ap (λ (l : List ℕ). getD l i 0) e
 
+-- ---- the length of an object, and where it stands, by the bytes of its reference
+
+module _ (t : List ℕ) (l : Layout) (a p : ℕ) (h : hasPlain p (l .refs) ≡ true) where
+  abbrev need : Need
+  need = needAt p (l .refs) (image (l .shape .keep) (drop a t))
+
+  pub place-len : placeAt t p (seat l a true) .len ≡ under need 0 (num t (a + p + 4) 2)
+  place-len = rw h (go need) where
+    there : (c : Bool) → eqb (num t (a + p + 4) 2) 0 ≡ c
+        → pick c (noPlace done) (record { answer = done; present = true; at = num t (a + p) 4; len = num t (a + p + 4) 2 }) .len ≡ num t (a + p + 4) 2
+    there true e = sym (eqb-true (num t (a + p + 4) 2) 0 e)
+    there false e = refl
+
+    go : (m : Need) → under m (noPlace done) (refPlace t (a + p)) .len ≡ under m 0 (num t (a + p + 4) 2)
+    go Ignored = refl
+    go Optional = there (eqb (num t (a + p + 4) 2) 0) refl
+    go Required = there (eqb (num t (a + p + 4) 2) 0) refl
+
+  pub place-start : (placeAt t p (seat l a true) .len ≡ 0 → ⊥) → placeAt t p (seat l a true) .at ≡ num t (a + p) 4
+  place-start = rw h (go need) where
+    there : (c : Bool) → let q = pick c (noPlace done) (record { answer = done; present = true; at = num t (a + p) 4; len = num t (a + p + 4) 2 }) in (q .len ≡ 0 → ⊥) → q .at ≡ num t (a + p) 4
+    there true z = absurd (z refl)
+    there false z = refl
+
+    go : (m : Need) → (under m (noPlace done) (refPlace t (a + p)) .len ≡ 0 → ⊥) → under m (noPlace done) (refPlace t (a + p)) .at ≡ num t (a + p) 4
+    go Ignored z = absurd (z refl)
+    go Optional z = there (eqb (num t (a + p + 4) 2) 0) z
+    go Required z = there (eqb (num t (a + p + 4) 2) 0) z
+
+-- references to objects that are never ignored
+abbrev Heeded : Refs → Type 0
+Heeded none = 0 ≤ 0
+Heeded (plain p need rule rest) = ((img : List ℕ) (x y : ℕ) → under (need img) x y ≡ y) × Heeded rest
+Heeded (nest p need shape own rest) = (hasPlain p rest ≡ false) × Heeded rest
+
+heeded-counts : (rs : Refs) → Heeded rs → (q : ℕ) (img : List ℕ) (x y : ℕ) → hasPlain q rs ≡ true → under (needAt q rs img) x y ≡ y
+heeded-counts none g q img x y h = absurd (true≢false (sym h))
+heeded-counts (plain p need rule rest) g q img x y h = go (eqb q p) h (heeded-counts rest (g .1) q img x y) where
+  go : (c : Bool) → pick c true (hasPlain q rest) ≡ true → (hasPlain q rest ≡ true → under (needAt q rest img) x y ≡ y) → under (pick c (need img) (needAt q rest img)) x y ≡ y
+  go true e f = g .0 img x y
+  go false e f = f e
+heeded-counts (nest p need shape own rest) g q img x y h = go (eqb q p) refl (heeded-counts rest (g .1) q img x y h) where
+  go : (c : Bool) → eqb q p ≡ c → under (needAt q rest img) x y ≡ y → under (pick c (need img) (needAt q rest img)) x y ≡ y
+  go true e f = absurd (true≢false (sym h ∙ ap (λ (i : ℕ). hasPlain i rest) (eqb-true q p e) ∙ g .0))
+  go false e f = f
+
+kinds-heeded : (k : ℕ) → eqb k 5 ≡ false → Heeded (layoutOf k .refs)
+unfolding layoutOf header control host hfi ssns discovery info extended
+kinds-heeded =
+    by-kind (λ k. eqb k 5 ≡ false → Heeded (layoutOf k .refs))
+    (λ n. ((λ img x y. refl), omega arith))
+    (λ n. omega arith)
+    (λ n. ((λ img x y. refl), omega arith))
+    (λ n. (refl, omega arith))
+    (λ n. ((λ img x y. refl), ((λ img x y. refl), ((λ img x y. refl), ((λ img x y. refl), (refl, omega arith))))))
+    (λ n. absurd (true≢false n))
+    (λ n. ((λ img x y. refl), ((λ img x y. refl), omega arith)))
+    (λ n. ((λ img x y. refl), omega arith))
+    (λ n. ((λ img x y. refl), omega arith))
+    (λ k o n. subst (λ (l : Layout). Heeded (l .refs)) (sym (other-layout k o)) (unfold noKind in omega arith))
+
+pub never-ignored : (k q : ℕ) (img : List ℕ) (x y : ℕ) → eqb k 5 ≡ false → hasPlain q (layoutOf k .refs) ≡ true → under (needAt q (layoutOf k .refs) img) x y ≡ y
+never-ignored k q img x y n h = heeded-counts (layoutOf k .refs) (kinds-heeded k n) q img x y h
+
+-- those of a security record: c says whether the one at p counts
+pub security-len : (t : List ℕ) (k a p : ℕ) → k ≡ 5 → hasPlain p (layoutOf k .refs) ≡ true → (c : Bool) → c ≡ under (needAt p (security .refs) (imageIn security t a)) false true
+    → placeAt t p (seat (layoutOf k) a true) .len ≡ pick c (num t (a + p + 4) 2) 0
+unfolding layoutOf imageIn
+security-len t k a p e h c f =
+    ap (λ (j : ℕ). placeAt t p (seat (layoutOf j) a true) .len) e
+    ∙ place-len t security a p (ap (λ (j : ℕ). hasPlain p (layoutOf j .refs)) (sym e) ∙ h)
+    ∙ go (needAt p (security .refs) (image (security .shape .keep) (drop a t))) (num t (a + p + 4) 2)
+    ∙ ap (λ (b : Bool). pick b (num t (a + p + 4) 2) 0) (sym f)
+  where
+    go : (m : Need) (x : ℕ) → under m 0 x ≡ pick (under m false true) x 0
+    go Ignored x = refl
+    go Optional x = refl
+    go Required x = refl
+
 -- ---- one reference after the other
 
 module _ (t : List ℕ) (k a : ℕ) where
-  pub named-none : (from len span : List ℕ) → Named t k a from len span 0
-  named-none from len span = record {
-    froms = λ i h. absurd (not-suc-le-zero h);
-    lens = λ i h. absurd (not-suc-le-zero h);
-    spans = λ i h. absurd (not-suc-le-zero h);
-    short = λ i h. absurd (not-suc-le-zero h);
-  }
-
-  -- one more value
-  stored-more : (P : ℕ → ℕ → Type 0) (xs : List ℕ) (n v : ℕ) → n < length xs → ((i : ℕ) → i < n → P i (getD xs i 0)) → P n v → (i : ℕ) → i < n + 1 → P i (getD (set xs n v) i 0)
-  stored-more P xs n v h f p i l = go (eqb i n) refl where
-    go : (c : Bool) → eqb i n ≡ c → P i (getD (set xs n v) i 0)
-    go true e = subst (λ (j : ℕ). P j (getD (set xs n v) j 0)) (sym (eqb-true i n e)) (subst (P n) (sym (getD-set-same xs n v 0 h)) p)
-    go false e = subst (P i) (sym (getD-set-other xs n i v 0 (eqb-false i n e))) (f i (omega (arith, l, eqb-false i n e)))
-
-  pub named-more : (from len span : List ℕ) (n : ℕ) (q : Part) → n < length from → n < length len → n < length span → q ≡ partAt t k a (getD (refsOf k) n 0) → q .span ≤ 131072
-      → Named t k a from len span n → Named t k a (set from n (q .at)) (set len n (q .len)) (set span n (q .span)) (n + 1)
-  named-more from len span n q u v w e h s = record {
-    froms = stored-more (λ i x. x ≡ partAt t k a (getD (refsOf k) i 0) .at) from n (q .at) u (s .froms) (ap (λ (p : Part). p .at) e);
-    lens = stored-more (λ i x. x ≡ partAt t k a (getD (refsOf k) i 0) .len) len n (q .len) v (s .lens) (ap (λ (p : Part). p .len) e);
-    spans = stored-more (λ i x. x ≡ partAt t k a (getD (refsOf k) i 0) .span) span n (q .span) w (s .spans) (ap (λ (p : Part). p .span) e);
-    short = stored-more (λ i x. x ≤ 131072) span n (q .span) w (s .short) h;
-  }
-
   pub spans-more : (ps : List ℕ) (i : ℕ) → i < length ps → spansOver t k a (drop i ps) ≡ partAt t k a (getD ps i 0) .span + spansOver t k a (drop (i + 1) ps)
   unfolding spansOver
   spans-more ps i h = ap (spansOver t k a) (drop-cons ps i 0 h) ∙ ap (λ (j : ℕ). partAt t k a (getD ps i 0) .span + spansOver t k a (drop j ps)) (sym (add-one i))

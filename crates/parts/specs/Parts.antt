@@ -2,7 +2,7 @@
 use mathlib.Core.Path.{_≡_}
 use mathlib.Core.Bool.{true}
 use mathlib.Core.List.{List, [], _∷_, _++_}
-use Prim.Native.Nat.{ℕ, _+_, _≤_, _<_}
+use Prim.Native.Nat.{ℕ, _+_}
 use lib.ListN.{length, getD}
 use Rattle.table.specs.declared.Place.{Place}
 use Rattle.table.specs.Bytes.{pick, part, num, Edit, edit}
@@ -16,8 +16,12 @@ use Rattle.reads.specs.declared.seats.Seat.{Seat}
 use Rattle.reads.specs.declared.seats.Seat.the-variants.{Nowhere, At}
 use Rattle.reads.specs.Seats.{heapRecord}
 use Rattle.reads.specs.Told.{innerKind}
-use Rattle.parts.specs.declared.references.Part.{Part}
-use Rattle.parts.specs.declared.references.Parts.{Parts}
+
+-- what one reference names: its first byte, its length, and the bytes that it takes with all that it names itself
+pub record Part : Type 0 where
+  pub at : ℕ
+  pub len : ℕ
+  pub span : ℕ
 
 -- where the references of kind k stand
 abbrev pub refsOf : ℕ → List ℕ
@@ -75,17 +79,3 @@ storesOver t k a h (p ∷ ps) = edit p (refNum h (partAt t k a p .len)) ∷ stor
 unfoldable pub objectsOver : List ℕ → ℕ → ℕ → ℕ → List ℕ → List ℕ
 objectsOver t k a h [] = []
 objectsOver t k a h (p ∷ ps) = bytesAt t k a h p ++ objectsOver t k a (h + partAt t k a p .span) ps
-
--- ---- all references of the record of kind k at a
-
--- the first n references name what these numbers say
-pub record Named (t : List ℕ) (k a : ℕ) (from len span : List ℕ) (n : ℕ) : Type 0 where
-  pub froms : (i : ℕ) → i < n → getD from i 0 ≡ partAt t k a (getD (refsOf k) i 0) .at
-  pub lens : (i : ℕ) → i < n → getD len i 0 ≡ partAt t k a (getD (refsOf k) i 0) .len
-  pub spans : (i : ℕ) → i < n → getD span i 0 ≡ partAt t k a (getD (refsOf k) i 0) .span
-  pub short : (i : ℕ) → i < n → getD span i 0 ≤ 131072
-
-pub record Gathered (t : List ℕ) (k a : ℕ) (z : Parts) : Type 0 where
-  pub each : Named t k a (z .from) (z .len) (z .span) (length (refsOf k))
-  pub whole : z .total ≡ sizeOf (slotsIn (layoutOf k) t a)
-  pub few : z .total ≤ 786432

@@ -1,72 +1,66 @@
-// The references of a record of an accepted table: where what they name stands, and how many bytes it takes.
+// The references of a record of an accepted table: the length of what they name, and how many bytes it takes to lay that anew.
 use reads::seats::Seat;
+use table::Need;
+use table::Security;
 ghost use mathlib.Core.Path.{_≡_};
-ghost use mathlib.Core.Bool.{true};
+ghost use mathlib.Core.Bool.{true, false};
 ghost use Prim.Native.Nat.{_+_, _≤_};
 ghost use lib.ListN.{length};
 ghost use Rattle.table.specs.Layout.{baseOf};
-ghost use Rattle.table.specs.FixedLayouts.{layoutOf};
-ghost use Rattle.table.specs.Reads.{seat, placeAt, hasPlain};
+ghost use Rattle.table.specs.FixedLayouts.{layoutOf, security};
+ghost use Rattle.table.specs.Objects.{under, sizeOf};
+ghost use Rattle.table.specs.Reads.{seat, placeAt, hasPlain, needAt};
+ghost use Rattle.laws.specs.Fields.{imageIn};
 ghost use Rattle.reader.specs.Accepted.{Accepted};
 ghost use Rattle.reads.specs.declared.seats.Seat.the-variants.{At};
 ghost use Rattle.reads.specs.Seats.{Seated, Held};
 ghost use Rattle.reads.specs.Told.{innerKind};
-ghost use Rattle.parts.specs.Parts.{OneObject, objectPart, recordPart, partAt, Gathered};
+ghost use Rattle.parts.specs.Parts.{OneObject, slotsIn, recordPart, partAt};
 
-// What one reference names: its first byte, its length, and the bytes that it takes with all that it names itself.
-pub struct Part {
-    pub at: usize,
-    pub len: usize,
-    pub span: usize,
-}
-
-// The same of all references of a record, and the bytes of all together.
-pub struct Parts {
-    pub from: [usize; 6],
-    pub len: [usize; 6],
-    pub span: [u32; 6],
-    pub total: usize,
-}
-
-// An object takes its length.
-fn object_part(t: &[u8], kind: u8, a: usize, p: usize) -> Part
-    requires { ⌜ (a + baseOf (layoutOf kind) ≤ length (now t)) × (hasPlain p (layoutOf kind .refs) ≡ true) ⌝ }
-    ensures { λ r. ⌜ (r ≡ objectPart (placeAt (now (t .entry)) p (seat (layoutOf kind) a true))) × (r .span ≤ 65535) ⌝ }
+// Whether the reference at `p` of the security record at `a` counts.
+fn counts(t: &[u8], a: usize, p: usize) -> bool
+    requires { ⌜ a + 64 ≤ length (now t) ⌝ }
+    ensures { λ r. ⌜ r ≡ under (needAt p (security .refs) (imageIn security (now (t .entry)) a)) false true ⌝ }
 {
-    let q = reads::objects::object_of(t, kind, a, true, p);
-    Part {
-        at: q.at,
-        len: q.len,
-        span: q.len,
+    let need = needs::security_need(t, a, p);
+    match need {
+        Need::Ignored => false,
+        Need::Optional => true,
+        Need::Required => true,
     }
+}
+
+// The length of the object that the reference at `p` names. Only a security record ignores references to objects.
+pub fn object_len(t: &[u8], kind: u8, a: usize, p: usize) -> usize
+    requires { ⌜ (a + baseOf (layoutOf kind) ≤ length (now t)) × (hasPlain p (layoutOf kind .refs) ≡ true) ⌝ }
+    ensures { λ r. ⌜ (r ≡ placeAt (now (t .entry)) p (seat (layoutOf kind) a true) .len) × (r ≤ 65535) ⌝ }
+{
+    if kind != Security::ID {
+        return wire::u16_at(t, a + p + 4);
+    }
+    if counts(t, a, p) {
+        return wire::u16_at(t, a + p + 4);
+    }
+    0
 }
 
 // A heap record has one reference, to an object, which is laid behind it.
-fn held_part(t: &[u8], kind: u8, a: usize) -> Part
+fn held_span(t: &[u8], kind: u8, a: usize) -> usize
     requires { ⌜ Accepted (now t) × Seated (now t) (layoutOf kind) a true × OneObject kind ⌝ }
-    ensures { λ r. ⌜ (r ≡ recordPart (now (t .entry)) kind (At a true)) × (r .span ≤ 131072) ⌝ }
+    ensures { λ r. ⌜ (r ≡ recordPart (now (t .entry)) kind (At a true) .span) × (r ≤ 131072) ⌝ }
 {
     let refs = table::reference_offsets(kind);
-    let own = object_part(t, kind, a, refs.at[0]);
-    let len = table::base_size(kind);
-    Part {
-        at: a,
-        len: len,
-        span: len + own.span,
-    }
+    let len = object_len(t, kind, a, refs.at[0]);
+    table::base_size(kind) + len
 }
 
-fn record_part(t: &[u8], kind: u8, s: Seat) -> Part
+fn record_span(t: &[u8], kind: u8, s: Seat) -> usize
     requires { ⌜ Accepted (now t) × Held (now t) kind s × OneObject kind ⌝ }
-    ensures { λ r. ⌜ (r ≡ recordPart (now (t .entry)) kind s) × (r .span ≤ 131072) ⌝ }
+    ensures { λ r. ⌜ (r ≡ recordPart (now (t .entry)) kind s .span) × (r ≤ 131072) ⌝ }
 {
     match s {
-        Seat::Nowhere => Part {
-            at: 0,
-            len: 0,
-            span: 0,
-        },
-        Seat::At { at, used } => held_part(t, kind, at),
+        Seat::Nowhere => 0,
+        Seat::At { at, used } => held_span(t, kind, at),
     }
 }
 
@@ -80,41 +74,29 @@ pub fn inner_kind(kind: u8) -> u8
     9
 }
 
-// What the reference at `p` names.
-fn part_at(t: &[u8], kind: u8, a: usize, p: usize) -> Part
+// The bytes that what the reference at `p` names takes, with all that it names itself.
+fn span_at(t: &[u8], kind: u8, a: usize, p: usize) -> usize
     requires { ⌜ Accepted (now t) × Seated (now t) (layoutOf kind) a true ⌝ }
-    ensures { λ r. ⌜ (r ≡ partAt (now (t .entry)) kind a p) × (r .span ≤ 131072) ⌝ }
+    ensures { λ r. ⌜ (r ≡ partAt (now (t .entry)) kind a p .span) × (r ≤ 131072) ⌝ }
 {
     if layouts::has_object(kind, p) {
-        return object_part(t, kind, a, p);
+        return object_len(t, kind, a, p);
     }
-    record_part(t, inner_kind(kind), reads::seats::heap_record(t, kind, a))
+    record_span(t, inner_kind(kind), reads::seats::heap_record(t, kind, a))
 }
 
-// What all references of the record at `a` name, in the order of the table of offsets.
-pub fn gather(t: &[u8], kind: u8, a: usize) -> Parts
+// The bytes of all that the record at `a` names.
+pub fn named_size(t: &[u8], kind: u8, a: usize) -> usize
     requires { ⌜ Accepted (now t) × Seated (now t) (layoutOf kind) a true ⌝ }
-    ensures { λ r. ⌜ Gathered (now (t .entry)) kind a r ⌝ }
+    ensures { λ r. ⌜ (r ≡ sizeOf (slotsIn (layoutOf kind) (now (t .entry)) a)) × (r ≤ 786432) ⌝ }
 {
     let refs = table::reference_offsets(kind);
     let n = refs.count;
-    let mut from = [0usize; 6];
-    let mut len = [0usize; 6];
-    let mut span = [0u32; 6];
     let mut total: usize = 0;
     let mut i: usize = 0;
     while i < n {
-        let q = part_at(t, kind, a, refs.at[i]);
-        from[i] = q.at;
-        len[i] = q.len;
-        span[i] = q.span as u32;
-        total += q.span;
+        total += span_at(t, kind, a, refs.at[i]);
         i += 1;
     }
-    Parts {
-        from: from,
-        len: len,
-        span: span,
-        total: total,
-    }
+    total
 }

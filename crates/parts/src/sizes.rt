@@ -1,5 +1,5 @@
 // How many bytes the records of an accepted table take when they are laid anew.
-use crate::references::gather;
+use crate::references::named_size;
 use table::Discovery;
 use table::Hfi;
 use table::Security;
@@ -30,8 +30,7 @@ pub fn entry_size(t: &[u8], kind: u8, a: usize) -> usize
     ensures { λ r. ⌜ (r ≡ sizeEntry (readEntry (layoutOf kind) (now (t .entry)) a)) × (r ≤ 786432) ⌝ }
 {
     if is_used(t, kind, a) {
-        let z = gather(t, kind, a);
-        return z.total;
+        return named_size(t, kind, a);
     }
     0
 }
@@ -70,11 +69,11 @@ pub fn heap_size(t: &[u8]) -> usize
     requires { ⌜ Accepted (now t) ⌝ }
     ensures { λ r. ⌜ (r ≡ heapLen (meaning (now (t .entry)))) × (r ≤ 1000000000) ⌝ }
 {
-    let driver = gather(t, 0, 0);
+    let driver = named_size(t, 0, 0);
     let owner = entry_size(t, 2, wire::u32_at(t, 72));
     let hfi = list_size(t, 3, 80);
     let ssns = list_size(t, 4, 88);
     let security = list_size(t, 5, 96);
     let discovery = list_size(t, 6, 104);
-    driver.total + owner + hfi + ssns + security + discovery
+    driver + owner + hfi + ssns + security + discovery
 }

@@ -1,139 +1,37 @@
--- The lists together, and all together: what was laid is the form. Assumes nothing.
+-- Front, host and lists together: what was laid is the form. Assumes nothing.
 use mathlib.Core.Path.{_≡_, refl, sym, ap, ap₂, _∙_}
+use mathlib.Core.Bool.{true}
 use mathlib.Core.List.{List, [], _∷_, _++_, append-assoc, append-nil}
-use Prim.Native.Nat.{ℕ, _+_, _-_, _*_, _≤_}
+use Prim.Native.Nat.{ℕ, _+_, _-_, _≤_, _<_}
 use native.Mathlib.Omega.{arith}
-use lib.ListN.{length, getD, length-append}
+use lib.ListN.{length, getD, take, length-append}
+use lib.Seq.{take-at, drop-at}
 use native.Mathlib.Nat.{add-zero}
 use Rattle.table.specs.Bytes.{splice, part, num}
 use Rattle.table.specs.Layout.{Slots, slotAt, Entry}
 use Rattle.table.specs.FixedLayouts.{layoutOf, header, host, hfi, ssns, security, discovery}
-use Rattle.table.specs.Objects.{readSlots, readEntry, readBody, sizeOf, sizeEntry, sizeList, sizeBody, spanBody, heapOf, recEntry, heapEntry, recsList, heapList, recsBody, heapBody}
+use Rattle.table.specs.Objects.{readSlots, readEntry, readBody, sizeOf, sizeEntry, sizeBody, spanBody, stores, heapOf, recEntry, heapEntry, recsBody, heapBody}
+use Rattle.table.specs.Reads.{seat, hasPlain, placeAt}
 use Rattle.table.specs.Meaning.{Meaning, meaning, heapAt, heapLen, formLength, headFront, headBack, controlBytes, behind, laidOut}
+use Rattle.laws.specs.ByteLaws.{length-splice}
 use Rattle.laws.specs.Fields.{Bytes}
 use Rattle.laws.specs.Sound.{length-readList}
 use Rattle.laws.specs.Blank.{lengthsOf}
+use Rattle.writer.specs.Stores.{refNum}
 use Rattle.writer.specs.Front.{headerFor, controlFor}
-use Rattle.writer.proofs.FrontLaws.{header-is, header-joined, header-long, control-is, control-joined, control-long}
-use Rattle.writer.proofs.StoreLaws.{splice-join, splice-none}
+use Rattle.writer.proofs.FrontLaws.{length-ref, header-is, header-joined, header-long, control-is, control-joined, control-long}
+use Rattle.writer.proofs.StoreLaws.{splice-join, splice-none, splice-swap, splice-over}
 use Rattle.reader.specs.Accepted.{Accepted}
 use Rattle.reader.proofs.AcceptedLaws.{laid as sound}
 use Rattle.images.proofs.Laws.{part-long}
-use Rattle.reads.proofs.SeatLaws.{header-seated, host-entered, hfis, ssnss, securities, discoveries}
-use Rattle.parts.specs.Parts.{slotsIn, listIn}
-use Rattle.parts.proofs.PartLaws.{span-parts}
-use Rattle.parts.proofs.LengthLaws.{slots-long, record-bytes, heap-bytes}
-use Rattle.rewriter.specs.Laid.{laid}
-use Rattle.rewriter.proofs.LaidLaws.{Piece, piece, recsOf, heapsOf, run-laid, link, list-recs, list-heaps}
-
--- ---- the four lists
-
-module _ (t : List ℕ) (b : Bytes t) (ok : Accepted t) (u : ℕ) where
-  abbrev es3 : List (Entry (layoutOf 3))
-  es3 = listIn (layoutOf 3) t 80
-
-  abbrev es4 : List (Entry (layoutOf 4))
-  es4 = listIn (layoutOf 4) t 88
-
-  abbrev es5 : List (Entry (layoutOf 5))
-  es5 = listIn (layoutOf 5) t 96
-
-  abbrev es6 : List (Entry (layoutOf 6))
-  es6 = listIn (layoutOf 6) t 104
-
-  abbrev u4 : ℕ
-  u4 = u + sizeList es3
-
-  abbrev u5 : ℕ
-  u5 = u4 + sizeList es4
-
-  abbrev u6 : ℕ
-  u6 = u5 + sizeList es5
-
-  abbrev lists : List Piece
-  lists =
-      piece (recsList u es3) (heapList u es3)
-      ∷ piece (recsList u4 es4) (heapList u4 es4)
-      ∷ piece (recsList u5 es5) (heapList u5 es5)
-      ∷ piece (recsList u6 es6) (heapList u6 es6)
-      ∷ []
-
-  long3 : length (recsList u es3) ≡ getD t 87 0 * 32
-  unfolding layoutOf hfi
-  long3 = list-recs t ok 3 80 (hfis t ok) u
-
-  long4 : length (recsList u4 es4) ≡ getD t 95 0 * 128
-  unfolding layoutOf ssns
-  long4 = list-recs t ok 4 88 (ssnss t ok) u4
-
-  long5 : length (recsList u5 es5) ≡ getD t 103 0 * 64
-  unfolding layoutOf security
-  long5 = list-recs t ok 5 96 (securities t ok) u5
-
-  long6 : length (recsList u6 es6) ≡ getD t 111 0 * 32
-  unfolding layoutOf discovery
-  long6 = list-recs t ok 6 104 (discoveries t ok) u6
-
-  pub size-body : sizeBody (meaning t .lists) ≡ sizeList es3 + (sizeList es4 + (sizeList es5 + (sizeList es6 + 0)))
-  unfolding sizeBody meaning readBody listIn layoutOf
-  size-body = refl
-
-  recs-body : recsOf lists ≡ recsBody u (meaning t .lists)
-  unfolding recsBody meaning readBody listIn layoutOf
-  recs-body = refl
-
-  heap-body : heapsOf lists ≡ heapBody u (meaning t .lists)
-  unfolding heapBody meaning readBody listIn layoutOf
-  heap-body = refl
-
-  recs-length : length (recsOf lists) ≡ spanBody (meaning t .lists)
-  recs-length = simp length-append (omega (arith, long3, long4, long5, long6, span-parts t b))
-
-  heaps-length : length (heapsOf lists) ≡ sizeBody (meaning t .lists)
-  heaps-length =
-      simp length-append
-      (omega (arith, list-heaps t ok 3 80 (hfis t ok) u, list-heaps t ok 4 88 (ssnss t ok) u4, list-heaps t ok 5 96 (securities t ok) u5, list-heaps t ok 6 104 (discoveries t ok) u6, size-body))
-
-  pub body-recs-long : length (recsBody u (meaning t .lists)) ≡ spanBody (meaning t .lists)
-  body-recs-long = ap length (sym recs-body) ∙ recs-length
-
-  pub body-heap-long : length (heapBody u (meaning t .lists)) ≡ sizeBody (meaning t .lists)
-  body-heap-long = ap length (sym heap-body) ∙ heaps-length
-
-  -- one list behind the other
-  pub lists-laid : (x y3 y4 y5 y6 : List ℕ) (d4 d5 d6 h4 h5 h6 : ℕ) → 160 + spanBody (meaning t .lists) ≤ u → u + sizeBody (meaning t .lists) ≤ length x
-      → d4 ≡ 160 + getD t 87 0 * 32 → d5 ≡ d4 + getD t 95 0 * 128 → d6 ≡ d5 + getD t 103 0 * 64
-      → y3 ≡ laid x 160 (recsList u es3) u (heapList u es3) → h4 ≡ u4
-      → y4 ≡ laid y3 d4 (recsList h4 es4) h4 (heapList h4 es4) → h5 ≡ h4 + sizeList es4
-      → y5 ≡ laid y4 d5 (recsList h5 es5) h5 (heapList h5 es5) → h6 ≡ h5 + sizeList es5
-      → y6 ≡ laid y5 d6 (recsList h6 es6) h6 (heapList h6 es6)
-      → y6 ≡ laid x 160 (recsBody u (meaning t .lists)) u (heapBody u (meaning t .lists))
-  lists-laid x y3 y4 y5 y6 d4 d5 d6 h4 h5 h6 below room e4 e5 e6 s3 q4 s4 q5 s5 q6 s6 =
-      let g3 = list-heaps t ok 3 80 (hfis t ok) u in
-      let g4 = list-heaps t ok 4 88 (ssnss t ok) u4 in
-      let g5 = list-heaps t ok 5 96 (securities t ok) u5 in
-      run-laid lists x 160 u y6 (omega (arith, recs-length)) (omega (arith, heaps-length)) (
-        y3,
-        s3,
-        (
-          y4,
-          link y4 y3 d4 (160 + length (recsList u es3)) h4 u4 (u + length (heapList u es3)) (λ h. recsList h es4) (λ h. heapList h es4) (omega (arith, e4, long3)) q4 (omega (arith, q4, g3)) s4,
-          (
-            y5,
-            link y5 y4 d5 (160 + length (recsList u es3) + length (recsList u4 es4)) h5 u5 (u + length (heapList u es3) + length (heapList u4 es4)) (λ h. recsList h es5) (λ h. heapList h es5)
-                (omega (arith, e4, e5, long3, long4)) (omega (arith, q4, q5)) (omega (arith, q4, q5, g3, g4)) s5,
-            (
-              y6,
-              link y6 y5 d6 (160 + length (recsList u es3) + length (recsList u4 es4) + length (recsList u5 es5)) h6 u6 (u + length (heapList u es3) + length (heapList u4 es4) + length (heapList u5 es5))
-                  (λ h. recsList h es6) (λ h. heapList h es6) (omega (arith, e4, e5, e6, long3, long4, long5)) (omega (arith, q4, q5, q6)) (omega (arith, q4, q5, q6, g3, g4, g5)) s6,
-              refl,
-            ),
-          ),
-        ),
-      )
-      ∙ ap₂ (λ (r g : List ℕ). laid x 160 r u g) recs-body heap-body
-
--- ---- all together
+use Rattle.reads.proofs.SeatLaws.{header-seated, host-entered}
+use Rattle.parts.specs.Parts.{refsOf, OneObject, slotsIn, partAt, bytesAt, storesOver}
+use Rattle.parts.proofs.PartLaws.{stored-all}
+use Rattle.parts.proofs.LengthLaws.{one-size, one-heaped, slots-long, record-bytes, heap-bytes}
+use Rattle.relaid.specs.Laid.{laid, applyAt}
+use Rattle.relaid.proofs.LaidLaws.{object-size, object-laid}
+use Rattle.relaid_lists.proofs.RunLaws.{Piece, piece, recsOf, heapsOf, run-laid, link}
+use Rattle.relaid_lists.proofs.ListLaws.{body-recs-long, body-heap-long}
 
 -- the pieces in order, with no empty ones
 in-order : (f b c r s d g p : List ℕ) → (((f ++ b) ++ c) ++ (r ++ (s ++ []))) ++ (d ++ (g ++ (p ++ []))) ≡ f ++ (b ++ (c ++ (r ++ (s ++ (d ++ (g ++ p))))))
@@ -213,8 +111,11 @@ module _ (t : List ℕ) (b : Bytes t) (ok : Accepted t) where
         ap₂ (λ (x y : List ℕ). ((x ++ y) ++ (recEntry h₁ (own (num t 72 4)) ++ (recsBody h₂ (m .lists) ++ []))) ++ (heapOf h₀ drv ++ (heapEntry h₁ (own (num t 72 4)) ++ (heapBody h₂ (m .lists) ++ [])))) head-is ctrl-is
         ∙ in-order (headFront n) (0 ∷ headBack m k) (controlBytes m) (recEntry h₁ (own (num t 72 4))) (recsBody h₂ (m .lists)) (heapOf h₀ drv) (heapEntry h₁ (own (num t 72 4))) (heapBody h₂ (m .lists))
 
+    pub head-any : (h d : ℕ) → length (headerFor n (part t 10 26) h k d) ≡ 64
+    head-any h d = ap length (sym (header-joined n (part t 10 26) h k d)) ∙ header-long n (part t 10 26) h k d (part-long t 10 26 (omega (arith, sound t ok .lent)))
+
     head-long : length head ≡ 64
-    head-long = ap length (sym (header-joined n (part t 10 26) (heapAt m) k (sizeOf drv))) ∙ header-long n (part t 10 26) (heapAt m) k (sizeOf drv) (part-long t 10 26 (omega (arith, sound t ok .lent)))
+    head-long = head-any (heapAt m) (sizeOf drv)
 
     ctrl-long : length ctrl ≡ 64
     ctrl-long = ap length (sym (control-joined (getD t 87 0) (getD t 95 0) (getD t 103 0) (getD t 111 0))) ∙ control-long (getD t 87 0) (getD t 95 0) (getD t 103 0) (getD t 111 0)
@@ -237,6 +138,28 @@ module _ (t : List ℕ) (b : Bytes t) (ok : Accepted t) where
     heaps-all =
         simp length-append
         (omega (arith, slots-long t ok 0 0 (header-seated t ok) h₀, heap-bytes t ok 2 (num t 72 4) (host-entered t ok) h₁, body-heap-long t b ok h₂, heap-length))
+
+    -- the front, laid over the reference to the driver signature, which stands in the heap by then
+    pub front-late : (x y1 y2 : List ℕ) (h d : ℕ) → 128 ≤ h → h + sizeOf drv ≤ length x
+        → y1 ≡ splice (applyAt x 0 (stores h drv)) h (heapOf h drv)
+        → y2 ≡ splice (splice y1 0 (headerFor n (part t 10 26) h k d)) 64 ctrl
+        → y2 ≡ splice (splice (splice x 0 (headerFor n (part t 10 26) h k d)) 64 ctrl) h (heapOf h drv)
+    unfolding applyAt storesOver layoutOf header
+    front-late x y1 y2 h d low room s1 s2 =
+        let hd : List ℕ = headerFor n (part t 10 26) h k d in
+        let g : List ℕ = heapOf h drv in
+        let r : List ℕ = refNum h (partAt t 0 0 44 .len) in
+        let x₁ : List ℕ = splice x 44 r in
+        let e : applyAt x 0 (stores h drv) ≡ x₁ = ap (applyAt x 0) (stored-all t ok 0 0 (header-seated t ok) h) in
+        let lr : length r ≡ 6 = length-ref h (partAt t 0 0 44 .len) in
+        let lh : length hd ≡ 64 = head-any h d in
+        let lg : length g ≡ sizeOf drv = slots-long t ok 0 0 (header-seated t ok) h in
+        let lx : length x₁ ≡ length x = length-splice x 44 r (omega (arith, lr)) in
+        let lv : length (splice x₁ 0 hd) ≡ length x₁ = length-splice x₁ 0 hd (omega (arith, lh, lx)) in
+        s2 ∙ ap (λ (y : List ℕ). splice (splice y 0 hd) 64 ctrl) (s1 ∙ ap (λ (y : List ℕ). splice y h g) e)
+        ∙ ap (λ (y : List ℕ). splice y 64 ctrl) (splice-swap x₁ 0 hd h g (omega (arith, lh)) (omega (arith, lg, lx)))
+        ∙ splice-swap (splice x₁ 0 hd) 64 ctrl h g (omega (arith, ctrl-long)) (omega (arith, lg, lx, lv))
+        ∙ ap (λ (y : List ℕ). splice (splice y 64 ctrl) h g) (splice-over x 44 r hd (omega (arith, lr, lh)) (omega (arith, lr)))
 
     -- front, driver signature, host, lists
     pub form-laid : (x y1 y2 y3 y4 : List ℕ) (h d a u : ℕ) → n ≤ length x → h ≡ n - k → d ≡ sizeOf drv → a ≡ num t 72 4
@@ -271,3 +194,26 @@ module _ (t : List ℕ) (b : Bytes t) (ok : Accepted t) where
         run-laid all x 0 h₀ y4 (omega (arith, recs-all)) (omega (arith, heaps-all)) (y1, front, (y2, driver, (y3, owner, (y4, lists, refl))))
         ∙ ap (λ (i : ℕ). splice (splice x 0 (recsOf all)) i (heapsOf all)) r0
         ∙ splice-join x 0 (recsOf all) (heapsOf all) (omega (arith, recs-all)) ∙ ap (splice x 0) all-is
+
+    -- the driver signature stands first in the heap, byte for byte
+    pub signature-here : (d : ℕ) → d ≡ placeAt t 44 (seat (layoutOf 0) 0 true) .len
+        → (n - k + d ≤ n) × (0 < d → part (laidOut m n 0 k) (n - k) d ≡ part t (num t 44 4) d)
+    signature-here d e =
+        let o : OneObject 0 = unfold layoutOf header in record { one = refl; object = refl } in
+        let g : hasPlain 44 (layoutOf 0 .refs) ≡ true = unfold layoutOf header in refl in
+        let q : getD (refsOf 0) 0 0 ≡ 44 = unfold layoutOf header in refl in
+        let sd = header-seated t ok in
+        let st = starts in
+        let hl = heap-length in
+        let fl = form-length in
+        let e0 : n - k ≡ h₀ = omega arith in
+        let sz : sizeOf drv ≡ d = one-size t ok 0 0 sd o ∙ ap (λ (p : ℕ). partAt t 0 0 p .span) q ∙ sym (object-size t ok 0 0 sd 44 g d e) in
+        let rest : List ℕ = heapEntry h₁ (own (num t 72 4)) ++ (heapBody h₂ (m .lists) ++ []) in (
+          omega (arith, e0, sz),
+          λ some. ap₂ (λ (x : List ℕ) (i : ℕ). part x i d) (sym all-is) e0
+              ∙ ap (take d) (drop-at (recsOf all) (heapsOf all) h₀ recs-all)
+              ∙ take-at (heapOf h₀ drv) rest d (slots-long t ok 0 0 sd h₀ ∙ sz)
+              ∙ one-heaped t ok 0 0 sd h₀ o
+              ∙ ap (bytesAt t 0 0 h₀) q
+              ∙ sym (object-laid t ok 0 0 sd 44 g d e (num t 44 4) refl (λ z. omega (arith, z, some)) h₀),
+        )

@@ -1,4 +1,3 @@
-pub mod LaidLaws
 pub mod FormLaws
 pub mod AnswerLaws
 pub mod DemandThree

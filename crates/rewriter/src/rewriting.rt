@@ -1,22 +1,20 @@
 // The rewriter: the reader's answer, then 17, then 14; only where all pass is a byte written.
-use crate::objects::lay_objects;
-use crate::records::lay_entry;
-use crate::records::lay_lists;
-use parts::references::gather;
+use relaid::records::lay_entry;
+use relaid::records::lay_named;
+use relaid_lists::lay_lists;
+use room::room_fault;
+use sealing::seal;
 use table::Answer;
 use table::Rewritten;
 use writer::front::Counts;
 use writer::front::write_control;
 use writer::front::write_header;
-use writer::stores::put_u8;
 ghost use mathlib.Core.Path.{_≡_};
 ghost use mathlib.Core.List.{_∷_, []};
 ghost use Prim.Native.Nat.{_+_, _≤_};
-ghost use lib.ListN.{length, getD, take};
-ghost use lib.Dec.{leb};
-ghost use Rattle.table.specs.Bytes.{part, splice, checksum};
-ghost use Rattle.table.specs.Rules.{test, firstFail};
-ghost use Rattle.table.specs.Meaning.{limit, meaning, heapLen, formLength, laidOut};
+ghost use lib.ListN.{length, getD};
+ghost use Rattle.table.specs.Bytes.{part, splice};
+ghost use Rattle.table.specs.Meaning.{meaning, heapLen, formLength, laidOut};
 ghost use Rattle.table.specs.Rewriting as definition;
 ghost use Rattle.reader.specs.Accepted.{Accepted};
 ghost use Rattle.writer.specs.Front.{headerFor, controlFor};
@@ -36,41 +34,17 @@ fn lay_front(out: &mut [u8], t: &[u8], n: usize, h: usize, k: usize, d: usize)
     write_control(&mut out[64..128], counts);
 }
 
-// The one form but for its checksum, which is 0.
+// The one form but for its checksum, which is 0. The header is written once it is known how long the driver signature is, over the reference to it.
 fn lay_form(out: &mut [u8], t: &[u8], n: usize, k: usize)
     requires { ⌜ Accepted (now t) × (n ≡ formLength (meaning (now t))) × (k ≡ heapLen (meaning (now t))) ⌝ }
     requires { ⌜ (n ≤ length (now out)) × (n ≤ 65536) ⌝ }
     ensures { λ r. ⌜ now (out .exit) ≡ splice (now (out .entry)) 0 (laidOut (meaning (now (t .entry))) n 0 k) ⌝ }
 {
     let h = n - k;
-    let driver = gather(t, 0, 0);
-    let d = driver.total;
-    lay_front(out, t, n, h, k, d);
-    lay_objects(out, h, t, 0, 0, driver);
-    let u = lay_entry(out, 128, h + d, t, 2, wire::u32_at(t, 72));
+    let b = lay_named(out, 0, h, t, 0, 0);
+    lay_front(out, t, n, h, k, b - h);
+    let u = lay_entry(out, 128, b, t, 2, wire::u32_at(t, 72));
     lay_lists(out, u, t);
-}
-
-// The checksum of the first `n` bytes, stored among them.
-fn seal(out: &mut [u8], n: usize)
-    requires { ⌜ (160 ≤ n) × (n ≤ length (now out)) ⌝ }
-    ensures { λ r. ⌜ now (out .exit) ≡ splice (now (out .entry)) 9 (checksum (take n (now (out .entry))) ∷ []) ⌝ }
-{
-    let sum = wire::sum8(&out[0..n]);
-    put_u8(out, 9, writer::stores::low(256 - wire::wide(sum)));
-}
-
-// `n` bytes are to be written, of which there are `room`.
-fn room_fault(n: usize, room: usize) -> Answer
-    ensures { λ r. ⌜ r ≡ firstFail (test (leb n limit) 17 0 0 ∷ test (leb n room) 14 0 0 ∷ []) ⌝ }
-{
-    if n > 65536 {
-        return table::refuse(17, 0, 0);
-    }
-    if n > room {
-        return table::refuse(14, 0, 0);
-    }
-    table::done()
 }
 
 fn refused(a: Answer) -> Rewritten
@@ -94,6 +68,7 @@ pub fn rewrite(t: &[u8], out: &mut [u8]) -> Rewritten
         return refused(f);
     }
     lay_form(out, t, n, k);
-    seal(out, n);
+    let d = parts::references::object_len(t, 0, 0, 44);
+    seal(out, n, t, n - k, d);
     Rewritten { answer: f, len: n }
 }

@@ -77,7 +77,7 @@ chain-laid (p ∷ ps) t a z h (t₁, b, e, q, r) =
 -- ---- two splices apart from each other, in either order
 
 module _ (t : List ℕ) (a : ℕ) (bs : List ℕ) (ok : a + length bs ≤ length t) where
-  getD-inside : (j : ℕ) → a ≤ j → j < a + length bs → getD (splice t a bs) j 0 ≡ getD bs (j - a) 0
+  pub getD-inside : (j : ℕ) → a ≤ j → j < a + length bs → getD (splice t a bs) j 0 ≡ getD bs (j - a) 0
   getD-inside j lo hi =
       let e : j ≡ a + (j - a) = omega arith in
       ap (λ (i : ℕ). getD (splice t a bs) i 0) e ∙ holds-getD (splice t a bs) a bs (splice-here t a bs ok) (j - a) (omega arith)
@@ -131,3 +131,58 @@ module _ (t : List ℕ) (a : ℕ) (xs : List ℕ) (b : ℕ) (ys : List ℕ) (apa
   pub splice-swap : late ≡ soon
   splice-swap =
       ext-getD 0 late soon (length-splice (splice t b ys) a xs okLate ∙ length-b ∙ sym (length-splice (splice t a xs) b ys okSoon ∙ length-a)) λ j h. at-byte j
+
+-- ---- a splice inside another, and one over another
+
+module _ (t : List ℕ) (d : ℕ) (y : List ℕ) (p : ℕ) (r : List ℕ) (inner : p + length r ≤ length y) (outer : d + length y ≤ length t) where
+  abbrev stepwise : List ℕ
+  stepwise = splice (splice t d y) (d + p) r
+
+  abbrev at-once : List ℕ
+  at-once = splice t d (splice y p r)
+
+  long-y : length (splice y p r) ≡ length y
+  long-y = length-splice y p r inner
+
+  long-t : length (splice t d y) ≡ length t
+  long-t = length-splice t d y outer
+
+  ok₁ : d + p + length r ≤ length (splice t d y)
+  ok₁ = omega (arith, long-t)
+
+  ok₂ : d + length (splice y p r) ≤ length t
+  ok₂ = omega (arith, long-y)
+
+  byte-inside : (j : ℕ) → getD stepwise j 0 ≡ getD at-once j 0
+  byte-inside j = by (ltb j d) (ltb j (d + p)) (ltb j (d + p + length r)) (ltb j (d + length y)) refl refl refl refl where
+    by : (b c e f : Bool) → ltb j d ≡ b → ltb j (d + p) ≡ c → ltb j (d + p + length r) ≡ e → ltb j (d + length y) ≡ f → getD stepwise j 0 ≡ getD at-once j 0
+    by true c e f k₁ k₂ k₃ k₄ =
+        let h : j < d = ltb-true j d k₁ in
+        getD-splice-below (splice t d y) (d + p) r ok₁ j (omega arith) ∙ getD-splice-below t d y outer j h ∙ sym (getD-splice-below t d (splice y p r) ok₂ j h)
+    by false true e f k₁ k₂ k₃ k₄ =
+        let l : d ≤ j = ltb-false j d k₁ in
+        let h : j < d + p = ltb-true j (d + p) k₂ in
+        getD-splice-below (splice t d y) (d + p) r ok₁ j h ∙ getD-inside t d y outer j l (omega arith)
+        ∙ sym (getD-inside t d (splice y p r) ok₂ j l (omega (arith, long-y)) ∙ getD-splice-below y p r inner (j - d) (omega arith))
+    by false false true f k₁ k₂ k₃ k₄ =
+        let l : d + p ≤ j = ltb-false j (d + p) k₂ in
+        let h : j < d + p + length r = ltb-true j (d + p + length r) k₃ in
+        let e : j - (d + p) ≡ j - d - p = omega arith in
+        getD-inside (splice t d y) (d + p) r ok₁ j l h ∙ ap (λ (i : ℕ). getD r i 0) e
+        ∙ sym (getD-inside t d (splice y p r) ok₂ j (omega arith) (omega (arith, long-y)) ∙ getD-inside y p r inner (j - d) (omega arith) (omega arith))
+    by false false false true k₁ k₂ k₃ k₄ =
+        let l : d + p + length r ≤ j = ltb-false j (d + p + length r) k₃ in
+        let h : j < d + length y = ltb-true j (d + length y) k₄ in
+        getD-splice-above (splice t d y) (d + p) r ok₁ j l ∙ getD-inside t d y outer j (omega arith) h
+        ∙ sym (getD-inside t d (splice y p r) ok₂ j (omega arith) (omega (arith, long-y)) ∙ getD-splice-above y p r inner (j - d) (omega arith))
+    by false false false false k₁ k₂ k₃ k₄ =
+        let l : d + length y ≤ j = ltb-false j (d + length y) k₄ in
+        getD-splice-above (splice t d y) (d + p) r ok₁ j (omega arith) ∙ getD-splice-above t d y outer j l
+        ∙ sym (getD-splice-above t d (splice y p r) ok₂ j (omega (arith, long-y)))
+
+  pub splice-inside : stepwise ≡ at-once
+  splice-inside = ext-getD 0 stepwise at-once (length-splice (splice t d y) (d + p) r ok₁ ∙ long-t ∙ sym (length-splice t d (splice y p r) ok₂)) λ j h. byte-inside j
+
+-- what is stored over goes
+pub splice-over : (t : List ℕ) (a : ℕ) (ys zs : List ℕ) → a + length ys ≤ length zs → a + length ys ≤ length t → splice (splice t a ys) 0 zs ≡ splice t 0 zs
+splice-over t a ys zs h k = ap (λ (x : List ℕ). zs ++ x) (drop-splice t a ys k (0 + length zs) (omega arith))

@@ -1,15 +1,15 @@
-use Rattle.images.proofs.Laws.{masked-byte, over-more, over-padded, part-long, part-byte}
-use Rattle.images.specs.Masks.{rowsOf, over}
-use Rattle.laws.specs.ListWalk.{base-small}
-use Rattle.laws.specs.Fields.{imageIn, length-imageIn}
-use Rattle.table.specs.FixedLayouts.{layoutOf}
-use Rattle.table.specs.Bytes.{part}
-use lib.ListN.{length, getD, replicate}
-use lib.Bits.{bitAnd}
-use native.Mathlib.Omega.{arith}
-use Prim.Native.Nat.{ℕ, _+_, _-_, _/_, _%_, _≤_, _<_}
-use mathlib.Core.List.{List, []}
 use mathlib.Core.Path.{_≡_, refl, sym, ap, _∙_}
+use mathlib.Core.List.{List, []}
+use Prim.Native.Nat.{ℕ, _+_, _-_, _/_, _%_, _≤_, _<_}
+use native.Mathlib.Omega.{arith}
+use lib.Bits.{bitAnd}
+use lib.ListN.{length, getD, replicate}
+use Rattle.table.specs.Bytes.{part}
+use Rattle.table.specs.FixedLayouts.{layoutOf}
+use Rattle.laws.specs.Fields.{imageIn, length-imageIn}
+use Rattle.laws.specs.ListWalk.{base-small}
+use Rattle.images.specs.Masks.{masksFor, over}
+use Rattle.images.proofs.Laws.{masked-byte, over-more, over-padded, part-long, part-byte}
 use Rattle.table.proofs.Rules.{picks}
 use Rattle.images.proofs.images.field_at.Statement.{statement}
 use Rattle.images.proofs.images.field_at.Tie as tie
@@ -42,14 +42,8 @@ add-out c = search picks
 shared-slice-read-out : tie.Need-shared-slice-read-out Inv-loop μ-loop
 shared-slice-read-out c = search picks
 
-mul-out : tie.Need-mul-out Inv-loop μ-loop
-mul-out c = search picks
-
-index-1-out : tie.Need-index-1-out Inv-loop μ-loop
-index-1-out c = omega (arith, c .before .before .before .before .before .before .pre .1, c .before .loop-test .taken, base-small (c .before .before .before .before .before .before .args .kind))
-
-index-2-out : tie.Need-index-2-out Inv-loop μ-loop
-index-2-out c = omega arith
+array-read-out : tie.Need-array-read-out Inv-loop μ-loop
+array-read-out c = omega (arith, c .before .before .before .before .before .before .pre .1, c .before .loop-test .taken, base-small (c .before .before .before .before .before .before .args .kind))
 
 array-write-out : tie.Need-array-write-out Inv-loop μ-loop
 array-write-out c = search picks
@@ -61,14 +55,14 @@ loop-less : tie.Need-loop-less Inv-loop μ-loop
 loop-less c = search picks
 
 loop-again : tie.Need-loop-again Inv-loop μ-loop
-loop-again c = let a = c .before .before .before .before .before .before .before .args in
+loop-again c = let a = c .before .before .before .before .before .before .args in
     let s = imageIn (layoutOf (a .kind)) (a .t .now) (a .a) in
     let n = length-imageIn (layoutOf (a .kind)) (a .t .now) (a .a) in
-    let l = part-long s (a .off) (a .width) (omega (arith, n, c .before .before .before .before .before .before .before .pre .1)) in
-    let h : c .before .before .before .loop .i < a .width = c .before .before .loop-test .taken in
-    let v : bitAnd (getD (a .t .now) (a .a + (a .off + c .before .before .before .loop .i)) 0) (getD (getD (c .before .before .before .before .masks-of .result) ((a .off + c .before .before .before .loop .i) / 8) []) ((a .off + c .before .before .before .loop .i) % 8) 0) ≡ getD s (a .off + c .before .before .before .loop .i) 0 = ap (λ (m : List (List ℕ)). bitAnd (getD (a .t .now) (a .a + (a .off + c .before .before .before .loop .i)) 0) (getD (getD m ((a .off + c .before .before .before .loop .i) / 8) []) ((a .off + c .before .before .before .loop .i) % 8) 0)) (c .before .before .before .before .masks-of .ensures ∙ ap (rowsOf (a .kind)) (c .before .before .before .before .before .counts-more .ensures)) ∙ masked-byte (a .kind) (a .t .now) (a .a) (a .off + c .before .before .before .loop .i) (omega (arith, h, c .before .before .before .before .before .before .before .pre .1)) (omega (arith, h, c .before .before .before .before .before .before .before .pre .1, base-small (a .kind))) in
-    let w = v ∙ sym (part-byte s (a .off) (a .width) (c .before .before .before .loop .i) h) in
-    (search picks, rw (c .before .before .before .loop .inv .1, w) (over-more (replicate 16 0) (part s (a .off) (a .width)) (c .before .before .before .loop .i) (omega (arith, l, h)) (omega (arith, h, c .before .before .before .before .before .before .before .pre .2))))
+    let l = part-long s (a .off) (a .width) (omega (arith, n, c .before .before .before .before .before .before .pre .1)) in
+    let h : c .before .before .loop .i < a .width = c .before .loop-test .taken in
+    let v : bitAnd (getD (a .t .now) (a .a + (a .off + c .before .before .loop .i)) 0) (getD (c .before .before .before .masks-of .result) (a .off + c .before .before .loop .i) 0) ≡ getD s (a .off + c .before .before .loop .i) 0 = ap (λ (m : List ℕ). bitAnd (getD (a .t .now) (a .a + (a .off + c .before .before .loop .i)) 0) (getD m (a .off + c .before .before .loop .i) 0)) (c .before .before .before .masks-of .ensures ∙ ap (masksFor (a .kind)) (c .before .before .before .before .counts-more .ensures)) ∙ masked-byte (a .kind) (a .t .now) (a .a) (a .off + c .before .before .loop .i) (omega (arith, h, c .before .before .before .before .before .before .pre .1)) in
+    let w = v ∙ sym (part-byte s (a .off) (a .width) (c .before .before .loop .i) h) in
+    (search picks, rw (c .before .before .loop .inv .1, w) (over-more (replicate 16 0) (part s (a .off) (a .width)) (c .before .before .loop .i) (omega (arith, l, h)) (omega (arith, h, c .before .before .before .before .before .before .pre .2))))
 
 returns : tie.Need-returns Inv-loop μ-loop
 returns c = let a = c .before .before .before .before .before .args in
@@ -90,9 +84,7 @@ field-at-spec =
     add-j
     add-out
     shared-slice-read-out
-    mul-out
-    index-1-out
-    index-2-out
+    array-read-out
     array-write-out
     add-i
     loop-less

@@ -1,4 +1,4 @@
-use Rattle.images.specs.Masks.{rowsOf}
+use Rattle.images.specs.Masks.{masksFor}
 use Rattle.table.specs.FixedLayouts.{layoutOf, header, control, host, hfi, ssns, security, discovery, info, extended, noKind}
 use mathlib.Core.Path.{refl}
 use Rattle.table.proofs.Rules.{picks}
@@ -8,51 +8,51 @@ use Rattle.images.proofs.masks.masks_of.Reads as reads
 use Rattle.images.proofs.masks.masks_of.Lts as lts
 
 returns : tie.Need-returns
-unfolding rowsOf layoutOf header
+unfolding masksFor layoutOf header
 returns c = rw (c .match .keys1) refl
 
 returns-2 : tie.Need-returns-2
-unfolding rowsOf layoutOf control
+unfolding masksFor layoutOf control
 returns-2 c = rw (c .match .keys2) refl
 
 returns-3 : tie.Need-returns-3
-unfolding rowsOf layoutOf host
+unfolding masksFor layoutOf host
 returns-3 c = rw (c .match .keys3) refl
 
 returns-4 : tie.Need-returns-4
-unfolding rowsOf layoutOf hfi
+unfolding masksFor layoutOf hfi
 returns-4 c = rw (c .match .keys4) refl
 
 returns-5 : tie.Need-returns-5
-unfolding rowsOf layoutOf ssns
+unfolding masksFor layoutOf ssns
 returns-5 c = rw (c .before .match .keys5, c .if1 .taken) refl
 
 returns-6 : tie.Need-returns-6
-unfolding rowsOf layoutOf ssns
+unfolding masksFor layoutOf ssns
 returns-6 c = rw (c .before .match .keys5, c .if1 .left) refl
 
 returns-7 : tie.Need-returns-7
-unfolding rowsOf layoutOf security
+unfolding masksFor layoutOf security
 returns-7 c = rw (c .match .keys6) refl
 
 returns-8 : tie.Need-returns-8
-unfolding rowsOf layoutOf discovery
+unfolding masksFor layoutOf discovery
 returns-8 c = rw (c .match .keys7) refl
 
 returns-9 : tie.Need-returns-9
-unfolding rowsOf layoutOf info
+unfolding masksFor layoutOf info
 returns-9 c = rw (c .before .match .keys8, c .if2 .taken) refl
 
 returns-10 : tie.Need-returns-10
-unfolding rowsOf layoutOf info
+unfolding masksFor layoutOf info
 returns-10 c = rw (c .before .match .keys8, c .if2 .left) refl
 
 returns-11 : tie.Need-returns-11
-unfolding rowsOf layoutOf extended
+unfolding masksFor layoutOf extended
 returns-11 c = rw (c .match .keys9) refl
 
 returns-12 : tie.Need-returns-12
-unfolding rowsOf layoutOf noKind
+unfolding masksFor layoutOf noKind
 returns-12 c = search picks
 
 pub masks-of-spec : {M : Type 1} → statement M

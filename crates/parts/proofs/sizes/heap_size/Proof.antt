@@ -11,13 +11,13 @@ use Rattle.parts.proofs.sizes.heap_size.Statement.{statement}
 use Rattle.parts.proofs.sizes.heap_size.Tie as tie
 use Rattle.parts.proofs.sizes.heap_size.Reads as reads
 use Rattle.parts.proofs.sizes.heap_size.Lts as lts
-use Rattle.parts.proofs.references.gather.Reads as gather-reads
+use Rattle.parts.proofs.references.named_size.Reads as named-size-reads
 use Rattle.parts.proofs.sizes.entry_size.Reads as entry-size-reads
 use Rattle.parts.proofs.sizes.list_size.Reads as list-size-reads
 use Rattle.wire.proofs.u32_at.Reads as u32-at-reads
 
-gather-requires : tie.Need-gather-requires
-gather-requires c κs = (c .before .pre, header-seated (c .before .args .t .now) (c .before .pre))
+named-size-requires : tie.Need-named-size-requires
+named-size-requires c κs = (c .before .pre, header-seated (c .before .args .t .now) (c .before .pre))
 
 u32-at-requires : tie.Need-u32-at-requires
 u32-at-requires c κs = omega (arith, laid (c .before .before .args .t .now) (c .before .before .pre) .lent)
@@ -53,13 +53,13 @@ add-result-5 : tie.Need-add-result-5
 add-result-5 c = search needs
 
 returns : tie.Need-returns
-returns c = let t = c .before .before .before .before .before .before .before .before .before .args .t .now in let o = c .before .before .before .before .before .entry-size .ensures in let e = ap (λ (x : ℕ). sizeEntry (readEntry (layoutOf 2) t x)) (c .before .before .before .before .before .before .u32-at .ensures .0) in (omega (arith, heap-parts t, c .before .before .before .before .before .before .before .gather .ensures .whole, o .0, e, c .before .before .before .before .list-size .ensures .0, c .before .before .before .list-size2 .ensures .0, c .before .before .list-size3 .ensures .0, c .before .list-size4 .ensures .0), omega (arith, c .before .before .before .before .before .before .before .gather .ensures .few, o .1, c .before .before .before .before .list-size .ensures .1, c .before .before .before .list-size2 .ensures .1, c .before .before .list-size3 .ensures .1, c .before .list-size4 .ensures .1))
+returns c = let t = c .before .before .before .before .before .before .before .before .args .t .now in let o = c .before .before .before .before .entry-size .ensures in let e = ap (λ (x : ℕ). sizeEntry (readEntry (layoutOf 2) t x)) (c .before .before .before .before .before .u32-at .ensures .0) in (omega (arith, heap-parts t, c .before .before .before .before .before .before .named-size .ensures .0, o .0, e, c .before .before .before .list-size .ensures .0, c .before .before .list-size2 .ensures .0, c .before .list-size3 .ensures .0, c .list-size4 .ensures .0), omega (arith, c .before .before .before .before .before .before .named-size .ensures .1, o .1, c .before .before .before .list-size .ensures .1, c .before .before .list-size2 .ensures .1, c .before .list-size3 .ensures .1, c .list-size4 .ensures .1))
 
 pub heap-size-spec : {M : Type 1} → statement M
 heap-size-spec =
     tie.close
     (tie.spec
-    gather-requires
+    named-size-requires
     u32-at-requires
     entry-size-requires
     list-size-requires

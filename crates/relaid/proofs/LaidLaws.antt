@@ -1,0 +1,175 @@
+-- Laws of what is laid: stores into a record, references and what they name one behind the other. Assumes nothing.
+use mathlib.Core.Path.{_≡_, refl, sym, ap, ap₂, subst, _∙_}
+use mathlib.Core.Bool.{true}
+use mathlib.Core.List.{List, [], _∷_, _++_}
+use Prim.Native.Nat.{ℕ, suc, _+_, _≤_, _<_}
+use native.Mathlib.Numerals.{add-one}
+use native.Mathlib.Omega.{arith}
+use lib.ListN.{length, getD, drop, length-drop}
+use lib.Seq.{drop-cons, drop-length, getD-drop}
+use Rattle.table.specs.Bytes.{splice, part, num, Edit, apply}
+use Rattle.table.specs.Layout.{baseOf}
+use Rattle.table.specs.FixedLayouts.{layoutOf}
+use Rattle.table.specs.Objects.{stores, patched, heapOf}
+use Rattle.table.specs.Reads.{seat, hasPlain, placeAt}
+use Rattle.laws.specs.ByteLaws.{length-splice}
+use Rattle.laws.specs.Fields.{imageIn, length-imageIn}
+use Rattle.laws.specs.ListWalk.{refs-within}
+use Rattle.writer.specs.Stores.{refNum}
+use Rattle.writer.proofs.StoreLaws.{splice-join, splice-none, splice-swap, splice-inside}
+use Rattle.writer.proofs.FrontLaws.{length-ref}
+use Rattle.reader.specs.Accepted.{Accepted}
+use Rattle.reads.specs.declared.seats.Seat.the-variants.{At}
+use Rattle.reads.specs.Seats.{Seated}
+use Rattle.parts.specs.Parts.{Part, refsOf, OneObject, slotsIn, partAt, recordPart, bytesAt, recordBytes, storesOver, objectsOver}
+use Rattle.parts.proofs.PartLaws.{stored-all, heaped-all, single, plain-part, place-start}
+use Rattle.parts.proofs.LengthLaws.{bytes-long, object-bytes, one-heaped}
+use Rattle.relaid.specs.Laid.{laid, applyAt}
+
+-- ---- stores into a record that is laid
+
+-- stores that end at m or before
+abbrev Below : ℕ → List Edit → Type 0
+Below m [] = 0 ≤ m
+Below m (e ∷ es) = (e .at + length (e .put) ≤ m) × Below m es
+
+length-at : (es : List Edit) (x : List ℕ) (d m : ℕ) → Below m es → d + m ≤ length x → length (applyAt x d es) ≡ length x
+unfolding applyAt
+length-at [] x d m b h = refl
+length-at (e ∷ es) x d m b h =
+    let l : length (splice x (d + e .at) (e .put)) ≡ length x = length-splice x (d + e .at) (e .put) (omega (arith, b .0)) in
+    length-at es (splice x (d + e .at) (e .put)) d m (b .1) (omega (arith, l)) ∙ l
+
+-- what stands behind the record can be laid before or after
+at-swap : (es : List Edit) (x : List ℕ) (d m u : ℕ) (g : List ℕ) → Below m es → d + m ≤ u → u + length g ≤ length x → applyAt (splice x u g) d es ≡ splice (applyAt x d es) u g
+unfolding applyAt
+at-swap [] x d m u g b h k = refl
+at-swap (e ∷ es) x d m u g b h k =
+    let l : length (splice x (d + e .at) (e .put)) ≡ length x = length-splice x (d + e .at) (e .put) (omega (arith, b .0)) in
+    ap (λ (y : List ℕ). applyAt y d es) (splice-swap x (d + e .at) (e .put) u g (omega (arith, b .0)) k)
+    ∙ at-swap es (splice x (d + e .at) (e .put)) d m u g (b .1) h (omega (arith, l))
+
+-- stores into a record y that was laid are those into y
+pub at-inside : (es : List Edit) (x : List ℕ) (d : ℕ) (y : List ℕ) → Below (length y) es → d + length y ≤ length x → applyAt (splice x d y) d es ≡ splice x d (apply y es)
+unfolding applyAt
+at-inside [] x d y b h = refl
+at-inside (e ∷ es) x d y b h =
+    let l : length (splice y (e .at) (e .put)) ≡ length y = length-splice y (e .at) (e .put) (b .0) in
+    ap (λ (z : List ℕ). applyAt z d es) (splice-inside x d y (e .at) (e .put) (b .0) h)
+    ∙ at-inside es x d (splice y (e .at) (e .put)) (subst (λ (n : ℕ). Below n es) (sym l) (b .1)) (omega (arith, l))
+
+-- ---- the references of a record, one behind the other
+
+module _ (t : List ℕ) (k a : ℕ) where
+  stores-below : (qs : List ℕ) (m : ℕ) → ((i : ℕ) → i < length qs → getD qs i 0 + 6 ≤ m) → (h : ℕ) → Below m (storesOver t k a h qs)
+  unfolding storesOver
+  stores-below [] m f h = omega arith
+  stores-below (q ∷ qs) m f h =
+      let l : length (refNum h (partAt t k a q .len)) ≡ 6 = length-ref h (partAt t k a q .len) in
+      let g : q + 6 ≤ m = f 0 (omega arith) in
+      (omega (arith, l, g), stores-below qs m (λ i b. f (suc i) (omega arith)) (h + partAt t k a q .span))
+
+  -- all of kind k, from number i on
+  pub refs-below : (i h : ℕ) → Below (baseOf (layoutOf k)) (storesOver t k a h (drop i (refsOf k)))
+  refs-below i h =
+      stores-below (drop i (refsOf k)) (baseOf (layoutOf k)) (λ j b. rw (getD-drop i (refsOf k) j 0) (refs-within k (i + j) (omega (arith, b, length-drop i (refsOf k))))) h
+
+module _ (t : List ℕ) (ok : Accepted t) (k a : ℕ) (s : Seated t (layoutOf k) a true) where
+  -- what is left to lay from number i on: references in the record at d, and from h on what they name
+  abbrev pub toGo : List ℕ → ℕ → ℕ → ℕ → List ℕ
+  toGo x d h i = splice (applyAt x d (storesOver t k a h (drop i (refsOf k)))) h (objectsOver t k a h (drop i (refsOf k)))
+
+  go-more : (x : List ℕ) (d h i : ℕ) → i < length (refsOf k) → let p = getD (refsOf k) i 0 in let w = partAt t k a p .span in
+      toGo x d h i
+      ≡ splice (applyAt (splice x (d + p) (refNum h (partAt t k a p .len))) d (storesOver t k a (h + w) (drop (i + 1) (refsOf k)))) h (bytesAt t k a h p ++ objectsOver t k a (h + w) (drop (i + 1) (refsOf k)))
+  unfolding applyAt storesOver objectsOver
+  go-more x d h i l =
+      ap (λ (qs : List ℕ). splice (applyAt x d (storesOver t k a h qs)) h (objectsOver t k a h qs)) (drop-cons (refsOf k) i 0 l ∙ ap (λ (j : ℕ). getD (refsOf k) i 0 ∷ drop j (refsOf k)) (sym (add-one i)))
+
+  -- a turn: y is what the reference number i left of x
+  pub named-turn : (x y : List ℕ) (d h i u : ℕ) → i < length (refsOf k) → let p = getD (refsOf k) i 0 in let w = partAt t k a p .span in
+      d + baseOf (layoutOf k) ≤ h → h + w ≤ length x → u ≡ h + w → y ≡ laid x (d + p) (refNum h (partAt t k a p .len)) h (bytesAt t k a h p) → toGo y d u (i + 1) ≡ toGo x d h i
+  named-turn x y d h i u l below room eu ey =
+      let p : ℕ = getD (refsOf k) i 0 in
+      let w : ℕ = partAt t k a p .span in
+      let r : List ℕ = refNum h (partAt t k a p .len) in
+      let x₁ : List ℕ = splice x (d + p) r in
+      let es : List Edit = storesOver t k a (h + w) (drop (i + 1) (refsOf k)) in
+      let os : List ℕ = objectsOver t k a (h + w) (drop (i + 1) (refsOf k)) in
+      let lr : length r ≡ 6 = length-ref h (partAt t k a p .len) in
+      let lb : length (bytesAt t k a h p) ≡ w = bytes-long t ok k a s h p in
+      let wi : p + 6 ≤ baseOf (layoutOf k) = refs-within k i l in
+      let l₁ : length x₁ ≡ length x = length-splice x (d + p) r (omega (arith, lr, wi)) in
+      let be = refs-below t k a (i + 1) (h + w) in
+      let l₂ : length (applyAt x₁ d es) ≡ length x₁ = length-at es x₁ d (baseOf (layoutOf k)) be (omega (arith, l₁)) in
+      ap₂ (λ (v : ℕ) (z : List ℕ). splice (applyAt z d (storesOver t k a v (drop (i + 1) (refsOf k)))) v (objectsOver t k a v (drop (i + 1) (refsOf k)))) eu ey
+      ∙ ap (λ (z : List ℕ). splice z (h + w) os) (at-swap es x₁ d (baseOf (layoutOf k)) h (bytesAt t k a h p) be below (omega (arith, l₁, lb)))
+      ∙ ap (λ (v : ℕ). splice (splice (applyAt x₁ d es) h (bytesAt t k a h p)) (h + v) os) (sym lb)
+      ∙ splice-join (applyAt x₁ d es) h (bytesAt t k a h p) os (omega (arith, l₁, l₂, lb))
+      ∙ sym (go-more x d h i l)
+
+  pub go-done : (x : List ℕ) (d h : ℕ) → toGo x d h (length (refsOf k)) ≡ x
+  unfolding applyAt storesOver objectsOver
+  go-done x d h = ap (λ (qs : List ℕ). splice (applyAt x d (storesOver t k a h qs)) h (objectsOver t k a h qs)) (drop-length (refsOf k)) ∙ sym (splice-none x h)
+
+  -- all of them
+  pub go-all : (x : List ℕ) (d h : ℕ) → toGo x d h 0 ≡ splice (applyAt x d (stores h (slotsIn (layoutOf k) t a))) h (heapOf h (slotsIn (layoutOf k) t a))
+  go-all x d h = ap₂ (λ (es : List Edit) (g : List ℕ). splice (applyAt x d es) h g) (sym (stored-all t ok k a s h)) (sym (heaped-all t ok k a s h))
+
+  -- a record: its image first
+  pub record-laid : (x : List ℕ) (d h : ℕ) → d + baseOf (layoutOf k) ≤ length x
+      → applyAt (splice x d (imageIn (layoutOf k) t a)) d (stores h (slotsIn (layoutOf k) t a)) ≡ splice x d (patched h (imageIn (layoutOf k) t a) (slotsIn (layoutOf k) t a))
+  unfolding patched
+  record-laid x d h room =
+      let y : List ℕ = imageIn (layoutOf k) t a in
+      let l : length y ≡ baseOf (layoutOf k) = length-imageIn (layoutOf k) t a in
+      let e = stored-all t ok k a s h in
+      at-inside (stores h (slotsIn (layoutOf k) t a)) x d y (subst (λ (es : List Edit). Below (length y) es) (sym e) (subst (λ (n : ℕ). Below n (storesOver t k a h (refsOf k))) (sym l) (refs-below t k a 0 h))) (omega (arith, l))
+
+  -- ---- an object by its numbers
+
+  module _ (p : ℕ) (e : hasPlain p (layoutOf k .refs) ≡ true) (len : ℕ) (q : len ≡ placeAt t p (seat (layoutOf k) a true) .len) where
+    abbrev here : Part
+    here = partAt t k a p
+
+    pub object-len : len ≡ here .len
+    object-len = q ∙ sym (ap (λ (x : Part). x .len) (plain-part t ok k a s p e))
+
+    pub object-size : len ≡ here .span
+    object-size = q ∙ sym (ap (λ (x : Part). x .span) (plain-part t ok k a s p e))
+
+    pub object-none : len ≡ 0 → (h : ℕ) → bytesAt t k a h p ≡ []
+    object-none z h = object-bytes t ok k a s h p e ∙ ap (λ (n : ℕ). part t (here .at) n) (sym object-len ∙ z)
+
+    pub object-from : (len ≡ 0 → ⊥) → num t (a + p) 4 ≡ here .at
+    object-from z = sym (place-start t (layoutOf k) a p e (λ y. z (q ∙ y))) ∙ sym (ap (λ (x : Part). x .at) (plain-part t ok k a s p e))
+
+    pub object-laid : (from : ℕ) → from ≡ num t (a + p) 4 → (len ≡ 0 → ⊥) → (h : ℕ) → part t from len ≡ bytesAt t k a h p
+    object-laid from f z h = ap₂ (part t) (f ∙ object-from z) object-len ∙ sym (object-bytes t ok k a s h p e)
+
+  -- ---- a heap record with its one object
+
+  pub held-laid : OneObject k → (x y z : List ℕ) (r h : ℕ) → let p = getD (refsOf k) 0 0 in let b = baseOf (layoutOf k) in
+      h + b + partAt t k a p .span ≤ length x → y ≡ splice (splice x r (refNum h b)) h (imageIn (layoutOf k) t a) → r + 6 ≤ h
+      → z ≡ laid y (h + p) (refNum (h + b) (partAt t k a p .len)) (h + b) (bytesAt t k a (h + b) p)
+      → z ≡ laid x r (refNum h (recordPart t k (At a true) .len)) h (recordBytes t k h (At a true))
+  unfolding recordPart recordBytes patched storesOver
+  held-laid o x y z r h room ey low ez =
+      let p : ℕ = getD (refsOf k) 0 0 in
+      let b : ℕ = baseOf (layoutOf k) in
+      let x₁ : List ℕ = splice x r (refNum h b) in
+      let y₁ : List ℕ = imageIn (layoutOf k) t a in
+      let f : List ℕ = refNum (h + b) (partAt t k a p .len) in
+      let lx : length x₁ ≡ length x = length-splice x r (refNum h b) (omega (arith, length-ref h b)) in
+      let ly : length y₁ ≡ b = length-imageIn (layoutOf k) t a in
+      let lf : length f ≡ 6 = length-ref (h + b) (partAt t k a p .len) in
+      let wi : p + 6 ≤ b = refs-within k 0 (omega (arith, o .one)) in
+      let lz : length (splice y₁ p f) ≡ b = length-splice y₁ p f (omega (arith, ly, lf, wi)) ∙ ly in
+      let g : List ℕ = bytesAt t k a (h + b) p in
+      let pa : splice y₁ p f ≡ apply y₁ (stores (h + b) (slotsIn (layoutOf k) t a)) =
+      sym (ap (apply y₁) (stored-all t ok k a s (h + b) ∙ ap (storesOver t k a (h + b)) (single (refsOf k) (o .one)))) in
+      ez ∙ ap (λ (v : List ℕ). laid v (h + p) f (h + b) g) ey
+      ∙ ap (λ (v : List ℕ). splice v (h + b) g) (splice-inside x₁ h y₁ p f (omega (arith, ly, lf, wi)) (omega (arith, lx, ly)))
+      ∙ ap (λ (n : ℕ). splice (splice x₁ h (splice y₁ p f)) (h + n) g) (sym lz)
+      ∙ splice-join x₁ h (splice y₁ p f) g (omega (arith, lx, lz))
+      ∙ ap₂ (λ (u v : List ℕ). splice x₁ h (u ++ v)) pa (sym (one-heaped t ok k a s (h + b) o))

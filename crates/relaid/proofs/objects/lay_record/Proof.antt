@@ -1,0 +1,61 @@
+use native.Mathlib.Nat.{add-zero}
+use mathlib.Core.Path.{_≡_, refl, sym, ap, ap₂, _∙_}
+use mathlib.Core.List.{List}
+use Prim.Native.Nat.{ℕ, _+_, _≤_, _<_}
+use native.Mathlib.Omega.{arith}
+use lib.ListN.{length, getD, drop}
+use Rattle.table.specs.FixedLayouts.{layoutOf}
+use Rattle.table.specs.Bytes.{splice}
+use Rattle.table.specs.Layout.{baseOf}
+use Rattle.writer.proofs.StoreLaws.{splice-none}
+use Rattle.writer.specs.Stores.{refNum}
+use Rattle.relaid.specs.Laid.{laid, applyAt}
+use Rattle.parts.specs.Parts.{Part, refsOf, OneObject, slotsIn, partAt, recordPart, bytesAt, recordBytes, spansOver, storesOver, objectsOver}
+use Rattle.table.proofs.Rules.{picks}
+use borrow.Author.Needs.{needs}
+use Rattle.relaid.proofs.objects.lay_record.Statement.{statement}
+use Rattle.relaid.proofs.objects.lay_record.Tie as tie
+use Rattle.relaid.proofs.objects.lay_record.Reads as reads
+use Rattle.relaid.proofs.objects.lay_record.Lts as lts
+use Rattle.relaid.proofs.objects.lay_held.Reads as lay-held-reads
+use Rattle.writer.proofs.records.put_slot.Reads as put-slot-reads
+
+enum-told : tie.Need-enum-told
+enum-told c = search needs
+
+put-slot-requires : tie.Need-put-slot-requires
+put-slot-requires c κs = search needs
+
+enum-known-s : tie.Need-enum-known-s
+enum-known-s c = search needs
+
+lay-held-requires : tie.Need-lay-held-requires
+unfolding recordPart
+lay-held-requires c κs = let s = c .before .before .before .before .before .before in ((s .pre .0 .0, rw (c .before .before .s .given .1) at (s .pre .0 .1), s .pre .0 .2), rw (c .before .before .s .given .1) at (s .pre .1))
+
+same-length : tie.Need-same-length
+same-length c = search needs
+
+returns : tie.Need-returns
+unfolding recordPart recordBytes
+returns c = let a = c .before .before .before .before .before .before .before .before .args in rw (c .before .before .before .before .enum-told .given .1) (sym (add-zero (a .h)), c .before .before .put-slot .ensures ∙ splice-none (splice (a .out .now) (a .r) (refNum (a .h) 0)) (a .h))
+
+same-length-2 : tie.Need-same-length-2
+same-length-2 c = search needs
+
+returns-2 : tie.Need-returns-2
+unfolding recordPart recordBytes
+returns-2 c = rw (c .before .before .before .before .before .s .given .1) (c .before .before .lay-held .ensures)
+
+pub lay-record-spec : {M : Type 1} → statement M
+lay-record-spec =
+    tie.close
+    (tie.spec
+    enum-told
+    put-slot-requires
+    enum-known-s
+    lay-held-requires
+    same-length
+    returns
+    same-length-2
+    returns-2)

@@ -1,0 +1,109 @@
+// What a reference names, laid anew where the heap goes on, and the reference to it.
+use parts::references::inner_kind;
+use parts::references::object_len;
+use reads::seats::Seat;
+use writer::records::put_slot;
+use writer::stores::copy_into;
+ghost use mathlib.Core.Path.{_≡_};
+ghost use mathlib.Core.Bool.{true};
+ghost use Prim.Native.Nat.{_+_, _≤_};
+ghost use lib.ListN.{length};
+ghost use Rattle.table.specs.Bytes.{part, splice};
+ghost use Rattle.table.specs.Layout.{baseOf};
+ghost use Rattle.table.specs.FixedLayouts.{layoutOf};
+ghost use Rattle.table.specs.Reads.{hasPlain};
+ghost use Rattle.laws.specs.Fields.{imageIn};
+ghost use Rattle.writer.specs.Stores.{refNum};
+ghost use Rattle.reader.specs.Accepted.{Accepted};
+ghost use Rattle.reads.specs.declared.seats.Seat.the-variants.{At};
+ghost use Rattle.reads.specs.Seats.{Seated, Held};
+ghost use Rattle.parts.specs.Parts.{OneObject, recordPart, partAt, recordBytes, bytesAt};
+ghost use Rattle.relaid.specs.Laid.{laid};
+
+// `len` bytes of the table.
+fn copy_part(out: &mut [u8], u: usize, t: &[u8], from: usize, len: usize)
+    requires { ⌜ (from + len ≤ length (now t)) × (u + len ≤ length (now out)) ⌝ }
+    ensures { λ r. ⌜ now (out .exit) ≡ splice (now (out .entry)) u (part (now (t .entry)) from len) ⌝ }
+{
+    let end = from + len;
+    copy_into(out, u, &t[from..end]);
+}
+
+// A record's image, into its own part of `out`.
+pub fn put_record(out: &mut [u8], d: usize, t: &[u8], kind: u8, a: usize)
+    requires { ⌜ (a + baseOf (layoutOf kind) ≤ length (now t)) × (d + baseOf (layoutOf kind) ≤ length (now out)) ⌝ }
+    ensures { λ r. ⌜ now (out .exit) ≡ splice (now (out .entry)) d (imageIn (layoutOf kind) (now (t .entry)) a) ⌝ }
+{
+    let end = d + table::base_size(kind);
+    images::put_image(&mut out[d..end], 0, t, kind, a);
+}
+
+// The object that the reference at `p` of the record at `a` names, from `h` on, and the reference to it at `r`; the first byte behind the object.
+fn lay_object(out: &mut [u8], r: usize, h: usize, t: &[u8], kind: u8, a: usize, p: usize) -> usize
+    requires { ⌜ Accepted (now t) × Seated (now t) (layoutOf kind) a true × (hasPlain p (layoutOf kind .refs) ≡ true) ⌝ }
+    requires { ⌜ (r + 6 ≤ h) × (h + partAt (now t) kind a p .span ≤ length (now out)) × (h + partAt (now t) kind a p .span ≤ 65536) ⌝ }
+    ensures { λ u. ⌜ (u ≡ h + partAt (now (t .entry)) kind a p .span) × (now (out .exit) ≡ laid (now (out .entry)) r (refNum h (partAt (now (t .entry)) kind a p .len)) h (bytesAt (now (t .entry)) kind a h p)) ⌝ }
+{
+    let len = object_len(t, kind, a, p);
+    put_slot(out, r, h, len);
+    if len == 0 {
+        return h;
+    }
+    copy_part(out, h, t, wire::u32_at(t, a + p), len);
+    h + len
+}
+
+// The heap record of a kind at `a`, from `h` on, with its one object right behind it, and the reference to it at `r`.
+fn lay_held(out: &mut [u8], r: usize, h: usize, t: &[u8], kind: u8, a: usize) -> usize
+    requires { ⌜ Accepted (now t) × Seated (now t) (layoutOf kind) a true × OneObject kind ⌝ }
+    requires { ⌜ (r + 6 ≤ h) × (h + recordPart (now t) kind (At a true) .span ≤ length (now out)) × (h + recordPart (now t) kind (At a true) .span ≤ 65536) ⌝ }
+    ensures { λ u. ⌜ (u ≡ h + recordPart (now (t .entry)) kind (At a true) .span) × (now (out .exit) ≡ laid (now (out .entry)) r (refNum h (recordPart (now (t .entry)) kind (At a true) .len)) h (recordBytes (now (t .entry)) kind h (At a true))) ⌝ }
+{
+    let size = table::base_size(kind);
+    let refs = table::reference_offsets(kind);
+    let p = refs.at[0];
+    put_slot(out, r, h, size);
+    put_record(out, h, t, kind, a);
+    lay_object(out, h + p, h + size, t, kind, a, p)
+}
+
+fn lay_record(out: &mut [u8], r: usize, h: usize, t: &[u8], kind: u8, s: Seat) -> usize
+    requires { ⌜ Accepted (now t) × Held (now t) kind s × OneObject kind ⌝ }
+    requires { ⌜ (r + 6 ≤ h) × (h + recordPart (now t) kind s .span ≤ length (now out)) × (h + recordPart (now t) kind s .span ≤ 65536) ⌝ }
+    ensures { λ u. ⌜ (u ≡ h + recordPart (now (t .entry)) kind s .span) × (now (out .exit) ≡ laid (now (out .entry)) r (refNum h (recordPart (now (t .entry)) kind s .len)) h (recordBytes (now (t .entry)) kind h s)) ⌝ }
+{
+    match s {
+        Seat::Nowhere => {
+            put_slot(out, r, h, 0);
+            h
+        }
+        Seat::At { at, used } => lay_held(out, r, h, t, kind, at),
+    }
+}
+
+// What the reference at `p` of the record at `a` names, from `h` on, and the reference in the record laid at `d`.
+pub fn lay_reference(
+    out: &mut [u8],
+    d: usize,
+    h: usize,
+    t: &[u8],
+    kind: u8,
+    a: usize,
+    p: usize,
+) -> usize
+    requires { ⌜ Accepted (now t) × Seated (now t) (layoutOf kind) a true ⌝ }
+    requires { ⌜ (d + p + 6 ≤ h) × (h + partAt (now t) kind a p .span ≤ length (now out)) × (h + partAt (now t) kind a p .span ≤ 65536) ⌝ }
+    ensures { λ u. ⌜ (u ≡ h + partAt (now (t .entry)) kind a p .span) × (now (out .exit) ≡ laid (now (out .entry)) (d + p) (refNum h (partAt (now (t .entry)) kind a p .len)) h (bytesAt (now (t .entry)) kind a h p)) ⌝ }
+{
+    if layouts::has_object(kind, p) {
+        return lay_object(out, d + p, h, t, kind, a, p);
+    }
+    lay_record(
+        out,
+        d + p,
+        h,
+        t,
+        inner_kind(kind),
+        reads::seats::heap_record(t, kind, a),
+    )
+}

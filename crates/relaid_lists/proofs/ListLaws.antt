@@ -1,0 +1,122 @@
+-- The four lists together: what was laid is the records of all, and in the heap what they name. Assumes nothing.
+use mathlib.Core.Path.{_≡_, refl, sym, ap, ap₂, _∙_}
+use mathlib.Core.List.{List, [], _∷_}
+use Prim.Native.Nat.{ℕ, _+_, _*_, _≤_}
+use native.Mathlib.Omega.{arith}
+use lib.ListN.{length, getD, length-append}
+use Rattle.table.specs.Layout.{Entry}
+use Rattle.table.specs.FixedLayouts.{layoutOf, hfi, ssns, security, discovery}
+use Rattle.table.specs.Objects.{readBody, sizeList, sizeBody, spanBody, recsList, heapList, recsBody, heapBody}
+use Rattle.table.specs.Meaning.{meaning}
+use Rattle.laws.specs.Fields.{Bytes}
+use Rattle.reader.specs.Accepted.{Accepted}
+use Rattle.reads.proofs.SeatLaws.{hfis, ssnss, securities, discoveries}
+use Rattle.parts.specs.Parts.{listIn}
+use Rattle.parts.proofs.PartLaws.{span-parts}
+use Rattle.relaid.specs.Laid.{laid}
+use Rattle.relaid_lists.proofs.RunLaws.{Piece, piece, recsOf, heapsOf, run-laid, link, list-recs, list-heaps}
+
+module _ (t : List ℕ) (b : Bytes t) (ok : Accepted t) (u : ℕ) where
+  abbrev es3 : List (Entry (layoutOf 3))
+  es3 = listIn (layoutOf 3) t 80
+
+  abbrev es4 : List (Entry (layoutOf 4))
+  es4 = listIn (layoutOf 4) t 88
+
+  abbrev es5 : List (Entry (layoutOf 5))
+  es5 = listIn (layoutOf 5) t 96
+
+  abbrev es6 : List (Entry (layoutOf 6))
+  es6 = listIn (layoutOf 6) t 104
+
+  abbrev u4 : ℕ
+  u4 = u + sizeList es3
+
+  abbrev u5 : ℕ
+  u5 = u4 + sizeList es4
+
+  abbrev u6 : ℕ
+  u6 = u5 + sizeList es5
+
+  abbrev lists : List Piece
+  lists =
+      piece (recsList u es3) (heapList u es3)
+      ∷ piece (recsList u4 es4) (heapList u4 es4)
+      ∷ piece (recsList u5 es5) (heapList u5 es5)
+      ∷ piece (recsList u6 es6) (heapList u6 es6)
+      ∷ []
+
+  long3 : length (recsList u es3) ≡ getD t 87 0 * 32
+  unfolding layoutOf hfi
+  long3 = list-recs t ok 3 80 (hfis t ok) u
+
+  long4 : length (recsList u4 es4) ≡ getD t 95 0 * 128
+  unfolding layoutOf ssns
+  long4 = list-recs t ok 4 88 (ssnss t ok) u4
+
+  long5 : length (recsList u5 es5) ≡ getD t 103 0 * 64
+  unfolding layoutOf security
+  long5 = list-recs t ok 5 96 (securities t ok) u5
+
+  long6 : length (recsList u6 es6) ≡ getD t 111 0 * 32
+  unfolding layoutOf discovery
+  long6 = list-recs t ok 6 104 (discoveries t ok) u6
+
+  pub size-body : sizeBody (meaning t .lists) ≡ sizeList es3 + (sizeList es4 + (sizeList es5 + (sizeList es6 + 0)))
+  unfolding sizeBody meaning readBody listIn layoutOf
+  size-body = refl
+
+  recs-body : recsOf lists ≡ recsBody u (meaning t .lists)
+  unfolding recsBody meaning readBody listIn layoutOf
+  recs-body = refl
+
+  heap-body : heapsOf lists ≡ heapBody u (meaning t .lists)
+  unfolding heapBody meaning readBody listIn layoutOf
+  heap-body = refl
+
+  recs-length : length (recsOf lists) ≡ spanBody (meaning t .lists)
+  recs-length = simp length-append (omega (arith, long3, long4, long5, long6, span-parts t b))
+
+  heaps-length : length (heapsOf lists) ≡ sizeBody (meaning t .lists)
+  heaps-length =
+      simp length-append
+      (omega (arith, list-heaps t ok 3 80 (hfis t ok) u, list-heaps t ok 4 88 (ssnss t ok) u4, list-heaps t ok 5 96 (securities t ok) u5, list-heaps t ok 6 104 (discoveries t ok) u6, size-body))
+
+  pub body-recs-long : length (recsBody u (meaning t .lists)) ≡ spanBody (meaning t .lists)
+  body-recs-long = ap length (sym recs-body) ∙ recs-length
+
+  pub body-heap-long : length (heapBody u (meaning t .lists)) ≡ sizeBody (meaning t .lists)
+  body-heap-long = ap length (sym heap-body) ∙ heaps-length
+
+  -- one list behind the other
+  pub lists-laid : (x y3 y4 y5 y6 : List ℕ) (d4 d5 d6 h4 h5 h6 : ℕ) → 160 + spanBody (meaning t .lists) ≤ u → u + sizeBody (meaning t .lists) ≤ length x
+      → d4 ≡ 160 + getD t 87 0 * 32 → d5 ≡ d4 + getD t 95 0 * 128 → d6 ≡ d5 + getD t 103 0 * 64
+      → y3 ≡ laid x 160 (recsList u es3) u (heapList u es3) → h4 ≡ u4
+      → y4 ≡ laid y3 d4 (recsList h4 es4) h4 (heapList h4 es4) → h5 ≡ h4 + sizeList es4
+      → y5 ≡ laid y4 d5 (recsList h5 es5) h5 (heapList h5 es5) → h6 ≡ h5 + sizeList es5
+      → y6 ≡ laid y5 d6 (recsList h6 es6) h6 (heapList h6 es6)
+      → y6 ≡ laid x 160 (recsBody u (meaning t .lists)) u (heapBody u (meaning t .lists))
+  lists-laid x y3 y4 y5 y6 d4 d5 d6 h4 h5 h6 below room e4 e5 e6 s3 q4 s4 q5 s5 q6 s6 =
+      let g3 = list-heaps t ok 3 80 (hfis t ok) u in
+      let g4 = list-heaps t ok 4 88 (ssnss t ok) u4 in
+      let g5 = list-heaps t ok 5 96 (securities t ok) u5 in
+      run-laid lists x 160 u y6 (omega (arith, recs-length)) (omega (arith, heaps-length)) (
+        y3,
+        s3,
+        (
+          y4,
+          link y4 y3 d4 (160 + length (recsList u es3)) h4 u4 (u + length (heapList u es3)) (λ h. recsList h es4) (λ h. heapList h es4) (omega (arith, e4, long3)) q4 (omega (arith, q4, g3)) s4,
+          (
+            y5,
+            link y5 y4 d5 (160 + length (recsList u es3) + length (recsList u4 es4)) h5 u5 (u + length (heapList u es3) + length (heapList u4 es4)) (λ h. recsList h es5) (λ h. heapList h es5)
+                (omega (arith, e4, e5, long3, long4)) (omega (arith, q4, q5)) (omega (arith, q4, q5, g3, g4)) s5,
+            (
+              y6,
+              link y6 y5 d6 (160 + length (recsList u es3) + length (recsList u4 es4) + length (recsList u5 es5)) h6 u6 (u + length (heapList u es3) + length (heapList u4 es4) + length (heapList u5 es5))
+                  (λ h. recsList h es6) (λ h. heapList h es6) (omega (arith, e4, e5, e6, long3, long4, long5)) (omega (arith, q4, q5, q6)) (omega (arith, q4, q5, q6, g3, g4, g5)) s6,
+              refl,
+            ),
+          ),
+        ),
+      )
+      ∙ ap₂ (λ (r g : List ℕ). laid x 160 r u g) recs-body heap-body
