@@ -37,10 +37,7 @@ BENCHED := NBFT_LIB=$(CURDIR)/target/native $(CARGO) build
 BENCH   := bench/target/release/bench
 endif
 
-# Whether the library has the builder's functions, which `linked` is then compiled to call: `yes`, or empty while it has not.
-BUILDER :=
-
-.PHONY: run test proofs compared second-tests comparisons compared-checks compared-reads compared-rewrites library soak bench vectors clean \
+.PHONY: run test proofs compared second-tests comparisons compared-checks compared-reads compared-rewrites compared-builds library soak bench vectors clean \
         second linked
 
 # The programs are proved, then compiled: the first run takes some minutes.
@@ -78,7 +75,7 @@ second-tests: second
 	$(SECOND) cases check $(CASES)
 
 # The library beside the second program.
-comparisons: compared-checks compared-reads compared-rewrites
+comparisons: compared-checks compared-reads compared-rewrites compared-builds
 
 compared-checks: linked
 	$(LINKED) compare 40000 1
@@ -89,6 +86,9 @@ compared-reads: linked
 compared-rewrites: linked
 	$(LINKED) rewrite 6000 3
 
+compared-builds: linked
+	$(LINKED) build 3000 4
+
 # `rt staticlib` proves one crate after the other; `rt check` before it proves several at a time.
 library:
 	rt check nbft
@@ -98,7 +98,7 @@ soak: linked
 	$(LINKED) compare 1000000 2026
 	$(LINKED) reads 10000 2028
 	$(LINKED) rewrite 100000 2029
-	$(if $(BUILDER),$(LINKED) build 50000 2030)
+	$(LINKED) build 50000 2030
 	$(LINKED) guard 200000 2027
 
 bench: $(if $(RUN),library,linked)
@@ -116,7 +116,7 @@ second:
 
 # With the library that stands in the folder NBFT_LIB, if that is given.
 linked: $(if $(NBFT_LIB),,library)
-	@cd second/linked && $(LINKING) build --target $(X86) --offline --quiet --release $(if $(BUILDER),--features builder)
+	@cd second/linked && $(LINKING) build --target $(X86) --offline --quiet --release
 
 clean:
 	rm -rf target build second/target second/linked/target bench/target

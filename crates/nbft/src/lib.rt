@@ -11,6 +11,8 @@ ghost use Rattle.table.specs.Reads.{readField, readPlace};
 ghost use Rattle.table.specs.Rewriting.{rewrite, rewriteBytes};
 ghost use Rattle.packing.specs.Packed.{packed, packedField, packedPlace, packedRewritten, valueAfter};
 
+pub mod building; // the builder's calls
+
 // Any bytes may be handed in; nothing is changed.
 #[no_mangle]
 pub extern "C" fn nbft_check(t: &[u8]) -> u32

@@ -20,6 +20,7 @@ use Rattle.laws.specs.Fields.{Bytes}
 use Rattle.laws.specs.FormLaws.{length-laidOut}
 use Rattle.laws.specs.AcceptedMeaning.{lawful}
 use Rattle.reader.specs.Accepted.{Accepted}
+pub use Rattle.room.proofs.RoomLaws.{room-passed}
 
 -- ---- answers
 
@@ -73,16 +74,6 @@ sealed m out y z n k en ek l ey ez =
     ez ∙ ap₂ (λ (v : List ℕ) (b : ℕ). splice v 9 (b ∷ [])) ey c
     ∙ put-byte (headFront n) (headBack m k ++ behind m) out 0 (checksum (laidOut m n 0 k))
     ∙ ap₂ (λ (i j : ℕ). splice out 0 (laidOut m i (checksum (laidOut m i 0 j)) j)) en ek
-
--- ---- room
-
-pub room-passed : (n room : ℕ) → firstFail (test (leb n limit) 17 0 0 ∷ test (leb n room) 14 0 0 ∷ []) .number ≡ 0 → (n ≤ 65536) × (n ≤ room)
-unfolding limit
-room-passed n room e = go (leb n 65536) (leb n room) refl refl e where
-  go : (c d : Bool) → leb n 65536 ≡ c → leb n room ≡ d → firstFail (test c 17 0 0 ∷ test d 14 0 0 ∷ []) .number ≡ 0 → (n ≤ 65536) × (n ≤ room)
-  go true true p q f = (leb-true n 65536 p, leb-true n room q)
-  go true false p q f = absurd (omega arith)
-  go false d p q f = absurd (omega arith)
 
 -- the form's length, by its parts
 pub length-is : (t : List ℕ) (r k : ℕ) → r ≡ spanBody (meaning t .lists) → k ≡ heapLen (meaning t) → 160 + r + k ≡ formLength (meaning t)

@@ -83,3 +83,12 @@ pub fn write_control(part: &mut [u8], c: Counts)
     put_entry(part, 40, discovery, table::Discovery::SIZE, c.discovery);
     fill_zero(part, 48, 16);
 }
+
+// Both, into the first bytes of `out`.
+pub fn write_front(out: &mut [u8], oem: &[u8], c: Counts, n: usize, h: usize, k: usize, d: usize)
+    requires { ⌜ (128 ≤ length (now out)) × (length (now oem) ≡ 26) ⌝ }
+    ensures { λ r. ⌜ now (out .exit) ≡ splice (splice (now (out .entry)) 0 (headerFor n (now (oem .entry)) h k d)) 64 (controlFor (c .hfi ∷ c .ssns ∷ c .security ∷ c .discovery ∷ [])) ⌝ }
+{
+    write_header(&mut out[0..64], oem, n, h, k, d);
+    write_control(&mut out[64..128], c);
+}

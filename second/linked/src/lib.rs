@@ -1,6 +1,5 @@
 //! The static library's functions, for Rust.
 
-#[cfg(feature = "builder")]
 pub mod builder;
 pub mod builds;
 pub mod guard;
@@ -9,8 +8,6 @@ pub mod mischief;
 pub mod reads;
 pub mod rewrites;
 pub mod runs;
-#[cfg(feature = "stand-in")]
-mod stand_in;
 pub mod tables;
 
 use second::{Answer, Field};

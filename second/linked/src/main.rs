@@ -1,9 +1,7 @@
 //! Compares the static library with the second program.
 
 use linked::guard::Guarded;
-use linked::{hex, reads, rewrites, tables};
-#[cfg(feature = "builder")]
-use linked::{builder, builds};
+use linked::{builder, builds, hex, reads, rewrites, tables};
 use second::answer::number::TOO_FEW_BYTES;
 use second::random::Random;
 use second::{samples, Answer};
@@ -19,8 +17,6 @@ linked: compares the static library's answers with the second program's
   linked build COUNT SEED      COUNT runs of the builder, each call with answer, state and every byte of the buffer
   linked guard COUNT SEED      checks, a twentieth as many rewrites and runs of the builder and a hundredth as many tables' reads, all
                                lent between pages that nothing may touch
-
-'build', and the builder's runs of 'guard', need the feature 'builder'.
 ";
 
 fn main() -> ExitCode {
@@ -73,29 +69,17 @@ fn guarded(count: u64, seed: u64) -> Result<String, String> {
     Ok(format!("{checks}\n{reads}\n{rewrites}{builds}"))
 }
 
-#[cfg(feature = "builder")]
 fn compare_builds(count: u64, seed: u64) -> Result<String, String> {
     builds::compare(count, seed, builder::by_library)
 }
 
 /// A line of its own, behind the others.
-#[cfg(feature = "builder")]
 fn guarded_builds(count: u64, seed: u64) -> Result<String, String> {
     let mut pages = builder::pages();
     let line = builds::compare(count, seed, |call, state, buffer| {
         builder::by_library_in_pages(&mut pages, call, state, buffer)
     })?;
     Ok(format!("\n{line}"))
-}
-
-#[cfg(not(feature = "builder"))]
-fn compare_builds(_count: u64, _seed: u64) -> Result<String, String> {
-    Err("linked build: this program was compiled without the feature 'builder'".to_string())
-}
-
-#[cfg(not(feature = "builder"))]
-fn guarded_builds(_count: u64, _seed: u64) -> Result<String, String> {
-    Ok(String::new())
 }
 
 fn number(word: &str) -> Result<u64, String> {

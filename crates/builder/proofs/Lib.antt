@@ -1,0 +1,3 @@
+pub mod BeginLaws
+pub mod EndLaws
+pub mod DemandTwo

@@ -1,0 +1,109 @@
+// The beginning of a build: all that is known before the records.
+use room::room_fault;
+use steps::judging::refused;
+use table::Answer;
+use table::Control;
+use table::Discovery;
+use table::Hfi;
+use table::Host;
+use table::Security;
+use table::Ssns;
+use table::State;
+use table::Step;
+use writer::front::Counts;
+use writer::front::write_front;
+use writer::stores::copy_into;
+use writer::stores::fill_zero;
+ghost use mathlib.Core.Path.{_≡_};
+ghost use mathlib.Core.List.{[], _∷_};
+ghost use Prim.Native.Nat.{_+_, _≤_};
+ghost use lib.ListN.{length};
+ghost use Rattle.table.specs.Bytes.{splice};
+ghost use Rattle.table.specs.Meaning.{heapAt, formLength, laidOut};
+ghost use Rattle.table.specs.Builder.{opened, begun, sameState, empty};
+ghost use Rattle.builder.specs.Begins.{headerTold, beginWith, countsOf, SmallCounts};
+
+// Whether nothing is begun.
+fn is_empty(s: State) -> bool
+    ensures { λ r. ⌜ r ≡ sameState s empty ⌝ }
+{
+    if s.turn != 0 {
+        return false;
+    }
+    if s.position != 0 {
+        return false;
+    }
+    if s.hfi != 0 {
+        return false;
+    }
+    if s.ssns != 0 {
+        return false;
+    }
+    if s.security != 0 {
+        return false;
+    }
+    if s.discovery != 0 {
+        return false;
+    }
+    s.used == 0
+}
+
+// Where the heap starts.
+fn heap_start(c: Counts) -> usize
+    ensures { λ r. ⌜ (r ≡ 160 + countsOf c) × (r ≤ 65440) × SmallCounts c ⌝ }
+{
+    Control::SIZE
+        + Host::SIZE
+        + (c.hfi as usize) * Hfi::SIZE
+        + (c.ssns as usize) * Ssns::SIZE
+        + (c.security as usize) * Security::SIZE
+        + (c.discovery as usize) * Discovery::SIZE
+}
+
+// The table of which nothing but this is told; `h` is where its heap starts.
+fn lay_opened(out: &mut [u8], oem: [u8; 26], c: Counts, h: usize, signature: &[u8])
+    requires { ⌜ (h ≡ 160 + countsOf c) × (h + length (now signature) ≤ length (now out)) × SmallCounts c ⌝ }
+    ensures { λ r. ⌜ now (out .exit) ≡ splice (now (out .entry)) 0 (laidOut (opened oem (c .hfi ∷ c .ssns ∷ c .security ∷ c .discovery ∷ []) (headerTold (now (signature .entry)))) 0 0 0) ⌝ }
+{
+    write_front(out, &oem, c, 0, h, 0, signature.len());
+    fill_zero(out, 128, h - 128);
+    copy_into(out, h, signature);
+}
+
+fn begun_state(c: Counts, used: usize) -> State
+    ensures { λ r. ⌜ r ≡ begun (c .hfi ∷ c .ssns ∷ c .security ∷ c .discovery ∷ []) used ⌝ }
+{
+    State {
+        turn: 2,
+        position: 0,
+        hfi: c.hfi,
+        ssns: c.ssns,
+        security: c.security,
+        discovery: c.discovery,
+        used: used,
+    }
+}
+
+// `oem` is the table's bytes 10 to 35, `c` how many records each list is to have.
+pub fn begin(out: &mut [u8], s: State, oem: [u8; 26], c: Counts, signature: &[u8]) -> Step
+    ensures { λ r. ⌜ (r ≡ beginWith s (now (out .entry)) oem (c .hfi ∷ c .ssns ∷ c .security ∷ c .discovery ∷ []) (now (signature .entry)) .step) × (now (out .exit) ≡ beginWith s (now (out .entry)) oem (c .hfi ∷ c .ssns ∷ c .security ∷ c .discovery ∷ []) (now (signature .entry)) .buffer) ⌝ }
+{
+    if !is_empty(s) {
+        return refused(table::refuse(15, 0, 0), s);
+    }
+    if signature.len() > 65535 {
+        return refused(table::refuse(11, 0, 0), s);
+    }
+    let h = heap_start(c);
+    let n = h + signature.len();
+    let f = room_fault(n, out.len());
+    if f.number != 0 {
+        return refused(f, s);
+    }
+    lay_opened(out, oem, c, h, signature);
+    let state = begun_state(c, n);
+    Step {
+        answer: f,
+        state: state,
+    }
+}

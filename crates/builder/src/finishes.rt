@@ -1,0 +1,59 @@
+// The end of a build. The reader judges the bytes as they would be: they are stored, judged, and put back where it refuses them (D82).
+use steps::judging::refused;
+use table::Answer;
+use table::State;
+use table::Step;
+use writer::checksum::seal;
+use writer::stores::put_u8;
+use writer::stores::put_u32;
+ghost use mathlib.Core.Path.{_≡_};
+ghost use mathlib.Core.Bool.{true};
+ghost use Prim.Native.Nat.{_≤_};
+ghost use lib.ListN.{length, take};
+ghost use lib.Dec.{eqb};
+ghost use Rattle.table.specs.Bytes.{pick};
+ghost use Rattle.table.specs.Numbers.{check};
+ghost use Rattle.table.specs.Builder.{waits, finishing, sealed};
+ghost use Rattle.table.specs.Builder as definition;
+
+// What the reader says of the finished bytes; they stay only where it accepts them.
+fn judge_finished(out: &mut [u8], s: State) -> Answer
+    requires { ⌜ (waits s finishing ≡ true) × (s .used ≤ length (now out)) ⌝ }
+    ensures { λ r. ⌜ (r ≡ check (take (s .used) (sealed s (now (out .entry))))) × (now (out .exit) ≡ pick (eqb (r .number) 0) (sealed s (now (out .entry))) (now (out .entry))) ⌝ }
+{
+    let used = s.used;
+    let heap = wire::u32_at(&out[0..160], 40);
+    put_u32(out, 40, used - turns::records_end(s));
+    let length = wire::u32_at(&out[0..160], 4);
+    put_u32(out, 4, used);
+    let sum = out[9];
+    put_u8(out, 9, 0);
+    seal(out, used);
+    let judged = reader::check(&out[0..used]);
+    if judged.number != 0 {
+        put_u8(out, 9, sum);
+        put_u32(out, 4, length);
+        put_u32(out, 40, heap);
+    }
+    judged
+}
+
+pub fn finish(out: &mut [u8], s: State) -> Step
+    ensures { λ r. ⌜ (r ≡ definition.finish s (now (out .entry)) .step) × (now (out .exit) ≡ definition.finish s (now (out .entry)) .buffer) ⌝ }
+{
+    if !turns::waits(s, 7) {
+        return refused(table::refuse(15, 0, 0), s);
+    }
+    if s.used > out.len() {
+        return refused(table::refuse(14, 0, 0), s);
+    }
+    let state = turns::finished(s);
+    let a = judge_finished(out, s);
+    if a.number != 0 {
+        return refused(a, s);
+    }
+    Step {
+        answer: a,
+        state: state,
+    }
+}

@@ -1,0 +1,204 @@
+-- The builder's calls for C: the positions that their answers name are below 256, and a state is its 16 bytes. Assumes nothing.
+use mathlib.Core.Path.{_≡_, refl, ap, _∙_}
+use mathlib.Core.Bool.{Bool, true, false, _&&_, _||_}
+use mathlib.Core.List.{List, [], _∷_, _++_}
+use Prim.Native.Nat.{ℕ, zero, suc, _+_, _-_, _*_, _/_, _^_, _<_}
+use native.Mathlib.Omega.{arith}
+use lib.ListN.{length, getD, take, drop}
+use lib.Dec.{eqb, leb, lit<}
+use borrow.Author.Tests.{eqb-true}
+use Rattle.table.specs.declared.Answer.{Answer}
+use Rattle.table.specs.declared.State.{State}
+use Rattle.table.specs.declared.Step.{Step}
+use Rattle.table.specs.Bytes.{pick, num, le, splice, checksum}
+use Rattle.table.specs.Layout.{Layout, Slots, env, pairsRight}
+use Rattle.table.specs.FixedLayouts.{host, hfi, ssns, security, discovery, listKinds}
+use Rattle.table.specs.Objects.{sizeOf}
+use Rattle.table.specs.Rules.{Test, test, first, firstFail}
+use Rattle.table.specs.Meaning.{formLength, laidOut}
+use Rattle.table.specs.Numbers.{check}
+use Rattle.table.specs.Builder.{Outcome, outcome, counts, countOf, inList, waits, finishing, sameState, empty, roomTests, envOf, toldImage, toldSlots, slotsRule, fillAnswer, fill, next, placed, placeOf, leave, begin, begun, opened, finish, finished, sealed, recordsEnd, moved, turn}
+use Rattle.laws.specs.Fields.{Bytes}
+use Rattle.laws.specs.ByteLaws.{num-suc, val-le}
+use Rattle.laws.specs.Positions.{check-placed}
+use Rattle.turns.proofs.Laws.{waits-in-place, in-list-upto}
+use Rattle.filling.specs.Calls.{hostTold, hfiTold, ssnsTold, securityTold, discoveryTold, tellHost, tellHfi, tellSsns, tellSecurity, tellDiscovery}
+use Rattle.builder.specs.Begins.{headerTold, beginWith}
+use Rattle.packing.specs.Packed.{packed}
+use Rattle.nbft.specs.States.{stateOf, stateBytes, stateAfter, Shown, SmallState}
+
+-- ---- positions
+
+abbrev Placed : Answer → Type 0
+Placed a = a .position < 256
+
+abbrev AllPlaced : List Test → Type 0
+AllPlaced [] = Unit {0}
+AllPlaced (x ∷ xs) = Placed (x .gives) × AllPlaced xs
+
+one-of : (c : Bool) (x y : Answer) → Placed x → Placed y → Placed (pick c x y)
+one-of true x y p q = p
+one-of false x y p q = q
+
+fails-placed : (ts : List Test) → AllPlaced ts → Placed (firstFail ts)
+fails-placed [] h = lit< tt
+fails-placed (x ∷ xs) h = one-of (x .holds) (firstFail xs) (x .gives) (fails-placed xs (h .1)) (h .0)
+
+-- done or refused, an outcome has the answer that it is made of
+answered : (a : Answer) (s s′ : State) (b b′ : List ℕ) → Placed a → Placed (outcome a s s′ b b′ .step .answer)
+answered a s s′ b b′ p = go (eqb (a .number) 0) where
+  go : (c : Bool) → Placed (pick {X = Outcome} c (record { step = record { answer = a; state = s′ }; buffer = b′ }) (record { step = record { answer = a; state = s }; buffer = b }) .step .answer)
+  go true = p
+  go false = p
+
+small-of : (c : Bool) (x y : ℕ) → x < 256 → y < 256 → pick c x y < 256
+small-of true x y p q = p
+small-of false x y p q = q
+
+count-small : (s : State) → SmallState s → (k : ℕ) → countOf listKinds (counts s) k < 256
+unfolding hfi ssns security discovery
+count-small s m k =
+    small-of (eqb k 3) (s .hfi) _ (m .0) (small-of (eqb k 4) (s .ssns) _ (m .1) (small-of (eqb k 5) (s .security) _ (m .2) (small-of (eqb k 6) (s .discovery) 0 (m .3) (lit< tt))))
+
+waits-small : (s : State) → SmallState s → (k : ℕ) → waits s k ≡ true → s .position < 256
+waits-small s m k w = go (eqb k 2 || eqb k finishing) (waits-in-place s k w) where
+  go : (c : Bool) → pick c (eqb (s .position) 0) (inList s) ≡ true → s .position < 256
+  go true e = omega (arith, eqb-true (s .position) 0 e)
+  go false e = omega (arith, in-list-upto s e, count-small s m (s .turn))
+
+fill-placed : (l : Layout) (s : State) (b x : List ℕ) (told : Slots (l .refs)) → SmallState s → Placed (fill l s b x told .step .answer)
+unfolding fill fillAnswer
+fill-placed l s b x told m =
+    answered (fillAnswer l s (length b) img ss) s (next s (sizeOf ss)) b (placed b (placeOf s l) (s .used) img ss) (go (waits s (l .kind)) refl)
+  where
+    img : List ℕ
+    img = toldImage (l .shape) (s .position) x
+
+    ss : Slots (l .refs)
+    ss = toldSlots (s .position) img told
+
+    n : ℕ
+    n = slotsRule (envOf s) img ss
+
+    rest : List Test
+    rest = test (pairsRight (l .shape) img) 10 (l .kind) (s .position) ∷ test (eqb n 0) n (l .kind) (s .position) ∷ roomTests (s .used + sizeOf ss) (length b)
+
+    go : (c : Bool) → waits s (l .kind) ≡ c → Placed (firstFail (test c 15 0 0 ∷ rest))
+    go true e = let p = waits-small s m (l .kind) e in fails-placed rest (p, (p, (lit< tt, (lit< tt, tt))))
+    go false e = lit< tt
+
+module _ (s : State) (m : SmallState s) (b x : List ℕ) where
+  pub host-placed : (nqn : List ℕ) → tellHost s b x nqn .step .answer .position < 256
+  unfolding tellHost
+  host-placed nqn = fill-placed host s b x (hostTold nqn) m
+
+  pub hfi-placed : (i name : List ℕ) → tellHfi s b x i name .step .answer .position < 256
+  unfolding tellHfi
+  hfi-placed i name = fill-placed hfi s b x (hfiTold i name) m
+
+  pub ssns-placed : (address service others nqn e path : List ℕ) → tellSsns s b x address service others nqn e path .step .answer .position < 256
+  unfolding tellSsns
+  ssns-placed address service others nqn e path = fill-placed ssns s b x (ssnsTold address service others nqn e path) m
+
+  pub security-placed : (o₁ o₂ o₃ o₄ o₅ o₆ : List ℕ) → tellSecurity s b x o₁ o₂ o₃ o₄ o₅ o₆ .step .answer .position < 256
+  unfolding tellSecurity
+  security-placed o₁ o₂ o₃ o₄ o₅ o₆ = fill-placed security s b x (securityTold o₁ o₂ o₃ o₄ o₅ o₆) m
+
+  pub discovery-placed : (address nqn : List ℕ) → tellDiscovery s b x address nqn .step .answer .position < 256
+  unfolding tellDiscovery
+  discovery-placed address nqn = fill-placed discovery s b x (discoveryTold address nqn) m
+
+pub leave-placed : (s : State) (b : List ℕ) → leave s b .step .answer .position < 256
+unfolding leave
+leave-placed s b =
+    let ts : List Test = test (waits s (s .turn) && leb 1 (s .position)) 15 0 0 ∷ test (leb (s .used) (length b)) 14 0 0 ∷ [] in
+    answered (firstFail ts) s (next s 0) b b (fails-placed ts (lit< tt, (lit< tt, tt)))
+
+pub begin-placed : (s : State) (b oem cs signature : List ℕ) → beginWith s b oem cs signature .step .answer .position < 256
+unfolding beginWith begin
+begin-placed s b oem cs signature =
+    let m = opened oem cs (headerTold signature) in
+    let n = slotsRule (env (countOf listKinds cs) 0) [] (headerTold signature) in
+    let ts : List Test = test (sameState s empty) 15 0 0 ∷ test (eqb n 0) n 0 0 ∷ roomTests (formLength m) (length b) in
+    answered (firstFail ts) s (begun cs (formLength m)) b (splice b 0 (laidOut m 0 0 0)) (fails-placed ts (lit< tt, (lit< tt, (lit< tt, (lit< tt, tt)))))
+
+-- ---- the finished bytes are bytes
+
+bytes-append : (x y : List ℕ) → Bytes x → Bytes y → Bytes (x ++ y)
+bytes-append [] y p q i = q i
+bytes-append (a ∷ x) y p q zero = p 0
+bytes-append (a ∷ x) y p q (suc i) = bytes-append x y (λ j. p (suc j)) q i
+
+bytes-take : (n : ℕ) (x : List ℕ) → Bytes x → Bytes (take n x)
+bytes-take zero x p i = lit< tt
+bytes-take (suc n) [] p i = lit< tt
+bytes-take (suc n) (a ∷ x) p zero = p 0
+bytes-take (suc n) (a ∷ x) p (suc i) = bytes-take n x (λ j. p (suc j)) i
+
+bytes-drop : (n : ℕ) (x : List ℕ) → Bytes x → Bytes (drop n x)
+bytes-drop zero x p i = p i
+bytes-drop (suc n) [] p i = lit< tt
+bytes-drop (suc n) (a ∷ x) p i = bytes-drop n x (λ j. p (suc j)) i
+
+bytes-splice : (t : List ℕ) (a : ℕ) (x : List ℕ) → Bytes t → Bytes x → Bytes (splice t a x)
+bytes-splice t a x p q = bytes-append (take a t) _ (bytes-take a t p) (bytes-append x _ q (bytes-drop (a + length x) t p))
+
+bytes-le : (n x : ℕ) → Bytes (le n x)
+bytes-le zero x i = lit< tt
+bytes-le (suc n) x zero = omega arith
+bytes-le (suc n) x (suc i) = bytes-le n (x / 256) i
+
+bytes-one : (x : ℕ) → x < 256 → Bytes (x ∷ [])
+bytes-one x p zero = p
+bytes-one x p (suc i) = lit< tt
+
+bytes-sealed : (s : State) (b : List ℕ) → Bytes b → Bytes (sealed s b)
+unfolding sealed
+bytes-sealed s b p =
+    let heap : List ℕ = splice b 40 (le 4 (s .used - recordsEnd s)) in
+    let total : List ℕ = splice heap 4 (le 4 (s .used)) in
+    let y : List ℕ = splice total 9 (0 ∷ []) in
+    let sum : ℕ = checksum (take (s .used) y) in
+    let hp : Bytes heap = bytes-splice b 40 (le 4 (s .used - recordsEnd s)) p (bytes-le 4 (s .used - recordsEnd s)) in
+    let tp : Bytes total = bytes-splice heap 4 (le 4 (s .used)) hp (bytes-le 4 (s .used)) in
+    let yp : Bytes y = bytes-splice total 9 (0 ∷ []) tp (bytes-one 0 (lit< tt)) in
+    bytes-splice y 9 (sum ∷ []) yp (bytes-one sum (omega arith))
+
+pub finish-placed : (s : State) (b : List ℕ) → Bytes b → finish s b .step .answer .position < 256
+unfolding finish
+finish-placed s b p =
+    let ts : List Test = test (waits s finishing) 15 0 0 ∷ test (leb (s .used) (length b)) 14 0 0 ∷ [] in
+    let t : List ℕ = take (s .used) (sealed s b) in
+    answered (first (firstFail ts) (check t)) s (moved s (turn finished 0) (s .used)) b (sealed s b)
+    (one-of (eqb (firstFail ts .number) 0) (check t) (firstFail ts) (check-placed t (bytes-take (s .used) (sealed s b) (bytes-sealed s b p))) (fails-placed ts (lit< tt, (lit< tt, tt))))
+
+-- ---- states
+
+used-halves : (b : List ℕ) → num b 8 8 ≡ num b 8 4 + 4294967296 * num b 12 4
+used-halves b =
+    omega (arith, num-suc b 8 7, num-suc b 9 6, num-suc b 10 5, num-suc b 11 4, num-suc b 8 3, num-suc b 9 2, num-suc b 10 1, num-suc b 11 0)
+
+pub state-read : (b : List ℕ) (t p lo hi : ℕ) → t ≡ num b 0 2 → p ≡ num b 2 2 → lo ≡ num b 8 4 → hi ≡ num b 12 4
+    → record { turn = t; position = p; hfi = getD b 4 0; ssns = getD b 5 0; security = getD b 6 0; discovery = getD b 7 0; used = lo + 4294967296 * hi } ≡ stateOf b
+unfolding stateOf
+state-read b t p lo hi e f g h = let u : lo + 4294967296 * hi ≡ num b 8 8 = omega (arith, g, h, used-halves b) in rw (e, f, u) refl
+
+pub four-bytes : (b : List ℕ) → length b ≡ 4 → getD b 0 0 ∷ getD b 1 0 ∷ getD b 2 0 ∷ getD b 3 0 ∷ [] ≡ b
+four-bytes [] e = absurd (omega (arith, e))
+four-bytes (w ∷ []) e = absurd (omega (arith, e))
+four-bytes (w ∷ x ∷ []) e = absurd (omega (arith, e))
+four-bytes (w ∷ x ∷ y ∷ []) e = absurd (omega (arith, e))
+four-bytes (w ∷ x ∷ y ∷ z ∷ []) e = refl
+four-bytes (w ∷ x ∷ y ∷ z ∷ v ∷ b) e = absurd (omega (arith, e))
+
+-- what is stored is read again
+pub state-kept : (s : State) → s .turn < 65536 → s .position < 65536 → s .used < 256 ^ 8 → stateOf (stateBytes s) ≡ s
+unfolding stateOf stateBytes
+state-kept s t p u = rw (val-le 2 (s .turn) t, val-le 2 (s .position) p, val-le 8 (s .used) u) refl
+
+-- a call that is made with the state of the caller's bytes
+pub shown : (f : State → Outcome) (s : State) (before after buffer : List ℕ) (step : Step) (r : ℕ) → s ≡ stateOf before → step ≡ f s .step → buffer ≡ f s .buffer
+    → r ≡ packed (step .answer) → after ≡ stateAfter before step → Shown (f (stateOf before)) before r after buffer
+shown f s before after buffer step r e p q n a =
+    let p′ : step ≡ f (stateOf before) .step = p ∙ ap (λ (x : State). f x .step) e in
+    (n ∙ ap (λ (x : Step). packed (x .answer)) p′, a ∙ ap (stateAfter before) p′, q ∙ ap (λ (x : State). f x .buffer) e)

@@ -1,0 +1,44 @@
+use Rattle.nbft.proofs.BuildLaws.{shown, begin-placed}
+use Rattle.table.specs.declared.State.{State}
+use Rattle.builder.specs.Begins.{beginWith}
+use mathlib.Core.List.{List, [], _∷_}
+use mathlib.Core.Path.{ap, _∙_}
+use Prim.Native.Nat.{ℕ}
+use borrow.Author.Needs.{needs}
+use Rattle.nbft.proofs.building.nbft_begin.Statement.{statement}
+use Rattle.nbft.proofs.building.nbft_begin.Tie as tie
+use Rattle.nbft.proofs.building.nbft_begin.Reads as reads
+use Rattle.nbft.proofs.building.nbft_begin.Lts as lts
+use Rattle.builder.proofs.begin.Reads as begin-reads
+use Rattle.nbft.proofs.building.counts_of.Reads as counts-of-reads
+use Rattle.nbft.proofs.building.show.Reads as show-reads
+use Rattle.nbft.proofs.building.state_of.Reads as state-of-reads
+
+state-of-requires : tie.Need-state-of-requires
+state-of-requires c κs = search needs
+
+counts-of-requires : tie.Need-counts-of-requires
+counts-of-requires c κs = search needs
+
+begin-requires : tie.Need-begin-requires
+begin-requires c κs = search needs
+
+show-requires : tie.Need-show-requires
+show-requires c κs = let a = c .before .before .before .before .before .before .before .before .before .before .before .before .args in let c4 = c .before .before .before .before .counts-of .result in rw (c .before .before .before .begin .ensures .0) (begin-placed (c .before .before .before .before .before .state-of .result) (a .out .now) (a .header .now) (c4 .hfi ∷ c4 .ssns ∷ c4 .security ∷ c4 .discovery ∷ []) (a .signature .now))
+
+same-length : tie.Need-same-length
+same-length c = search needs
+
+returns : tie.Need-returns
+returns c = let a = c .before .before .before .before .before .before .before .before .before .before .before .before .before .args in shown (λ (s : State). beginWith s (a .out .now) (a .header .now) (a .counts .now) (a .signature .now)) (c .before .before .before .before .before .before .state-of .result) (a .state .now) _ _ (c .before .before .before .before .begin .result) _ (c .before .before .before .before .before .before .state-of .ensures .0) (c .before .before .before .before .begin .ensures .0 ∙ ap (λ (cs : List ℕ). beginWith (c .before .before .before .before .before .before .state-of .result) (a .out .now) (a .header .now) cs (a .signature .now) .step) (c .before .before .before .before .before .counts-of .ensures)) (c .before .before .before .before .begin .ensures .1 ∙ ap (λ (cs : List ℕ). beginWith (c .before .before .before .before .before .before .state-of .result) (a .out .now) (a .header .now) cs (a .signature .now) .buffer) (c .before .before .before .before .before .counts-of .ensures)) (c .show .ensures .0) (c .show .ensures .1)
+
+pub nbft-begin-spec : {M : Type 1} → statement M
+nbft-begin-spec =
+    tie.close
+    (tie.spec
+    state-of-requires
+    counts-of-requires
+    begin-requires
+    show-requires
+    same-length
+    returns)

@@ -1,0 +1,30 @@
+use Rattle.filling.specs.Calls.{tellDiscovery}
+use Rattle.nbft.proofs.BuildLaws.{shown, discovery-placed}
+use Rattle.table.specs.declared.State.{State}
+use borrow.Author.Needs.{needs}
+use Rattle.nbft.proofs.building.nbft_discovery.Statement.{statement}
+use Rattle.nbft.proofs.building.nbft_discovery.Tie as tie
+use Rattle.nbft.proofs.building.nbft_discovery.Reads as reads
+use Rattle.nbft.proofs.building.nbft_discovery.Lts as lts
+use Rattle.filling.proofs.discovery.Reads as discovery-reads
+use Rattle.nbft.proofs.building.show.Reads as show-reads
+use Rattle.nbft.proofs.building.state_of.Reads as state-of-reads
+
+state-of-requires : tie.Need-state-of-requires
+state-of-requires c κs = search needs
+
+discovery-requires : tie.Need-discovery-requires
+discovery-requires c κs = search needs
+
+show-requires : tie.Need-show-requires
+show-requires c κs = let a = c .before .before .before .before .before .before .before .before .before .before .before .args in rw (c .before .before .before .discovery .ensures .0) (discovery-placed (c .before .before .before .before .state-of .result) (c .before .before .before .before .state-of .ensures .1) (a .out .now) (a .told .now) (a .address .now) (a .nqn .now))
+
+same-length : tie.Need-same-length
+same-length c = search needs
+
+returns : tie.Need-returns
+returns c = let a = c .before .before .before .before .before .before .before .before .before .before .before .before .args in shown (λ (s : State). tellDiscovery s (a .out .now) (a .told .now) (a .address .now) (a .nqn .now)) (c .before .before .before .before .before .state-of .result) (a .state .now) _ _ (c .before .before .before .before .discovery .result) _ (c .before .before .before .before .before .state-of .ensures .0) (c .before .before .before .before .discovery .ensures .0) (c .before .before .before .before .discovery .ensures .1) (c .show .ensures .0) (c .show .ensures .1)
+
+pub nbft-discovery-spec : {M : Type 1} → statement M
+nbft-discovery-spec =
+    tie.close (tie.spec state-of-requires discovery-requires show-requires same-length returns)

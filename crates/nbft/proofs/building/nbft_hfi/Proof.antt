@@ -1,0 +1,30 @@
+use Rattle.filling.specs.Calls.{tellHfi}
+use Rattle.nbft.proofs.BuildLaws.{shown, hfi-placed}
+use Rattle.table.specs.declared.State.{State}
+use borrow.Author.Needs.{needs}
+use Rattle.nbft.proofs.building.nbft_hfi.Statement.{statement}
+use Rattle.nbft.proofs.building.nbft_hfi.Tie as tie
+use Rattle.nbft.proofs.building.nbft_hfi.Reads as reads
+use Rattle.nbft.proofs.building.nbft_hfi.Lts as lts
+use Rattle.filling.proofs.hfi.Reads as hfi-reads
+use Rattle.nbft.proofs.building.show.Reads as show-reads
+use Rattle.nbft.proofs.building.state_of.Reads as state-of-reads
+
+state-of-requires : tie.Need-state-of-requires
+state-of-requires c κs = search needs
+
+hfi-requires : tie.Need-hfi-requires
+hfi-requires c κs = search needs
+
+show-requires : tie.Need-show-requires
+show-requires c κs = let a = c .before .before .before .before .before .before .before .before .before .before .before .args in rw (c .before .before .before .hfi .ensures .0) (hfi-placed (c .before .before .before .before .state-of .result) (c .before .before .before .before .state-of .ensures .1) (a .out .now) (a .told .now) (a .info .now) (a .name .now))
+
+same-length : tie.Need-same-length
+same-length c = search needs
+
+returns : tie.Need-returns
+returns c = let a = c .before .before .before .before .before .before .before .before .before .before .before .before .args in shown (λ (s : State). tellHfi s (a .out .now) (a .told .now) (a .info .now) (a .name .now)) (c .before .before .before .before .before .state-of .result) (a .state .now) _ _ (c .before .before .before .before .hfi .result) _ (c .before .before .before .before .before .state-of .ensures .0) (c .before .before .before .before .hfi .ensures .0) (c .before .before .before .before .hfi .ensures .1) (c .show .ensures .0) (c .show .ensures .1)
+
+pub nbft-hfi-spec : {M : Type 1} → statement M
+nbft-hfi-spec =
+    tie.close (tie.spec state-of-requires hfi-requires show-requires same-length returns)

@@ -1,0 +1,30 @@
+use Rattle.filling.specs.Calls.{tellHost}
+use Rattle.nbft.proofs.BuildLaws.{shown, host-placed}
+use Rattle.table.specs.declared.State.{State}
+use borrow.Author.Needs.{needs}
+use Rattle.nbft.proofs.building.nbft_host.Statement.{statement}
+use Rattle.nbft.proofs.building.nbft_host.Tie as tie
+use Rattle.nbft.proofs.building.nbft_host.Reads as reads
+use Rattle.nbft.proofs.building.nbft_host.Lts as lts
+use Rattle.filling.proofs.host.Reads as host-reads
+use Rattle.nbft.proofs.building.show.Reads as show-reads
+use Rattle.nbft.proofs.building.state_of.Reads as state-of-reads
+
+state-of-requires : tie.Need-state-of-requires
+state-of-requires c κs = search needs
+
+host-requires : tie.Need-host-requires
+host-requires c κs = search needs
+
+show-requires : tie.Need-show-requires
+show-requires c κs = let a = c .before .before .before .before .before .before .before .before .before .before .args in rw (c .before .before .before .host .ensures .0) (host-placed (c .before .before .before .before .state-of .result) (c .before .before .before .before .state-of .ensures .1) (a .out .now) (a .told .now) (a .nqn .now))
+
+same-length : tie.Need-same-length
+same-length c = search needs
+
+returns : tie.Need-returns
+returns c = let a = c .before .before .before .before .before .before .before .before .before .before .before .args in shown (λ (s : State). tellHost s (a .out .now) (a .told .now) (a .nqn .now)) (c .before .before .before .before .before .state-of .result) (a .state .now) _ _ (c .before .before .before .before .host .result) _ (c .before .before .before .before .before .state-of .ensures .0) (c .before .before .before .before .host .ensures .0) (c .before .before .before .before .host .ensures .1) (c .show .ensures .0) (c .show .ensures .1)
+
+pub nbft-host-spec : {M : Type 1} → statement M
+nbft-host-spec =
+    tie.close (tie.spec state-of-requires host-requires show-requires same-length returns)

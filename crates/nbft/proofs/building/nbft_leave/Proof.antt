@@ -1,0 +1,30 @@
+use Rattle.table.specs.Builder.{leave}
+use Rattle.nbft.proofs.BuildLaws.{shown, leave-placed}
+use Rattle.table.specs.declared.State.{State}
+use borrow.Author.Needs.{needs}
+use Rattle.nbft.proofs.building.nbft_leave.Statement.{statement}
+use Rattle.nbft.proofs.building.nbft_leave.Tie as tie
+use Rattle.nbft.proofs.building.nbft_leave.Reads as reads
+use Rattle.nbft.proofs.building.nbft_leave.Lts as lts
+use Rattle.builder.proofs.leave.Reads as leave-reads
+use Rattle.nbft.proofs.building.show.Reads as show-reads
+use Rattle.nbft.proofs.building.state_of.Reads as state-of-reads
+
+state-of-requires : tie.Need-state-of-requires
+state-of-requires c κs = search needs
+
+leave-requires : tie.Need-leave-requires
+leave-requires c κs = search needs
+
+show-requires : tie.Need-show-requires
+show-requires c κs = let a = c .before .before .before .before .before .before .before .before .args in rw (c .before .before .before .leave .ensures .0) (leave-placed (c .before .before .before .before .state-of .result) (a .out .now))
+
+same-length : tie.Need-same-length
+same-length c = search needs
+
+returns : tie.Need-returns
+returns c = let a = c .before .before .before .before .before .before .before .before .before .args in shown (λ (s : State). leave s (a .out .now)) (c .before .before .before .before .before .state-of .result) (a .state .now) _ _ (c .before .before .before .before .leave .result) _ (c .before .before .before .before .before .state-of .ensures .0) (c .before .before .before .before .leave .ensures .0) (c .before .before .before .before .leave .ensures .1) (c .show .ensures .0) (c .show .ensures .1)
+
+pub nbft-leave-spec : {M : Type 1} → statement M
+nbft-leave-spec =
+    tie.close (tie.spec state-of-requires leave-requires show-requires same-length returns)

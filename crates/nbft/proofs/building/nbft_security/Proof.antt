@@ -1,0 +1,30 @@
+use Rattle.filling.specs.Calls.{tellSecurity}
+use Rattle.nbft.proofs.BuildLaws.{shown, security-placed}
+use Rattle.table.specs.declared.State.{State}
+use borrow.Author.Needs.{needs}
+use Rattle.nbft.proofs.building.nbft_security.Statement.{statement}
+use Rattle.nbft.proofs.building.nbft_security.Tie as tie
+use Rattle.nbft.proofs.building.nbft_security.Reads as reads
+use Rattle.nbft.proofs.building.nbft_security.Lts as lts
+use Rattle.filling.proofs.security.Reads as security-reads
+use Rattle.nbft.proofs.building.show.Reads as show-reads
+use Rattle.nbft.proofs.building.state_of.Reads as state-of-reads
+
+state-of-requires : tie.Need-state-of-requires
+state-of-requires c κs = search needs
+
+security-requires : tie.Need-security-requires
+security-requires c κs = search needs
+
+show-requires : tie.Need-show-requires
+show-requires c κs = let a = c .before .before .before .before .before .before .before .before .before .before .before .before .before .before .before .args in rw (c .before .before .before .security .ensures .0) (security-placed (c .before .before .before .before .state-of .result) (c .before .before .before .before .state-of .ensures .1) (a .out .now) (a .told .now) (a .o1 .now) (a .o2 .now) (a .o3 .now) (a .o4 .now) (a .o5 .now) (a .o6 .now))
+
+same-length : tie.Need-same-length
+same-length c = search needs
+
+returns : tie.Need-returns
+returns c = let a = c .before .before .before .before .before .before .before .before .before .before .before .before .before .before .before .before .args in shown (λ (s : State). tellSecurity s (a .out .now) (a .told .now) (a .o1 .now) (a .o2 .now) (a .o3 .now) (a .o4 .now) (a .o5 .now) (a .o6 .now)) (c .before .before .before .before .before .state-of .result) (a .state .now) _ _ (c .before .before .before .before .security .result) _ (c .before .before .before .before .before .state-of .ensures .0) (c .before .before .before .before .security .ensures .0) (c .before .before .before .before .security .ensures .1) (c .show .ensures .0) (c .show .ensures .1)
+
+pub nbft-security-spec : {M : Type 1} → statement M
+nbft-security-spec =
+    tie.close (tie.spec state-of-requires security-requires show-requires same-length returns)

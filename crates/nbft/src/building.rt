@@ -1,0 +1,250 @@
+// The builder for callers in C, who keep its state as 16 bytes.
+use packing::pack;
+use packing::store;
+use table::Discovery;
+use table::Extended;
+use table::Hfi;
+use table::Host;
+use table::Info;
+use table::Security;
+use table::Ssns;
+use table::State;
+use table::Step;
+use writer::front::Counts;
+use writer::stores::low;
+ghost use mathlib.Core.Path.{_≡_};
+ghost use mathlib.Core.List.{[], _∷_};
+ghost use Prim.Native.Nat.{_<_};
+ghost use lib.ListN.{length};
+ghost use Rattle.table.specs.Builder as definition;
+ghost use Rattle.filling.specs.Calls.{tellHost, tellHfi, tellSsns, tellSecurity, tellDiscovery};
+ghost use Rattle.builder.specs.Begins.{beginWith};
+ghost use Rattle.packing.specs.Packed.{packed};
+ghost use Rattle.nbft.specs.States.{stateOf, stateBytes, stateAfter, Shown, SmallState};
+
+// Of a slice it is known that its bytes are below 256, which bounds the counts and with them the positions.
+fn state_in(b: &[u8]) -> State
+    requires { ⌜ length (now b) ≡ 16 ⌝ }
+    ensures { λ r. ⌜ (r ≡ stateOf (now (b .entry))) × SmallState r ⌝ }
+{
+    let turn = wire::u16_at(b, 0);
+    let position = wire::u16_at(b, 2);
+    let used = wire::u32_at(b, 8) + 4294967296 * wire::u32_at(b, 12);
+    State {
+        turn: turn as u16,
+        position: position as u16,
+        hfi: b[4],
+        ssns: b[5],
+        security: b[6],
+        discovery: b[7],
+        used: used,
+    }
+}
+
+// By value they are known to be 16.
+fn state_of(b: [u8; 16]) -> State
+    ensures { λ r. ⌜ (r ≡ stateOf b) × SmallState r ⌝ }
+{
+    state_in(&b)
+}
+
+// The lowest byte first; each division takes one off.
+fn state_bytes(s: State) -> [u8; 16]
+    ensures { λ r. ⌜ r ≡ stateBytes s ⌝ }
+{
+    let turn = s.turn as usize;
+    let position = s.position as usize;
+    let u0 = s.used;
+    let u1 = u0 / 256;
+    let u2 = u1 / 256;
+    let u3 = u2 / 256;
+    let u4 = u3 / 256;
+    let u5 = u4 / 256;
+    let u6 = u5 / 256;
+    let u7 = u6 / 256;
+    [
+        low(turn),
+        low(turn / 256),
+        low(position),
+        low(position / 256),
+        s.hfi,
+        s.ssns,
+        s.security,
+        s.discovery,
+        low(u0),
+        low(u1),
+        low(u2),
+        low(u3),
+        low(u4),
+        low(u5),
+        low(u6),
+        low(u7),
+    ]
+}
+
+fn counts_of(b: [u8; 4]) -> Counts
+    ensures { λ r. ⌜ r .hfi ∷ r .ssns ∷ r .security ∷ r .discovery ∷ [] ≡ b ⌝ }
+{
+    Counts {
+        hfi: b[0],
+        ssns: b[1],
+        security: b[2],
+        discovery: b[3],
+    }
+}
+
+// What a call hands back to C; a refused one leaves the state's bytes as they were.
+fn show(state: &mut [u8; 16], step: Step) -> u32
+    requires { ⌜ step .answer .position < 256 ⌝ }
+    ensures { λ r. ⌜ (r ≡ packed (step .answer)) × (now (state .exit) ≡ stateAfter (now (state .entry)) step) ⌝ }
+{
+    let answer = step.answer;
+    let after = step.state;
+    store(state, answer.number, state_bytes(after));
+    pack(answer)
+}
+
+// `header` is the table's bytes 10 to 35, `counts` how many records each list is to have.
+#[no_mangle]
+pub extern "C" fn nbft_begin(
+    state: &mut [u8; 16],
+    out: &mut [u8],
+    header: &[u8; 26],
+    counts: &[u8; 4],
+    signature: &[u8],
+) -> u32
+    ensures { λ r. ⌜ Shown (beginWith (stateOf (now (state .entry))) (now (out .entry)) (now (header .entry)) (now (counts .entry)) (now (signature .entry))) (now (state .entry)) r (now (state .exit)) (now (out .exit)) ⌝ }
+{
+    let before = *state;
+    let oem = *header;
+    let each = *counts;
+    let step = builder::begin(out, state_of(before), oem, counts_of(each), signature);
+    show(state, step)
+}
+
+#[no_mangle]
+pub extern "C" fn nbft_host(
+    state: &mut [u8; 16],
+    out: &mut [u8],
+    told: &[u8; 32],
+    nqn: &[u8],
+) -> u32
+    ensures { λ r. ⌜ Shown (tellHost (stateOf (now (state .entry))) (now (out .entry)) (now (told .entry)) (now (nqn .entry))) (now (state .entry)) r (now (state .exit)) (now (out .exit)) ⌝ }
+{
+    let before = *state;
+    let bytes = *told;
+    let step = builder::host(out, state_of(before), Host { bytes: bytes }, nqn);
+    show(state, step)
+}
+
+// `info` is the HFI's transport info, which names the host name.
+#[no_mangle]
+pub extern "C" fn nbft_hfi(
+    state: &mut [u8; 16],
+    out: &mut [u8],
+    told: &[u8; 32],
+    info: &[u8; 128],
+    name: &[u8],
+) -> u32
+    ensures { λ r. ⌜ Shown (tellHfi (stateOf (now (state .entry))) (now (out .entry)) (now (told .entry)) (now (info .entry)) (now (name .entry))) (now (state .entry)) r (now (state .exit)) (now (out .exit)) ⌝ }
+{
+    let before = *state;
+    let bytes = *told;
+    let own = *info;
+    let step = builder::hfi(
+        out,
+        state_of(before),
+        Hfi { bytes: bytes },
+        Info { bytes: own },
+        name,
+    );
+    show(state, step)
+}
+
+// `extended` is the record's extended info, which names the DHCP root path.
+#[no_mangle]
+pub extern "C" fn nbft_ssns(
+    state: &mut [u8; 16],
+    out: &mut [u8],
+    told: &[u8; 128],
+    address: &[u8],
+    service: &[u8],
+    others: &[u8],
+    nqn: &[u8],
+    extended: &[u8; 18],
+    path: &[u8],
+) -> u32
+    ensures { λ r. ⌜ Shown (tellSsns (stateOf (now (state .entry))) (now (out .entry)) (now (told .entry)) (now (address .entry)) (now (service .entry)) (now (others .entry)) (now (nqn .entry)) (now (extended .entry)) (now (path .entry))) (now (state .entry)) r (now (state .exit)) (now (out .exit)) ⌝ }
+{
+    let before = *state;
+    let bytes = *told;
+    let own = *extended;
+    let step = builder::ssns(
+        out,
+        state_of(before),
+        Ssns { bytes: bytes },
+        address,
+        service,
+        others,
+        nqn,
+        Extended { bytes: own },
+        path,
+    );
+    show(state, step)
+}
+
+#[no_mangle]
+pub extern "C" fn nbft_security(
+    state: &mut [u8; 16],
+    out: &mut [u8],
+    told: &[u8; 64],
+    o1: &[u8],
+    o2: &[u8],
+    o3: &[u8],
+    o4: &[u8],
+    o5: &[u8],
+    o6: &[u8],
+) -> u32
+    ensures { λ r. ⌜ Shown (tellSecurity (stateOf (now (state .entry))) (now (out .entry)) (now (told .entry)) (now (o1 .entry)) (now (o2 .entry)) (now (o3 .entry)) (now (o4 .entry)) (now (o5 .entry)) (now (o6 .entry))) (now (state .entry)) r (now (state .exit)) (now (out .exit)) ⌝ }
+{
+    let before = *state;
+    let bytes = *told;
+    let x = Security { bytes: bytes };
+    let step = builder::security(out, state_of(before), x, o1, o2, o3, o4, o5, o6);
+    show(state, step)
+}
+
+#[no_mangle]
+pub extern "C" fn nbft_discovery(
+    state: &mut [u8; 16],
+    out: &mut [u8],
+    told: &[u8; 32],
+    address: &[u8],
+    nqn: &[u8],
+) -> u32
+    ensures { λ r. ⌜ Shown (tellDiscovery (stateOf (now (state .entry))) (now (out .entry)) (now (told .entry)) (now (address .entry)) (now (nqn .entry))) (now (state .entry)) r (now (state .exit)) (now (out .exit)) ⌝ }
+{
+    let before = *state;
+    let bytes = *told;
+    let x = Discovery { bytes: bytes };
+    let step = builder::discovery(out, state_of(before), x, address, nqn);
+    show(state, step)
+}
+
+#[no_mangle]
+pub extern "C" fn nbft_leave(state: &mut [u8; 16], out: &mut [u8]) -> u32
+    ensures { λ r. ⌜ Shown (definition.leave (stateOf (now (state .entry))) (now (out .entry))) (now (state .entry)) r (now (state .exit)) (now (out .exit)) ⌝ }
+{
+    let before = *state;
+    let step = builder::leave(out, state_of(before));
+    show(state, step)
+}
+
+#[no_mangle]
+pub extern "C" fn nbft_finish(state: &mut [u8; 16], out: &mut [u8]) -> u32
+    ensures { λ r. ⌜ Shown (definition.finish (stateOf (now (state .entry))) (now (out .entry))) (now (state .entry)) r (now (state .exit)) (now (out .exit)) ⌝ }
+{
+    let before = *state;
+    let step = builder::finish(out, state_of(before));
+    show(state, step)
+}

@@ -1,0 +1,32 @@
+use Rattle.told.proofs.Laws.{flags-inside, valid-of}
+use native.Mathlib.Omega.{arith}
+use Rattle.told.specs.Marks.{marked}
+use Rattle.table.proofs.Rules.{picks}
+use borrow.Author.Needs.{needs}
+use Rattle.told.proofs.marks.mark.Statement.{statement}
+use Rattle.told.proofs.marks.mark.Tie as tie
+use Rattle.told.proofs.marks.mark.Reads as reads
+use Rattle.told.proofs.marks.mark.Lts as lts
+use Rattle.table.proofs.flags_at.Reads as flags-at-reads
+use Rattle.told.proofs.marks.set_valid.Reads as set-valid-reads
+use Rattle.told.proofs.marks.stamp.Reads as stamp-reads
+
+stamp-requires : tie.Need-stamp-requires
+stamp-requires c κs = search needs
+
+flags-at-requires : tie.Need-flags-at-requires
+flags-at-requires c κs = search needs
+
+set-valid-requires : tie.Need-set-valid-requires
+set-valid-requires c κs = omega (arith, flags-inside (c .before .before .before .before .before .before .before .args .kind) (c .before .before .before .before .before .before .before .pre .0), c .before .before .before .before .before .before .before .pre .1, c .flags-at .ensures, c .before .before .before .before .stamp .kept .0)
+
+same-length : tie.Need-same-length
+same-length c = search needs
+
+returns : tie.Need-returns
+unfolding marked
+returns c = valid-of _ (c .before .before .before .before .before .before .before .stamp .last .0) _ (c .before .before .before .flags-at .result) _ (c .before .before .set-valid .ensures) (c .before .before .before .before .before .before .before .stamp .ensures) (c .before .before .before .flags-at .ensures)
+
+pub mark-spec : {M : Type 1} → statement M
+mark-spec =
+    tie.close (tie.spec stamp-requires flags-at-requires set-valid-requires same-length returns)

@@ -1,0 +1,27 @@
+use mathlib.Core.Path.{refl}
+use borrow.Author.Tests.{ne-eqb, eqb-true}
+use mathlib.Core.Path.{sym, _∙_}
+use native.Mathlib.Omega.{arith}
+use Rattle.table.specs.FixedLayouts.{hfi, ssns, security, discovery}
+use Rattle.table.proofs.Rules.{picks}
+use borrow.Author.Needs.{needs}
+use Rattle.turns.proofs.in_place.Statement.{statement}
+use Rattle.turns.proofs.in_place.Tie as tie
+use Rattle.turns.proofs.in_place.Reads as reads
+use Rattle.turns.proofs.in_place.Lts as lts
+use Rattle.turns.proofs.in_list.Reads as in-list-reads
+
+returns : tie.Need-returns
+returns c = rw (c .before .if1 .taken) (refl, λ e. omega (arith, eqb-true (c .before .before .args .s .position) 0 e))
+
+returns-2 : tie.Need-returns-2
+returns-2 c = rw (c .before .if2 .taken) (refl, λ e. omega (arith, eqb-true (c .before .before .before .args .s .position) 0 e))
+
+in-list-requires : tie.Need-in-list-requires
+in-list-requires c κs = search needs
+
+returns-3 : tie.Need-returns-3
+returns-3 c = rw (ne-eqb (c .before .before .before .args .kind) 2 (c .before .before .if1 .left), ne-eqb (c .before .before .before .args .kind) 7 (c .before .if2 .left)) (c .in-list .ensures)
+
+pub in-place-spec : {M : Type 1} → statement M
+in-place-spec = tie.close (tie.spec returns returns-2 in-list-requires returns-3)

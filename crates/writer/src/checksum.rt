@@ -1,0 +1,17 @@
+// The checksum that makes a table whole.
+use crate::stores::low;
+use crate::stores::put_u8;
+ghost use mathlib.Core.Path.{_≡_};
+ghost use mathlib.Core.List.{[], _∷_};
+ghost use Prim.Native.Nat.{_≤_};
+ghost use lib.ListN.{length, take};
+ghost use Rattle.table.specs.Bytes.{splice, checksum};
+
+// The checksum of the first `n` bytes, stored among them.
+pub fn seal(out: &mut [u8], n: usize)
+    requires { ⌜ (160 ≤ n) × (n ≤ length (now out)) ⌝ }
+    ensures { λ r. ⌜ now (out .exit) ≡ splice (now (out .entry)) 9 (checksum (take n (now (out .entry))) ∷ []) ⌝ }
+{
+    let sum = wire::sum8(&out[0..n]);
+    put_u8(out, 9, low(256 - wire::wide(sum)));
+}
