@@ -1,0 +1,25 @@
+use Rattle.table.specs.Bytes.{splice}
+use mathlib.Core.Path.{ap, _∙_}
+use Rattle.table.proofs.Rules.{picks}
+use borrow.Author.Needs.{needs}
+use Rattle.fields.proofs.extended.with_flags.Statement.{statement}
+use Rattle.fields.proofs.extended.with_flags.Tie as tie
+use Rattle.fields.proofs.extended.with_flags.Reads as reads
+use Rattle.fields.proofs.extended.with_flags.Lts as lts
+use Rattle.fields.proofs.part.four.Reads as four-reads
+use Rattle.fields.proofs.part.put_18.Reads as put-18-reads
+
+four-requires : tie.Need-four-requires
+four-requires c κs = search needs
+
+slice-aggregate-put-18 : tie.Need-slice-aggregate-put-18
+slice-aggregate-put-18 c = search needs
+
+put-18-requires : tie.Need-put-18-requires
+put-18-requires c κs = search needs
+
+returns : tie.Need-returns
+returns c = let a = c .before .before .before .before .args in c .put-18 .ensures ∙ ap (splice (a .x .bytes) 4) (c .before .before .four .ensures)
+
+pub with-flags-spec : {M : Type 1} → statement M
+with-flags-spec = tie.close (tie.spec four-requires slice-aggregate-put-18 put-18-requires returns)

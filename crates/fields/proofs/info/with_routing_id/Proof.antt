@@ -1,0 +1,26 @@
+use Rattle.table.specs.Bytes.{splice}
+use mathlib.Core.Path.{ap, _∙_}
+use Rattle.table.proofs.Rules.{picks}
+use borrow.Author.Needs.{needs}
+use Rattle.fields.proofs.info.with_routing_id.Statement.{statement}
+use Rattle.fields.proofs.info.with_routing_id.Tie as tie
+use Rattle.fields.proofs.info.with_routing_id.Reads as reads
+use Rattle.fields.proofs.info.with_routing_id.Lts as lts
+use Rattle.fields.proofs.part.four.Reads as four-reads
+use Rattle.fields.proofs.part.put_128.Reads as put-128-reads
+
+four-requires : tie.Need-four-requires
+four-requires c κs = search needs
+
+slice-aggregate-put-128 : tie.Need-slice-aggregate-put-128
+slice-aggregate-put-128 c = search needs
+
+put-128-requires : tie.Need-put-128-requires
+put-128-requires c κs = search needs
+
+returns : tie.Need-returns
+returns c = let a = c .before .before .before .before .args in c .put-128 .ensures ∙ ap (splice (a .x .bytes) 7) (c .before .before .four .ensures)
+
+pub with-routing-id-spec : {M : Type 1} → statement M
+with-routing-id-spec =
+    tie.close (tie.spec four-requires slice-aggregate-put-128 put-128-requires returns)

@@ -1,0 +1,25 @@
+use Rattle.table.specs.Bytes.{splice}
+use mathlib.Core.Path.{ap, _∙_}
+use Rattle.table.proofs.Rules.{picks}
+use borrow.Author.Needs.{needs}
+use Rattle.fields.proofs.security.with_flags.Statement.{statement}
+use Rattle.fields.proofs.security.with_flags.Tie as tie
+use Rattle.fields.proofs.security.with_flags.Reads as reads
+use Rattle.fields.proofs.security.with_flags.Lts as lts
+use Rattle.fields.proofs.part.put_64.Reads as put-64-reads
+use Rattle.fields.proofs.part.two.Reads as two-reads
+
+two-requires : tie.Need-two-requires
+two-requires c κs = search needs
+
+slice-aggregate-put-64 : tie.Need-slice-aggregate-put-64
+slice-aggregate-put-64 c = search needs
+
+put-64-requires : tie.Need-put-64-requires
+put-64-requires c κs = search needs
+
+returns : tie.Need-returns
+returns c = let a = c .before .before .before .before .args in c .put-64 .ensures ∙ ap (splice (a .x .bytes) 2) (c .before .before .two .ensures)
+
+pub with-flags-spec : {M : Type 1} → statement M
+with-flags-spec = tie.close (tie.spec two-requires slice-aggregate-put-64 put-64-requires returns)
