@@ -16,15 +16,16 @@ use Rattle.table.specs.FixedLayouts.{header, host, hfi, ssns, security, discove
 use Rattle.table.specs.Objects.{sizeOf, sizeEntry, sizeBody, spanBody, heapOf, recEntry, heapEntry, recsBody, heapBody}
 use Rattle.table.specs.Meaning.{Meaning, heapAt, heapLen, formLength, headFront, headBack, controlBytes, behind, laidOut}
 use Rattle.table.specs.Rules.{answer, firstFail}
-use Rattle.table.specs.Builder.{begin, begun, countOf, empty, isShort, opened, allUnused, roomTests, sameState, slotsRule}
+use Rattle.table.specs.Builder.{begin, begun, endOf, recordsEnd, countOf, empty, isShort, opened, allUnused, roomTests, sameState, slotsRule}
 use Rattle.laws.specs.Blank.{AllBlank, lengthsOf, fit-unused, blank-recs, blank-heap, blank-size}
+use Rattle.laws.specs.Turns.{end-is}
 use Rattle.laws.specs.Refusals.{header-free}
 use Rattle.writer.specs.declared.front.Counts.{Counts}
 use Rattle.writer.specs.Front.{headerFor, controlFor}
 use Rattle.writer.proofs.StoreLaws.{concat}
 use Rattle.writer.proofs.FrontLaws.{header-is, header-joined, header-long, control-is, control-joined, control-long}
 use Rattle.filling.proofs.FillLaws.{and-true, slots-fine}
-use Rattle.builder.specs.Begins.{headerTold, beginWith, countsOf, SmallCounts}
+use Rattle.builder.specs.Begins.{headerTold, beginWith, SmallCounts}
 
 -- ---- the empty state
 
@@ -53,15 +54,15 @@ module _ (oem : List ℕ) (c : Counts) (small : SmallCounts c) (signature : List
   blank : AllBlank (allUnused listKinds cs)
   blank = fit-unused (λ k. 0) listKinds cs refl four-small .2
 
-  span : spanBody (allUnused listKinds cs) ≡ countsOf c
-  unfolding spanBody hfi ssns security discovery
-  span = simp length-replicate
+  ends : 160 + spanBody (allUnused listKinds cs) ≡ recordsEnd (begun cs 0)
+  unfolding recordsEnd
+  ends = sym (end-is 160 (allUnused listKinds cs)) ∙ ap (endOf 160 listKinds) counted
 
-  heap-start : heapAt m ≡ 160 + countsOf c
+  heap-start : heapAt m ≡ recordsEnd (begun cs 0)
   unfolding heapAt opened
-  heap-start = ap (λ (i : ℕ). 160 + i) span
+  heap-start = ends
 
-  pub opened-length : (h : ℕ) → h ≡ 160 + countsOf c → h + length signature ≡ formLength m
+  pub opened-length : (h : ℕ) → h ≡ recordsEnd (begun cs 0) → h + length signature ≡ formLength m
   unfolding formLength heapLen opened headerTold header sizeOf sizeEntry
   opened-length h e = omega (arith, heap-start, blank-size (allUnused listKinds cs) blank)
 
@@ -73,10 +74,10 @@ module _ (oem : List ℕ) (c : Counts) (small : SmallCounts c) (signature : List
   unfolding opened
   control-opened = ap controlFor (sym counted) ∙ control-is m
 
-  behind-opened : (h : ℕ) → h ≡ 160 + countsOf c → controlFor cs ++ (replicate (h - 128) 0 ++ (signature ++ [])) ≡ behind m
+  behind-opened : (h : ℕ) → h ≡ recordsEnd (begun cs 0) → controlFor cs ++ (replicate (h - 128) 0 ++ (signature ++ [])) ≡ behind m
   unfolding behind opened headerTold header host recEntry heapOf heapEntry
   behind-opened h e =
-      let n : h - 128 ≡ 32 + spanBody (allUnused listKinds cs) = omega (arith, span) in
+      let n : h - 128 ≡ 32 + spanBody (allUnused listKinds cs) = omega (arith, ends) in
       let z : List ℕ = signature ++ [] in
       let zeros : replicate {A = ℕ} (h - 128) 0 ≡ replicate 32 0 ++ replicate (spanBody (allUnused listKinds cs)) 0 =
       ap (λ (i : ℕ). replicate i 0) n ∙ sym (replicate-append-replicate {A = ℕ} 32 (spanBody (allUnused listKinds cs)) 0) in
@@ -87,7 +88,7 @@ module _ (oem : List ℕ) (c : Counts) (small : SmallCounts c) (signature : List
       (ap (λ (x : List ℕ). x ++ z) zeros ∙ append-assoc (replicate 32 0) (replicate (spanBody (allUnused listKinds cs)) 0) z
       ∙ ap (λ (x : List ℕ). replicate 32 0 ++ x) (ap₂ (λ (x y : List ℕ). x ++ y) recs tail))
 
-  pub opened-laid : (h : ℕ) → h ≡ 160 + countsOf c
+  pub opened-laid : (h : ℕ) → h ≡ recordsEnd (begun cs 0)
       → concat (headerFor 0 oem h 0 (length signature) ∷ controlFor cs ∷ replicate (h - 128) 0 ∷ signature ∷ []) ≡ laidOut m 0 0 0
   unfolding laidOut
   opened-laid h e =

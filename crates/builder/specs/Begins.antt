@@ -1,6 +1,6 @@
 -- The first call, by what it is told: header bytes 10 to 35, counts and the driver signature. Definitions only.
 use mathlib.Core.List.{List}
-use Prim.Native.Nat.{ℕ, _+_, _*_, _<_}
+use Prim.Native.Nat.{ℕ, _<_}
 use Rattle.table.specs.declared.State.{State}
 use Rattle.table.specs.Layout.{Slots, nil, bytes}
 use Rattle.table.specs.FixedLayouts.{header}
@@ -13,10 +13,6 @@ headerTold signature = bytes signature nil
 
 unfoldable pub beginWith : State → (b oem cs signature : List ℕ) → Outcome
 beginWith s b oem cs signature = begin s b oem cs (headerTold signature)
-
--- the record bytes of the lists
-abbrev pub countsOf : Counts → ℕ
-countsOf c = c .hfi * 32 + (c .ssns * 128 + (c .security * 64 + (c .discovery * 32 + 0)))
 
 -- counts are bytes
 abbrev pub SmallCounts : Counts → Type 0

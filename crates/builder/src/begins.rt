@@ -1,13 +1,6 @@
 // The beginning of a build: all that is known before the records.
 use room::room_fault;
 use steps::judging::refused;
-use table::Answer;
-use table::Control;
-use table::Discovery;
-use table::Hfi;
-use table::Host;
-use table::Security;
-use table::Ssns;
 use table::State;
 use table::Step;
 use writer::front::Counts;
@@ -19,9 +12,9 @@ ghost use mathlib.Core.List.{[], _∷_};
 ghost use Prim.Native.Nat.{_+_, _≤_};
 ghost use lib.ListN.{length};
 ghost use Rattle.table.specs.Bytes.{splice};
-ghost use Rattle.table.specs.Meaning.{heapAt, formLength, laidOut};
-ghost use Rattle.table.specs.Builder.{opened, begun, sameState, empty};
-ghost use Rattle.builder.specs.Begins.{headerTold, beginWith, countsOf, SmallCounts};
+ghost use Rattle.table.specs.Meaning.{laidOut};
+ghost use Rattle.table.specs.Builder.{opened, begun, recordsEnd, sameState, empty};
+ghost use Rattle.builder.specs.Begins.{headerTold, beginWith, SmallCounts};
 
 // Whether nothing is begun.
 fn is_empty(s: State) -> bool
@@ -48,21 +41,9 @@ fn is_empty(s: State) -> bool
     s.used == 0
 }
 
-// Where the heap starts.
-fn heap_start(c: Counts) -> usize
-    ensures { λ r. ⌜ (r ≡ 160 + countsOf c) × (r ≤ 65440) × SmallCounts c ⌝ }
-{
-    Control::SIZE
-        + Host::SIZE
-        + (c.hfi as usize) * Hfi::SIZE
-        + (c.ssns as usize) * Ssns::SIZE
-        + (c.security as usize) * Security::SIZE
-        + (c.discovery as usize) * Discovery::SIZE
-}
-
 // The table of which nothing but this is told; `h` is where its heap starts.
 fn lay_opened(out: &mut [u8], oem: [u8; 26], c: Counts, h: usize, signature: &[u8])
-    requires { ⌜ (h ≡ 160 + countsOf c) × (h + length (now signature) ≤ length (now out)) × SmallCounts c ⌝ }
+    requires { ⌜ (h ≡ recordsEnd (begun (c .hfi ∷ c .ssns ∷ c .security ∷ c .discovery ∷ []) 0)) × (160 ≤ h) × (h + length (now signature) ≤ length (now out)) × SmallCounts c ⌝ }
     ensures { λ r. ⌜ now (out .exit) ≡ splice (now (out .entry)) 0 (laidOut (opened oem (c .hfi ∷ c .ssns ∷ c .security ∷ c .discovery ∷ []) (headerTold (now (signature .entry)))) 0 0 0) ⌝ }
 {
     write_front(out, &oem, c, 0, h, 0, signature.len());
@@ -71,7 +52,7 @@ fn lay_opened(out: &mut [u8], oem: [u8; 26], c: Counts, h: usize, signature: &[u
 }
 
 fn begun_state(c: Counts, used: usize) -> State
-    ensures { λ r. ⌜ r ≡ begun (c .hfi ∷ c .ssns ∷ c .security ∷ c .discovery ∷ []) used ⌝ }
+    ensures { λ r. ⌜ (r ≡ begun (c .hfi ∷ c .ssns ∷ c .security ∷ c .discovery ∷ []) used) × SmallCounts c ⌝ }
 {
     State {
         turn: 2,
@@ -94,7 +75,8 @@ pub fn begin(out: &mut [u8], s: State, oem: [u8; 26], c: Counts, signature: &[u8
     if signature.len() > 65535 {
         return refused(table::refuse(11, 0, 0), s);
     }
-    let h = heap_start(c);
+    // The heap starts where the records end, whatever will be used.
+    let h = turns::records_end(begun_state(c, 0));
     let n = h + signature.len();
     let f = room_fault(n, out.len());
     if f.number != 0 {

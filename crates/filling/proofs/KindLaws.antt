@@ -12,7 +12,7 @@ use Rattle.table.specs.declared.Need.the-variants.{Ignored, Optional, Required}
 use Rattle.table.specs.declared.Answer.{Answer}
 use Rattle.table.specs.declared.State.{State}
 use Rattle.table.specs.Bytes.{pick, num, bits, apply, splice, padded}
-use Rattle.table.specs.Layout.{Slots, nil, bytes, gone, rec, offsets}
+use Rattle.table.specs.Layout.{Slots, nest, none, nil, bytes, gone, rec, offsets}
 use Rattle.table.specs.FixedLayouts.{layoutOf, whenSet, host, hfi, ssns, security, discovery, info, extended}
 use Rattle.table.specs.Objects.{under, sizeOf, heapOf, patched, stores, refFor}
 use Rattle.table.specs.Reads.{needAt}
@@ -278,9 +278,26 @@ module _ (s : State) (buf x b address service others nqn e c path : List ℕ) (n
         at : (i : ℕ) → i < k → getD ps i 0 ≡ getD (10 ∷ 16 ∷ 48 ∷ 54 ∷ 60 ∷ []) i 0
         at i j = offset-at ps (10 ∷ 16 ∷ 48 ∷ 54 ∷ 60 ∷ []) k i el j
 
+        -- the four objects before the extended info
+        lead : Slots (nest 60 (whenSet 3 2 4 4) (extended .shape) (extended .refs) none) → Slots (ssns .refs)
+        lead ss = bytes address (bytes service (bytes others (bytes nqn ss)))
+
+        led : (ss : Slots (nest 60 (whenSet 3 2 4 4) (extended .shape) (extended .refs) none)) → Told ss ps ns ws 4 → Told (lead ss) ps ns ws 0
+        led ss t = (
+          at 0 (omega arith),
+          length-at ns _ 0 en,
+          length-at ws _ 0 ew,
+          (
+            at 1 (omega arith),
+            length-at ns _ 1 en,
+            length-at ws _ 1 ew,
+            (at 2 (omega arith), length-at ns _ 2 en, length-at ws _ 2 ew, (at 3 (omega arith), length-at ns _ 3 en, length-at ws _ 3 ew, t)),
+          ),
+        )
+
         -- what is told where flag 4 is f
         under₄ : Bool → Slots (ssns .refs)
-        under₄ f = bytes address (bytes service (bytes others (bytes nqn (under (pick f Ignored Required) (gone nil) (rec img₉ (pathTold path) nil)))))
+        under₄ f = lead (under (pick f Ignored Required) (gone nil) (rec img₉ (pathTold path) nil))
 
         facts : (f : Bool) → off ≡ f → Told (under₄ f) ps ns ws 0 × (many (under₄ f) ≡ k) × (front + m + length own ≡ sizeOf (under₄ f))
             × (concat (address ∷ service ∷ others ∷ nqn ∷ v ∷ own ∷ []) ≡ heapOf (s .used) (under₄ f))
@@ -290,27 +307,7 @@ module _ (s : State) (buf x b address service others nqn e c path : List ℕ) (n
             let o₀ : own ≡ [] = eo ∙ ap (λ (n : Need). under n [] path) n₀ in
             let v₀ : v ≡ [] = ev ∙ ap (λ (i : ℕ). take i (padded 128 (splice (imageIn extended c 0) 12 (refNum (s .used + front + m) (length own))))) m₀ in
             let l₀ : length own ≡ 0 = ap length o₀ in (
-              (
-                at 0 (omega arith),
-                length-at ns _ 0 en,
-                length-at ws _ 0 ew,
-                (
-                  at 1 (omega arith),
-                  length-at ns _ 1 en,
-                  length-at ws _ 1 ew,
-                  (
-                    at 2 (omega arith),
-                    length-at ns _ 2 en,
-                    length-at ws _ 2 ew,
-                    (
-                      at 3 (omega arith),
-                      length-at ns _ 3 en,
-                      length-at ws _ 3 ew,
-                      (at 4 (omega arith), length-at ns _ 4 en ∙ m₀, length-at ws _ 4 ew ∙ omega arith, tt),
-                    ),
-                  ),
-                ),
-              ),
+              led (gone nil) (at 4 (omega arith), length-at ns _ 4 en ∙ m₀, length-at ws _ 4 ew ∙ omega arith, tt),
               sym ek,
               omega arith,
               ap₂ (λ (y r : List ℕ). address ++ (service ++ (others ++ (nqn ++ (y ++ (r ++ [])))))) v₀ o₀,
@@ -325,27 +322,7 @@ module _ (s : State) (buf x b address service others nqn e c path : List ℕ) (n
             held-piece (imageIn extended c 0) own 12 (s .used + front + m) m v ev (m₀ ∙ sym length₉) (omega (arith, length₉))
             ∙ ap (λ (y : List ℕ). splice y 12 (refFor (s .used + front + m) own)) told₉
             ∙ ap₂ (λ (i : ℕ) (y : List ℕ). splice img₉ 12 (refFor i y)) h₀ o₀ in (
-              (
-                at 0 (omega arith),
-                length-at ns _ 0 en,
-                length-at ws _ 0 ew,
-                (
-                  at 1 (omega arith),
-                  length-at ns _ 1 en,
-                  length-at ws _ 1 ew,
-                  (
-                    at 2 (omega arith),
-                    length-at ns _ 2 en,
-                    length-at ws _ 2 ew,
-                    (
-                      at 3 (omega arith),
-                      length-at ns _ 3 en,
-                      length-at ws _ 3 ew,
-                      (at 4 (omega arith), length-at ns _ 4 en ∙ m₀, lit< tt, length-at ws _ 4 ew ∙ omega arith, tt),
-                    ),
-                  ),
-                ),
-              ),
+              led (rec img₉ (pathTold path) nil) (at 4 (omega arith), length-at ns _ 4 en ∙ m₀, lit< tt, length-at ws _ 4 ew ∙ omega arith, tt),
               sym ek,
               omega arith,
               ap₂ (λ (y r : List ℕ). address ++ (service ++ (others ++ (nqn ++ (y ++ (r ++ [])))))) w o₀
