@@ -1,6 +1,6 @@
 # Wickgarland: a verified library for the NVMe boot firmware table (NBFT).
 #
-#   make run      check a sample table, show what it says, and rewrite it
+#   make run      check a sample table, show what it says, rewrite it, and build it from its description
 #   make test     every test: the second program, its vectors, the library beside it, and all proofs
 #   make library  the static library, target/staticlib/libnbft.a (include/nbft.h declares its functions)
 #   make soak     the library beside the second program on a million tables, and between closed pages
@@ -42,7 +42,7 @@ endif
 
 # The programs are proved, then compiled: the first run takes some minutes.
 run:
-	rt check nbft_check nbft_show nbft_rewrite
+	rt check nbft_check nbft_show nbft_rewrite nbft_build
 	@echo "nbft_check samples/machine.nbft: number, kind and position, and what they mean"
 	@$(BIN)/nbft_check samples/machine.nbft
 	@echo "nbft_show samples/machine.nbft"
@@ -50,6 +50,11 @@ run:
 	@echo "nbft_rewrite samples/machine.nbft target/machine.form: its one form, which says the same"
 	@$(BIN)/nbft_rewrite samples/machine.nbft target/machine.form
 	@$(BIN)/nbft_rewrite --same samples/machine.nbft target/machine.form
+	@echo "nbft_build samples/machine.txt target/machine.built: the table built from its description, which says the same and is shown the same"
+	@$(BIN)/nbft_build samples/machine.txt target/machine.built
+	@$(BIN)/nbft_rewrite --same samples/machine.nbft target/machine.built
+	@$(BIN)/nbft_show samples/machine.nbft > target/machine.shown
+	@$(BIN)/nbft_show target/machine.built | diff target/machine.shown - && echo "shown the same"
 
 # All proofs, and beside them what is compared: where the one leaves a core idle the other has it, and if either fails so does the test.
 # The comparisons take a fraction of the proofs' time, so that the last line is that of `rt ci`: 'N passed, M failed'.

@@ -28,7 +28,7 @@ pub fn complain(what: &[u8], why: &[u8]) {
 
 // Whether the file ends where reading stopped. The count of bytes alone does not tell an end from
 // a failed read or a full buffer; one more read does.
-fn ends_here(fd: i32, path: &[u8]) -> bool {
+fn ends_here(fd: i32, path: &[u8], most: usize) -> bool {
     let mut next = [0u8; 1];
     let got = libc::read(fd, &mut next);
     if got < 0 {
@@ -37,7 +37,7 @@ fn ends_here(fd: i32, path: &[u8]) -> bool {
     }
     if got > 0 {
         complain(path, b": more bytes than the ");
-        io::print_decimal(STDERR_FILENO, MOST as u64);
+        io::print_decimal(STDERR_FILENO, most as u64);
         io::write_all(STDERR_FILENO, b" that are read\n");
         return false;
     }
@@ -48,7 +48,7 @@ fn read_open(fd: i32, path: &[u8], into: &mut [u8]) -> Got
     ensures { λ r. ⌜ Counts (r .len) (now (into .exit)) ⌝ }
 {
     let n = io::read_full(fd, into);
-    let whole = ends_here(fd, path);
+    let whole = ends_here(fd, path, into.len());
     Got {
         whole: whole,
         len: n,

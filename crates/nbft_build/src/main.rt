@@ -1,0 +1,68 @@
+// `nbft_build SPEC OUT`: a table built from its description, and its length. Where the description is wrong, a line on standard error says
+// which of its lines and why; where the builder refuses what it says, number, kind and position too, and the words.
+use description::build;
+use libc::STDERR_FILENO;
+use sections::wrongs::NOTHING;
+use sections::wrongs::REFUSED;
+use sections::wrongs::words_of;
+use text::Text;
+use tool::complain;
+ghost use Rattle.io.specs.Counts.{Counts};
+
+// A description has comments, and four characters for a byte that is escaped.
+const LONGEST: usize = 300000;
+
+fn complain_text(t: Text)
+    requires { ⌜ Counts (t .len) (t .bytes) ⌝ }
+{
+    let len = t.len;
+    let bytes = t.bytes;
+    complain(&bytes[..len], b"\n");
+}
+
+// As compilers say it: the file, the line, and what is wrong there.
+fn print_wrong(argument: usize, wrong: u8, line: usize) {
+    let mut path = io::buffer();
+    let n = os::arg(argument, &mut path);
+    complain(&path[..n], b":");
+    io::print_decimal(STDERR_FILENO, line as u64);
+    complain(b": ", b"");
+    complain_text(words_of(wrong));
+}
+
+fn build_file(from: usize, to: usize) {
+    let mut spec = [0u8; LONGEST];
+    let mut room = io::large_buffer();
+    let mut out = io::large_buffer();
+    let got = tool::read_file(from, &mut spec);
+    let n = got.len;
+    if !got.whole {
+        return;
+    }
+    let built = build(&spec[..n], &mut room, &mut out);
+    if built.wrong == NOTHING {
+        write_table(to, &out, built.len);
+        return;
+    }
+    print_wrong(from, built.wrong, built.line);
+    if built.wrong == REFUSED {
+        tool::print_answer(built.answer);
+    }
+}
+
+fn write_table(to: usize, out: &[u8], len: usize) {
+    if len <= out.len() {
+        if tool::write_file(to, &out[0..len]) {
+            tool::print(text::decimal(len as u64));
+            tool::print_bytes(b" bytes\n");
+        }
+    }
+}
+
+fn main() {
+    if os::arg_count() == 3 {
+        build_file(1, 2);
+        return;
+    }
+    complain(b"usage: nbft_build SPEC OUT", b"\n");
+}
