@@ -3,15 +3,20 @@
 #   make run      check a sample table, show what it says, rewrite it, and build it from its description
 #   make test     every test: the second program, its vectors, the library beside it, and all proofs
 #   make library  the static library, target/staticlib/libnbft.a (include/nbft.h declares its functions)
-#   make soak     the library beside the second program on a million tables, and between closed pages
-#   make bench    time of a check and of a rewrite, beside the second program's and a bare byte sum's
+#   make lib      library, header and nbft.pc for pkg-config, under build/
+#   make install  the same under PREFIX, /usr/local if none is given (DESTDIR goes before it); after `make lib`
+#   make examples  the examples in C compiled, run, and held to what they are expected to print
+#   make bindings  the Rust crate over the library, bindings/rust, with its tests
+#   make soak     the library beside the second program for ten minutes; SECONDS=60 or CASES=1000000 for as long, SEED= for the same again
+#   make bench    time of a check, a read, a rewrite and a build, beside the second program's and a bare byte sum's
+#   make plot     time by the table's length, drawn to docs/performance.png (needs python3)
 #   make vectors  write the vectors, sample tables and cases anew
 #   make clean    remove what the others made
 
 # Without make's flags, since cargo cannot reach the job slots that they name and warns of it.
 CARGO  := MAKEFLAGS= cargo
 SECOND := second/target/release/second
-CASES  := crates/agreement/specs
+AGREED := crates/agreement/specs
 
 # The library and the programs are x86-64 code. On another processor what links them is compiled for x86-64 too, by the compiler that
 # .ci/emulator installs, and an emulator runs it.
@@ -19,12 +24,18 @@ X86 := x86_64-unknown-linux-gnu
 ifeq ($(shell uname -m),x86_64)
 RUN     :=
 LINKING := $(CARGO)
+X86_CC  := $(CC)
 else
 RUN     := qemu-x86_64
+X86_CC  := x86_64-linux-gnu-gcc
 LINKING := PATH=/usr/bin:$$PATH CARGO_TARGET_X86_64_UNKNOWN_LINUX_GNU_LINKER=x86_64-linux-gnu-gcc $(CARGO)
 endif
+BINDINGS := RUSTFLAGS=-Dwarnings RUSTDOCFLAGS=-Dwarnings $(if $(RUN),CARGO_TARGET_X86_64_UNKNOWN_LINUX_GNU_RUNNER=$(RUN)) $(LINKING)
 BIN     := $(RUN) target/bin
+LIBRARY := $(or $(NBFT_LIB),target/staticlib)
 LINKED  := $(RUN) second/linked/target/$(X86)/release/linked
+
+PREFIX ?= /usr/local
 
 # Times under an emulator say nothing: on another processor the benchmark links the library's module compiled for that one.
 ifeq ($(RUN),)
@@ -37,8 +48,8 @@ BENCHED := NBFT_LIB=$(CURDIR)/target/native $(CARGO) build
 BENCH   := bench/target/release/bench
 endif
 
-.PHONY: run test proofs compared second-tests comparisons compared-checks compared-reads compared-rewrites compared-builds library soak bench vectors clean \
-        second linked
+.PHONY: run test proofs compared second-tests comparisons compared-checks compared-reads compared-rewrites compared-builds library lib install \
+        examples bindings soak bench benched plot vectors clean second linked
 
 # The programs are proved, then compiled: the first run takes some minutes.
 run:
@@ -77,10 +88,10 @@ second-tests: second
 	cd second && $(CARGO) test --offline --quiet
 	$(SECOND) vectors check second/vectors
 	$(SECOND) samples check samples
-	$(SECOND) cases check $(CASES)
+	$(SECOND) cases check $(AGREED)
 
-# The library beside the second program.
-comparisons: compared-checks compared-reads compared-rewrites compared-builds
+# The library beside the second program, and as its users meet it.
+comparisons: compared-checks compared-reads compared-rewrites compared-builds examples bindings
 
 compared-checks: linked
 	$(LINKED) compare 40000 1
@@ -99,22 +110,50 @@ library:
 	rt check nbft
 	rt staticlib nbft
 
-soak: linked
-	$(LINKED) compare 1000000 2026
-	$(LINKED) reads 10000 2028
-	$(LINKED) rewrite 100000 2029
-	$(LINKED) build 50000 2030
-	$(LINKED) guard 200000 2027
+# The folder build/ is a prefix like any other: what stands there can be used before it is installed. All that works with a library
+# takes the one in the folder NBFT_LIB, if that is given.
+lib: $(if $(NBFT_LIB),,library)
+	install -d build/lib/pkgconfig build/include
+	install -m 644 $(LIBRARY)/libnbft.a build/lib
+	install -m 644 include/nbft.h build/include
+	sed 's|@PREFIX@|$(CURDIR)/build|' nbft.pc.in >build/lib/pkgconfig/nbft.pc
 
-bench: $(if $(RUN),library,linked)
+# It proves and compiles nothing, so that it can be run by another user than the one who made the library.
+install:
+	@test -f build/lib/libnbft.a || { echo "make lib comes first" >&2; exit 1; }
+	install -d $(DESTDIR)$(PREFIX)/lib/pkgconfig $(DESTDIR)$(PREFIX)/include
+	install -m 644 build/lib/libnbft.a $(DESTDIR)$(PREFIX)/lib
+	install -m 644 build/include/nbft.h $(DESTDIR)$(PREFIX)/include
+	sed 's|@PREFIX@|$(PREFIX)|' nbft.pc.in >$(DESTDIR)$(PREFIX)/lib/pkgconfig/nbft.pc
+
+examples: $(if $(NBFT_LIB),,library)
+	CC="$(X86_CC)" RUN="$(RUN)" examples/run $(LIBRARY)
+
+# A warning fails it. The tests run code that the library is linked to, so they too are x86-64 code.
+bindings: $(if $(NBFT_LIB),,library)
+	cd bindings/rust && $(BINDINGS) test --target $(X86) --offline --quiet
+	cd bindings/rust && $(BINDINGS) doc --target $(X86) --offline --quiet --no-deps
+
+# As many cases as CASES says, or else as many as SECONDS allow; from SEED on, or else from a fresh seed.
+SECONDS = 600
+soak: linked
+	$(LINKED) soak $(if $(CASES),cases $(CASES),seconds $(SECONDS)) $(SEED)
+
+bench: benched
+	$(BENCH)
+
+plot: benched
+	$(BENCH) series > bench/target/series
+	bench/plot bench/target/series docs/performance.png
+
+benched: $(if $(RUN),library,linked)
 	@$(NATIVE)
 	@cd bench && $(BENCHED) --offline --quiet --release
-	$(BENCH)
 
 vectors: second
 	$(SECOND) vectors write second/vectors
 	$(SECOND) samples write samples
-	$(SECOND) cases write $(CASES)
+	$(SECOND) cases write $(AGREED)
 
 second:
 	@cd second && $(CARGO) build --offline --quiet --release
@@ -124,4 +163,4 @@ linked: $(if $(NBFT_LIB),,library)
 	@cd second/linked && $(LINKING) build --target $(X86) --offline --quiet --release
 
 clean:
-	rm -rf target build second/target second/linked/target bench/target
+	rm -rf target build second/target second/linked/target bench/target bindings/rust/target

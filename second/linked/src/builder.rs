@@ -4,6 +4,7 @@ use crate::builds::{told, Outcome};
 use crate::guard::Guarded;
 use crate::unpack;
 use second::retell::Call;
+use second::Answer;
 use std::ptr::{null, NonNull};
 
 /// As many bytes as the function always takes there.
@@ -81,21 +82,21 @@ extern "C" {
 }
 
 /// State, output and what is told, as they are lent to one call.
-struct Lent {
+struct Lent<'a> {
     state: *mut u8,
     out: (*mut u8, usize),
-    told: Vec<(*const u8, usize)>,
+    told: &'a [(*const u8, usize)],
 }
 
-impl Lent {
+impl Lent<'_> {
     /// Makes the call.
     ///
     /// # Safety
     ///
     /// Every pointer has as many bytes as its length says, `state` has 16, and `told` are the call's parts in order.
     unsafe fn make(&self, call: &Call) -> u32 {
-        let Lent { state, out: (out, room), ref told } = *self;
-        match (call, told.as_slice()) {
+        let Lent { state, out: (out, room), told } = *self;
+        match (call, told) {
             (Call::Begin(..), &[(header, _), (counts, _), (object, length)]) => {
                 nbft_begin(state, out, room, header, counts, object, length)
             }
@@ -147,11 +148,8 @@ pub fn by_library(call: &Call, state: [u8; 16], buffer: &[u8]) -> Result<Outcome
     let (mut state, mut out) = (with_margins(&state), with_margins(buffer));
     let copies: Vec<Vec<u8>> = told(call).iter().map(|part| part.to_vec()).collect();
     let start = if buffer.is_empty() { nothing.cast_mut() } else { out[MARGIN..].as_mut_ptr() };
-    let lent = Lent {
-        state: state[MARGIN..].as_mut_ptr(),
-        out: (start, buffer.len()),
-        told: copies.iter().map(|copy| (place(copy), copy.len())).collect(),
-    };
+    let parts: Vec<(*const u8, usize)> = copies.iter().map(|copy| (place(copy), copy.len())).collect();
+    let lent = Lent { state: state[MARGIN..].as_mut_ptr(), out: (start, buffer.len()), told: &parts };
     // SAFETY: pointers and lengths are those of vectors that nothing else holds, or no byte is lent.
     let answer = unpack(unsafe { lent.make(call) });
     if told(call) != copies {
@@ -191,9 +189,39 @@ fn call_in_pages(
     let (state, out) = (place(state_pages, &state), place(out_pages, buffer));
     let parts = told(call);
     let pointers = parts.iter().zip(told_pages).map(|(part, pages)| (place(pages, part).as_ptr(), part.len()));
-    let lent = Lent { state: state.as_mut_ptr(), out: (out.as_mut_ptr(), out.len()), told: pointers.collect() };
+    let pointers: Vec<(*const u8, usize)> = pointers.collect();
+    let lent = Lent { state: state.as_mut_ptr(), out: (out.as_mut_ptr(), out.len()), told: &pointers };
     // SAFETY: each pointer and its length are those of a part of pages of its own, which stay open.
     let answer = unpack(unsafe { lent.make(call) });
     let state = state.to_vec().try_into().expect("a state has sixteen bytes");
     Outcome { answer, state, buffer: out.to_vec() }
+}
+
+/// A call with the places and lengths of what it is told.
+type Placed<'a> = (&'a Call, Vec<(*const u8, usize)>);
+
+/// Calls that can be made over and over with nothing copied.
+pub struct Run<'a> {
+    calls: Vec<Placed<'a>>,
+}
+
+impl<'a> Run<'a> {
+    pub fn of(calls: &'a [Call]) -> Run<'a> {
+        let placed = |call| (call, told(call).iter().map(|part| (part.as_ptr(), part.len())).collect());
+        Run { calls: calls.iter().map(placed).collect() }
+    }
+
+    /// All calls from the empty state on, until one is refused.
+    pub fn make(&self, out: &mut [u8]) -> (Answer, [u8; 16]) {
+        let mut state = [0; 16];
+        for (call, told) in &self.calls {
+            let lent = Lent { state: state.as_mut_ptr(), out: (out.as_mut_ptr(), out.len()), told };
+            // SAFETY: the parts stand in calls that are borrowed as long as this value lives.
+            let answer = unpack(unsafe { lent.make(call) });
+            if !answer.is_done() {
+                return (answer, state);
+            }
+        }
+        (Answer::DONE, state)
+    }
 }

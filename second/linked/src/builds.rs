@@ -1,12 +1,13 @@
 //! Tables built by both programs, call by call. After every call the answer, the state and every byte of the buffer
 //! are compared. Buffers are full of noise, so that a byte shows whether it was written.
 
+use crate::cases::each;
 use crate::hex;
 use crate::mischief::any_call;
+use crate::tally::Tally;
 use second::random::Random;
 use second::retell::Call;
 use second::{Answer, State};
-use std::collections::BTreeMap;
 
 /// What a call gives, with the state and every byte of the buffer when it has ended.
 #[derive(PartialEq, Eq)]
@@ -54,27 +55,37 @@ fn by_second(call: &Call, state: State, buffer: &[u8]) -> Outcome {
     Outcome { answer, state: state.to_bytes(), buffer }
 }
 
-/// A run whose answers are known, then `count` runs of every sort. `make` is the library's call, of what is told, the
-/// state's bytes and the buffer's.
-pub fn compare(
-    count: u64,
-    seed: u64,
-    make: impl FnMut(&Call, [u8; 16], &[u8]) -> Result<Outcome, String>,
-) -> Result<String, String> {
-    let mut random = Random::seeded(seed);
-    let noise = random.bytes(LONGEST_BUFFER);
-    let mut comparison = Comparison { make, random, noise, tally: Tally::default() };
-    comparison.full_lists()?;
-    for _ in 0..count {
-        comparison.any_run()?;
-    }
-    Ok(comparison.tally.told(1 + count, seed))
-}
-
-/// The library's call.
+/// The library's call, of what is told, the state's bytes and the buffer's.
 pub trait Make: FnMut(&Call, [u8; 16], &[u8]) -> Result<Outcome, String> {}
 
 impl<F: FnMut(&Call, [u8; 16], &[u8]) -> Result<Outcome, String>> Make for F {}
+
+/// The case of a tally that a table was finished.
+const FINISHED: &str = "tables finished";
+
+/// A run whose answers are known, then `count` runs of every sort.
+pub fn compare(count: u64, seed: u64, mut make: impl Make) -> Result<String, String> {
+    let mut tally = Tally::default();
+    known(&mut tally, &mut make)?;
+    generated(count, seed, &mut tally, make)?;
+    Ok(format!(
+        "{} runs, {} calls agree (seed {seed}), {} tables finished; by number {}; by call {}",
+        1 + count,
+        tally.calls(),
+        tally.cases(FINISHED),
+        tally.by_number(),
+        tally.by_call()
+    ))
+}
+
+pub fn known(tally: &mut Tally, make: impl Make) -> Result<(), String> {
+    Comparison::seeded(0, tally, make).full_lists()
+}
+
+pub fn generated(count: u64, seed: u64, tally: &mut Tally, make: impl Make) -> Result<(), String> {
+    let mut comparison = Comparison::seeded(seed, tally, make);
+    each(count, seed, || comparison.any_run())
+}
 
 /// What a caller keeps between two calls.
 pub struct Kept {
@@ -83,18 +94,24 @@ pub struct Kept {
 }
 
 /// Both builders, side by side through many runs.
-pub struct Comparison<F> {
+pub struct Comparison<'t, F> {
     make: F,
     pub random: Random,
     /// What buffers hold before they are lent is cut from this.
     noise: Vec<u8>,
-    tally: Tally,
+    tally: &'t mut Tally,
 }
 
 /// No buffer is longer.
 pub const LONGEST_BUFFER: usize = 70_000;
 
-impl<F: Make> Comparison<F> {
+impl<'t, F: Make> Comparison<'t, F> {
+    fn seeded(seed: u64, tally: &'t mut Tally, make: F) -> Comparison<'t, F> {
+        let mut random = Random::seeded(seed);
+        let noise = random.bytes(LONGEST_BUFFER);
+        Comparison { make, random, noise, tally }
+    }
+
     /// Both programs make the call; what they leave is kept.
     pub fn call(&mut self, kept: &mut Kept, call: &Call) -> Result<Answer, String> {
         let before = kept.state.to_bytes();
@@ -104,7 +121,7 @@ impl<F: Make> Comparison<F> {
             .map_err(|difference| format!("{difference}, {}", shown(call, kept)))?;
         kept.state = State::from_bytes(expected.state);
         kept.buffer = expected.buffer;
-        self.tally.add(call, expected.answer);
+        self.tally.add(name(call), expected.answer);
         if matches!(call, Call::Finish) && expected.answer.is_done() {
             self.finished(kept)?;
         }
@@ -117,7 +134,7 @@ impl<F: Make> Comparison<F> {
         if !answer.is_done() {
             return Err(format!("a finished table is refused: {answer:?}, on\n{}", hex(&kept.buffer)));
         }
-        self.tally.finished += 1;
+        self.tally.case(FINISHED);
         let late = any_call(&mut self.random);
         self.call(kept, &late).map(|_| ())
     }
@@ -164,34 +181,6 @@ fn shown(call: &Call, kept: &Kept) -> String {
     format!("for {} {} in state {state}, on\n{buffer}", name(call), parts.join(" "))
 }
 
-/// What was compared.
-#[derive(Default)]
-struct Tally {
-    calls: u64,
-    finished: u64,
-    by_number: BTreeMap<u8, u64>,
-    by_call: BTreeMap<&'static str, u64>,
-}
-
-impl Tally {
-    fn add(&mut self, call: &Call, answer: Answer) {
-        self.calls += 1;
-        *self.by_number.entry(answer.number).or_default() += 1;
-        *self.by_call.entry(name(call)).or_default() += 1;
-    }
-
-    fn told(&self, runs: u64, seed: u64) -> String {
-        let Tally { calls, finished, .. } = self;
-        let by_number: Vec<String> = self.by_number.iter().map(|(number, times)| format!("{number}: {times}")).collect();
-        let by_call: Vec<String> = self.by_call.iter().map(|(call, times)| format!("{call}: {times}")).collect();
-        format!(
-            "{runs} runs, {calls} calls agree (seed {seed}), {finished} tables finished; by number {}; by call {}",
-            by_number.join(", "),
-            by_call.join(", ")
-        )
-    }
-}
-
 #[cfg(test)]
 mod tests {
     use super::*;
@@ -228,7 +217,7 @@ mod tests {
                 }
                 Ok(outcome)
             });
-            assert!(compared.is_err_and(|difference| difference.starts_with("the library gives")));
+            assert!(compared.is_err_and(|difference| difference.contains("the library gives")));
         }
     }
 }

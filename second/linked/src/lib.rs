@@ -2,13 +2,17 @@
 
 pub mod builder;
 pub mod builds;
+pub mod cases;
+pub mod checks;
 pub mod guard;
 pub mod long_forms;
 pub mod mischief;
 pub mod reads;
 pub mod rewrites;
 pub mod runs;
+pub mod soak;
 pub mod tables;
+pub mod tally;
 
 use second::{Answer, Field};
 use std::ops::Range;

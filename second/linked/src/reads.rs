@@ -1,5 +1,10 @@
 //! Every kind, position and offset of a table, read by both programs.
 
+use crate::cases::each;
+use crate::guard::Guarded;
+use crate::tally::Tally;
+use crate::{hex, tables};
+use second::random::Random;
 use second::read::Reading;
 use second::{Answer, Field};
 use std::fmt::Debug;
@@ -13,21 +18,57 @@ const OFFSETS: u32 = 131;
 /// Kind, position and offset.
 type At = (u8, u16, u32);
 
-/// How many reads agree; else the first that does not, in words.
-pub fn compare(table: &[u8], lent: &[u8]) -> Result<u64, String> {
+/// The library's reads of a table, each compared and counted.
+pub trait Read: FnMut(&[u8], &mut Tally) -> Result<(), String> {}
+
+impl<F: FnMut(&[u8], &mut Tally) -> Result<(), String>> Read for F {}
+
+pub fn by_library(table: &[u8], tally: &mut Tally) -> Result<(), String> {
+    all(table, table, tally)
+}
+
+/// The same twice: the table ends at, then starts behind, a page that nothing may touch.
+pub fn by_library_in_pages(pages: &mut Guarded, table: &[u8], tally: &mut Tally) -> Result<(), String> {
+    all(table, pages.ending(table), tally)?;
+    all(table, pages.starting(table), tally)
+}
+
+pub fn compare(count: u64, seed: u64, read: impl Read) -> Result<String, String> {
+    let mut tally = Tally::default();
+    generated(count, seed, &mut tally, read)?;
+    Ok(format!("{} reads of {count} tables agree (seed {seed})", tally.calls()))
+}
+
+/// Good tables in many layouts, and one in four of any sort.
+pub fn generated(count: u64, seed: u64, tally: &mut Tally, mut read: impl Read) -> Result<(), String> {
+    let mut random = Random::seeded(seed);
+    each(count, seed, || {
+        let table = if random.one_in(4) { tables::next(&mut random) } else { tables::good(&mut random) };
+        read(&table, tally).map_err(|difference| format!("{difference}, on\n{}", hex(&table)))
+    })
+}
+
+/// The reads of a table, which the library is lent at some place.
+fn all(table: &[u8], lent: &[u8], tally: &mut Tally) -> Result<(), String> {
     let reading = Reading::of(table);
-    let mut agreed = 0;
     for kind in KINDS {
         for position in positions(table) {
-            for offset in (0..OFFSETS).chain([65_536, u32::MAX]) {
-                let at = (kind, position, offset);
-                same(at, field_of(&reading, at), crate::field(lent, kind, position, offset))?;
-                same(at, object_of(&reading, at), crate::object(lent, kind, position, offset))?;
-                agreed += 2;
-            }
+            of_record(&reading, lent, (kind, position), tally)?;
         }
     }
-    Ok(agreed)
+    Ok(())
+}
+
+fn of_record(reading: &Reading, lent: &[u8], (kind, position): (u8, u16), tally: &mut Tally) -> Result<(), String> {
+    for offset in (0..OFFSETS).chain([65_536, u32::MAX]) {
+        let at = (kind, position, offset);
+        let (field, object) = (field_of(reading, at), object_of(reading, at));
+        tally.add("field", field.answer);
+        tally.add("object", object.0);
+        same(at, field, crate::field(lent, kind, position, offset))?;
+        same(at, object, crate::object(lent, kind, position, offset))?;
+    }
+    Ok(())
 }
 
 /// Each position of the longest list, the ones around it, and ones that no list has.

@@ -1,7 +1,9 @@
 //! Tables rewritten by both programs, each into outputs of many lengths that
 //! are full of noise, so that a byte shows whether it was written.
 
+use crate::cases::each;
 use crate::guard::Guarded;
+use crate::tally::Tally;
 use crate::{hex, long_forms, tables};
 use second::answer::number::{OUTPUT_TOO_SHORT, TOO_FEW_BYTES};
 use second::damage::{empty_heap, outer_damage};
@@ -11,7 +13,6 @@ use second::goods::goods;
 use second::random::Random;
 use second::samples::{crowded, known, machine, smallest};
 use second::{form, form_length, Answer, Meaning};
-use std::collections::BTreeMap;
 
 /// What a rewrite gives, and every byte of the output when it has ended.
 #[derive(PartialEq, Eq)]
@@ -68,26 +69,38 @@ fn by_second(table: &[u8], output: &[u8]) -> Rewrite {
     Rewrite { answer, length, output }
 }
 
-/// Directed tables, then generated ones until `count` of these have been
-/// rewritten. `rewrite` is the library's, of a table and an output's bytes.
-pub fn compare(
-    count: u64,
-    seed: u64,
-    rewrite: impl FnMut(&[u8], &[u8]) -> Result<Rewrite, String>,
-) -> Result<String, String> {
+/// The library's rewrite of a table into an output that holds these bytes.
+pub trait Make: FnMut(&[u8], &[u8]) -> Result<Rewrite, String> {}
+
+impl<F: FnMut(&[u8], &[u8]) -> Result<Rewrite, String>> Make for F {}
+
+/// Cases of a tally: tables, and those of them that have a form.
+const TABLES: &str = "tables";
+const WITH_A_FORM: &str = "tables with a form";
+
+/// Directed tables, then generated ones until `count` of these have been rewritten.
+pub fn compare(count: u64, seed: u64, mut rewrite: impl Make) -> Result<String, String> {
+    let mut tally = Tally::default();
+    directed(&mut tally, &mut rewrite)?;
+    generated(count, seed, &mut tally, rewrite)?;
+    Ok(format!(
+        "{} rewrites of {} tables agree (seed {seed}), {} tables have a form; by number {}",
+        tally.calls(),
+        tally.cases(TABLES),
+        tally.cases(WITH_A_FORM),
+        tally.by_number()
+    ))
+}
+
+pub fn directed(tally: &mut Tally, rewrite: impl Make) -> Result<(), String> {
     compare_into_nothing()?;
-    let mut random = Random::seeded(seed);
-    let noise = random.bytes(LONGEST_OUTPUT);
-    let mut comparison = Comparison { rewrite, random, noise, tally: Tally::default() };
-    for table in directed() {
-        comparison.of_table(&table)?;
-    }
-    let goal = comparison.tally.rewritten + count;
-    while comparison.tally.rewritten < goal {
-        let table = next(&mut comparison.random);
-        comparison.of_table(&table)?;
-    }
-    Ok(comparison.tally.told(seed))
+    let mut comparison = Comparison::seeded(0, tally, rewrite);
+    directed_tables().iter().try_for_each(|table| comparison.of_table(table))
+}
+
+pub fn generated(count: u64, seed: u64, tally: &mut Tally, rewrite: impl Make) -> Result<(), String> {
+    let mut comparison = Comparison::seeded(seed, tally, rewrite);
+    each(count, seed, || comparison.any_tables())
 }
 
 /// An output of no bytes, lent where nothing can be written.
@@ -114,7 +127,7 @@ fn next(random: &mut Random) -> Vec<u8> {
 
 /// The samples, good tables that each show one thing, every damage of one
 /// table, and forms around the greatest length and its multiples.
-fn directed() -> Vec<Vec<u8>> {
+fn directed_tables() -> Vec<Vec<u8>> {
     let good = form(&machine());
     let mut samples = known();
     samples.extend(goods());
@@ -133,21 +146,37 @@ fn directed() -> Vec<Vec<u8>> {
 }
 
 /// Both rewrites of many tables, side by side.
-struct Comparison<F> {
+struct Comparison<'t, F> {
     rewrite: F,
     random: Random,
     /// What outputs hold before they are lent is cut from this.
     noise: Vec<u8>,
-    tally: Tally,
+    tally: &'t mut Tally,
 }
 
 /// No output is longer. A form that is longer still is far too long.
 const LONGEST_OUTPUT: usize = 1 << 18;
 
-impl<F: FnMut(&[u8], &[u8]) -> Result<Rewrite, String>> Comparison<F> {
+impl<'t, F: Make> Comparison<'t, F> {
+    fn seeded(seed: u64, tally: &'t mut Tally, rewrite: F) -> Comparison<'t, F> {
+        let mut random = Random::seeded(seed);
+        let noise = random.bytes(LONGEST_OUTPUT);
+        Comparison { rewrite, random, noise, tally }
+    }
+
+    /// Tables until one of them has a form.
+    fn any_tables(&mut self) -> Result<(), String> {
+        let before = self.tally.cases(WITH_A_FORM);
+        while self.tally.cases(WITH_A_FORM) == before {
+            let table = next(&mut self.random);
+            self.of_table(&table)?;
+        }
+        Ok(())
+    }
+
     /// A table into all outputs. Where it has a form, that is rewritten too and must stay as it is.
     fn of_table(&mut self, table: &[u8]) -> Result<(), String> {
-        self.tally.tables += 1;
+        self.tally.case(TABLES);
         let length = Meaning::read(table).ok().map(|meaning| form_length(&meaning));
         for room in self.rooms(length.unwrap_or(table.len())) {
             self.call_both(table, room)?;
@@ -159,7 +188,7 @@ impl<F: FnMut(&[u8], &[u8]) -> Result<Rewrite, String>> Comparison<F> {
     }
 
     fn of_form(&mut self, table: &[u8], length: usize) -> Result<(), String> {
-        self.tally.rewritten += 1;
+        self.tally.case(WITH_A_FORM);
         let form = self.call_both(table, length)?.output;
         let longer = length + self.random.below(20);
         let again = self.call_both(&form, longer)?.output;
@@ -188,8 +217,7 @@ impl<F: FnMut(&[u8], &[u8]) -> Result<Rewrite, String>> Comparison<F> {
         let given = (self.rewrite)(table, output)
             .and_then(|given| same(&expected, given))
             .map_err(|difference| format!("{difference}, for an output of {room} bytes, on\n{}", hex(table)))?;
-        self.tally.calls += 1;
-        *self.tally.by_number.entry(given.answer.number).or_default() += 1;
+        self.tally.add("rewrite", given.answer);
         Ok(given)
     }
 }
@@ -205,24 +233,4 @@ fn same(expected: &Rewrite, given: Rewrite) -> Result<Rewrite, String> {
         None => String::new(),
     };
     Err(format!("the library gives {}, the second program {}{bytes}", told(&given), told(expected)))
-}
-
-/// What was compared; a rewritten table is one that has a form.
-#[derive(Default)]
-struct Tally {
-    tables: u64,
-    rewritten: u64,
-    calls: u64,
-    by_number: BTreeMap<u8, u64>,
-}
-
-impl Tally {
-    fn told(&self, seed: u64) -> String {
-        let Tally { tables, rewritten, calls, .. } = self;
-        let by_number: Vec<String> = self.by_number.iter().map(|(number, times)| format!("{number}: {times}")).collect();
-        format!(
-            "{calls} rewrites of {tables} tables agree (seed {seed}), {rewritten} tables have a form; by number {}",
-            by_number.join(", ")
-        )
-    }
 }

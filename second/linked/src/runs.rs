@@ -11,7 +11,7 @@ use second::samples::crowded;
 use second::state::{FINISHED, READY};
 use second::{form_length, Answer, Meaning, State};
 
-impl<F: Make> Comparison<F> {
+impl<F: Make> Comparison<'_, F> {
     /// All lists full of unused records, which leaves 96 bytes for objects: a host name of 97 does not fit, nor does a
     /// driver signature.
     pub fn full_lists(&mut self) -> Result<(), String> {

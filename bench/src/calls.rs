@@ -1,0 +1,66 @@
+//! The calls that are timed. Before a call is entered both programs make it, and
+//! must agree.
+
+use crate::turns::{Timed, Turns};
+use linked::builder::Run;
+use second::frame::GREATEST_LENGTH;
+use second::retell::{make_all, Call};
+use second::Answer;
+use std::hint::black_box;
+
+/// A call as the library and as the second program make it.
+#[derive(Clone, Copy)]
+pub struct Both {
+    pub library: Timed,
+    pub second: Timed,
+}
+
+fn byte_sum(bytes: &[u8]) -> u8 {
+    bytes.iter().fold(0, |sum, byte| sum.wrapping_add(*byte))
+}
+
+impl<'a> Turns<'a> {
+    pub fn sum(&mut self, table: &'a [u8]) -> Timed {
+        self.enter(|| byte_sum(black_box(table)))
+    }
+
+    pub fn check(&mut self, table: &'a [u8]) -> Both {
+        assert!(linked::check(table).is_done() && second::check(table).is_done());
+        Both {
+            library: self.enter(|| linked::check(black_box(table))),
+            second: self.enter(|| second::check(black_box(table))),
+        }
+    }
+
+    /// A field of the first discovery record, the last kind in the order of the lists.
+    pub fn field(&mut self, table: &'a [u8]) -> Both {
+        assert_eq!(linked::field(table, 6, 1, 3), second::field(table, 6, 1, 3));
+        Both {
+            library: self.enter(|| linked::field(black_box(table), 6, 1, 3)),
+            second: self.enter(|| second::field(black_box(table), 6, 1, 3)),
+        }
+    }
+
+    pub fn rewrite(&mut self, table: &'a [u8]) -> Both {
+        let (mut output, mut other) = (vec![0; GREATEST_LENGTH], vec![0; GREATEST_LENGTH]);
+        assert_eq!(linked::rewrite(table, &mut output), second::rewrite(table, &mut other));
+        assert_eq!(output, other);
+        Both {
+            library: self.enter(move || linked::rewrite(black_box(table), black_box(&mut output))),
+            second: self.enter(move || second::rewrite(black_box(table), black_box(&mut other))),
+        }
+    }
+
+    /// All calls from begin to finish, which build this table.
+    pub fn build(&mut self, calls: &'a [Call], table: &[u8]) -> Both {
+        let (mut output, mut other) = (vec![0; table.len()], vec![0; table.len()]);
+        let run = Run::of(calls);
+        assert_eq!(run.make(&mut output).0, Answer::DONE);
+        assert_eq!(make_all(calls, &mut other).0, Answer::DONE);
+        assert!(output == table && other == table);
+        Both {
+            library: self.enter(move || black_box(&run).make(black_box(&mut output))),
+            second: self.enter(move || make_all(black_box(calls), black_box(&mut other))),
+        }
+    }
+}

@@ -1,0 +1,128 @@
+//! The benchmark's tables: a check, a field read, a rewrite and a build, each
+//! beside the second program's and one more that it is held to.
+
+use crate::stack;
+use crate::tables::{grown, long_heap};
+use crate::turns::{Timed, Times, Turns};
+use linked::builder::Run;
+use second::frame::GREATEST_LENGTH;
+use second::random::Random;
+use second::retell::{calls, Call};
+use second::samples;
+use std::slice::from_ref;
+
+const ROUNDS: usize = 1_000;
+
+/// Library, second program, and what else the library is held to.
+struct Row {
+    name: &'static str,
+    bytes: usize,
+    timed: [Timed; 3],
+}
+
+impl Row {
+    fn print(&self, times: &Times) {
+        let [library, second, third] = self.timed.map(|timed| times[timed]);
+        println!(
+            "{:<22} {:>6} bytes {library:>9.0} {second:>9.0} {third:>9.0}   {:>6.2} {:>6.2}",
+            self.name,
+            self.bytes,
+            library / second,
+            library / third
+        );
+    }
+
+    /// How many times as long the library takes as in another row.
+    fn to(&self, other: &Row, times: &Times) -> f64 {
+        times[self.timed[0]] / times[other.timed[0]]
+    }
+}
+
+fn check_row<'a>(turns: &mut Turns<'a>, name: &'static str, table: &'a [u8]) -> Row {
+    let check = turns.check(table);
+    Row { name, bytes: table.len(), timed: [check.library, check.second, turns.sum(table)] }
+}
+
+/// Beside the check of the same table.
+fn rewrite_row<'a>(turns: &mut Turns<'a>, table: &'a [u8], check: &Row) -> Row {
+    let rewrite = turns.rewrite(table);
+    Row { timed: [rewrite.library, rewrite.second, check.timed[0]], ..*check }
+}
+
+fn field_row<'a>(turns: &mut Turns<'a>, table: &'a [u8], check: &Row) -> Row {
+    let field = turns.field(table);
+    Row { timed: [field.library, field.second, check.timed[0]], ..*check }
+}
+
+/// Beside the sum of the finished table's bytes.
+fn build_row<'a>(turns: &mut Turns<'a>, calls: &'a [Call], table: &'a [u8], check: &Row) -> Row {
+    let build = turns.build(calls, table);
+    Row { timed: [build.library, build.second, check.timed[2]], ..*check }
+}
+
+fn print_table(call: &str, third: &str, rows: &[Row], times: &Times) {
+    let (call, short) = (format!("ns per {call}"), third.trim_start_matches("byte "));
+    println!("{call:<41} library    second {third:>9}   to second, to {short}");
+    rows.iter().for_each(|row| row.print(times));
+}
+
+/// Bytes of stack that a check, a rewrite and a build take.
+fn stacks(table: &[u8], calls: &[Call]) -> [usize; 3] {
+    let mut output = vec![0; GREATEST_LENGTH];
+    let run = Run::of(calls);
+    [
+        stack::depth(|| linked::check(table)),
+        stack::depth(|| linked::rewrite(table, &mut output)),
+        stack::depth(|| run.make(&mut output)),
+    ]
+}
+
+/// What is timed, a table of rows for each call.
+struct Report {
+    checks: [Row; 5],
+    field: Row,
+    rewrites: [Row; 4],
+    build: Row,
+}
+
+pub fn print() {
+    let (smallest, typical, long) = (samples::smallest(), grown(1), long_heap(60_000));
+    let (half, large) = (grown(28), grown(56));
+    let calls = calls(&mut Random::seeded(1), &samples::machine());
+    let mut turns = Turns::default();
+    let checks = [
+        ("K1", &smallest),
+        ("typical", &typical),
+        ("60 kB, few records", &long),
+        ("30 kB, many records", &half),
+        ("60 kB, many records", &large),
+    ]
+    .map(|(name, table)| check_row(&mut turns, name, table));
+    let report = Report {
+        field: field_row(&mut turns, &typical, &checks[1]),
+        rewrites: [(&typical, 1), (&long, 2), (&half, 3), (&large, 4)]
+            .map(|(table, check)| rewrite_row(&mut turns, table, &checks[check])),
+        build: build_row(&mut turns, &calls, &typical, &checks[1]),
+        checks,
+    };
+    report.print(&turns.take(ROUNDS), stacks(&large, &calls));
+}
+
+impl Report {
+    fn print(&self, times: &Times, stacks: [usize; 3]) {
+        let Report { checks, field, rewrites, build } = self;
+        print_table("check", "byte sum", checks, times);
+        println!("twice the table takes {:.2} times the time", checks[4].to(&checks[3], times));
+        println!("a check takes {} bytes of stack", stacks[0]);
+        println!("targets: 60 kB with few records at most 1.2 to second and 1.5 to sum");
+        println!("         typical at most 1.5 to second; twice at most 2.2\n");
+        print_table("field read", "check", from_ref(field), times);
+        println!();
+        print_table("rewrite", "check", rewrites, times);
+        println!("twice the table takes {:.2} times the time", rewrites[3].to(&rewrites[2], times));
+        println!("a rewrite takes {} bytes of stack", stacks[1]);
+        println!("targets: typical and 60 kB at most 3 to check; twice at most 2.2\n");
+        print_table("build", "byte sum", from_ref(build), times);
+        println!("a build takes {} bytes of stack", stacks[2]);
+    }
+}

@@ -1,0 +1,114 @@
+//! Check, read, rewrite and build NVMe boot firmware tables (NBFT).
+//!
+//! The work is done by the static library `libnbft.a`, whose answers are proved: for any bytes a call ends, touches only
+//! what it is lent, and gives the answer that the definitions say. This crate adds slices, types and names to its
+//! functions, and nothing else. It needs neither `std` nor an allocator.
+//!
+//! Any bytes may be handed in, and more of them than the table has. A refused call changes nothing.
+//!
+//! ```
+//! use nbft::{Builder, Counts, Host, Kind, Number};
+//!
+//! # fn main() -> Result<(), nbft::Refusal> {
+//! let mut buffer = [0; 256];
+//! let mut builder = Builder::new(&mut buffer);
+//! builder.begin(b"OEM   EXAMPLE \x01\0\0\0MAKE\x01\0\0\0", Counts::default(), b"")?;
+//! builder.host(&Host { record: &[0; 32], nqn: b"nqn.2014-08.org.example:host" })?;
+//! let table = builder.finish()?;
+//!
+//! nbft::check(table)?;
+//! assert_eq!(nbft::field(table, Kind::Header, 0, 24)?.number(), Some(1));
+//! assert_eq!(nbft::object(table, Kind::Host, 0, 18)?, Some(&b"nqn.2014-08.org.example:host"[..]));
+//!
+//! let refusal = nbft::check(&table[1..]).unwrap_err();
+//! assert_eq!(refusal.number, Number::Signature);
+//! # Ok(())
+//! # }
+//! ```
+
+#![no_std]
+#![warn(missing_docs)]
+
+mod answer;
+mod builder;
+mod library;
+
+pub use answer::{Kind, Number, Refusal};
+pub use builder::{Builder, Counts, Discovery, Hfi, Host, Security, Ssns};
+
+use answer::answered;
+
+/// Whether the bytes are a good table; if not, its first fault.
+pub fn check(table: &[u8]) -> Result<(), Refusal> {
+    // SAFETY: pointer and length are a slice's, which the function only reads.
+    answered(unsafe { library::nbft_check(table.as_ptr(), table.len()) })
+}
+
+/// A field that was read.
+#[derive(Clone, Copy, Debug, PartialEq, Eq)]
+pub struct Field {
+    used: bool,
+    length: u8,
+    value: [u8; 16],
+}
+
+impl Field {
+    /// Whether the record is used. In one that is not every field is zero.
+    pub fn used(&self) -> bool {
+        self.used
+    }
+
+    /// Its bytes in table order, 16 at most.
+    pub fn bytes(&self) -> &[u8] {
+        &self.value[..usize::from(self.length)]
+    }
+
+    /// What its bytes say as a number, the lowest first. Only a field of up to eight bytes is one.
+    pub fn number(&self) -> Option<u64> {
+        let [low @ .., _, _, _, _, _, _, _, _] = self.value;
+        (self.length <= 8).then_some(u64::from_le_bytes(low))
+    }
+}
+
+/// The field at `offset` in a record; [`Kind`] says which there are. Those of the control record are counted from the
+/// table's start.
+///
+/// Header, control record and host take position 0, the others that in their list, from 1 on. Reserved bits, and fields
+/// that other fields switch off, read as zero.
+///
+/// A table that is not good is refused as by [`check`], a record or field that is not there with
+/// [`Number::NoSuchField`].
+pub fn field(table: &[u8], kind: Kind, position: u16, offset: u32) -> Result<Field, Refusal> {
+    let mut value = [0; 16];
+    // SAFETY: pointer and length are a slice's, which the function only reads; it writes the 16 bytes of `value`.
+    let packed = unsafe { library::nbft_field(table.as_ptr(), table.len(), kind as u8, position, offset, &mut value) };
+    answered(packed as u32)?;
+    Ok(Field { used: packed >> 32 & 1 == 1, length: (packed >> 40) as u8, value })
+}
+
+/// The object of the reference at `offset` in a record, as a part of `table`; `None` where it is absent.
+///
+/// Positions and refusals are those of [`field`]. In an unused record every object is absent.
+pub fn object(table: &[u8], kind: Kind, position: u16, offset: u32) -> Result<Option<&[u8]>, Refusal> {
+    // SAFETY: pointer and length are a slice's, which the functions only read.
+    let (packed, start) = unsafe {
+        (
+            library::nbft_object(table.as_ptr(), table.len(), kind as u8, position, offset),
+            library::nbft_object_start(table.as_ptr(), table.len(), kind as u8, position, offset) as usize,
+        )
+    };
+    answered(packed as u32)?;
+    let length = (packed >> 32) as usize;
+    Ok((length != 0).then(|| &table[start..start + length]))
+}
+
+/// Writes the table's one form into the first bytes of `out`, and hands them back; those behind stay as they were.
+///
+/// Two good tables say the same exactly when their forms are equal byte for byte. A table that is not good is refused as
+/// by [`check`], then one whose form would pass 65,536 bytes, then an `out` that is shorter than the form.
+pub fn rewrite<'o>(table: &[u8], out: &'o mut [u8]) -> Result<&'o mut [u8], Refusal> {
+    // SAFETY: pointers and lengths are those of two slices, of which the function reads the one and writes the other.
+    let packed = unsafe { library::nbft_rewrite(table.as_ptr(), table.len(), out.as_mut_ptr(), out.len()) };
+    answered(packed as u32)?;
+    Ok(&mut out[..(packed >> 32) as usize])
+}

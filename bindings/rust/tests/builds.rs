@@ -1,0 +1,177 @@
+//! Builds.
+
+mod common;
+
+use common::{bytes, counts, form, image, MACHINE, MIXED, SAMPLES};
+use nbft::{check, field, Builder, Counts, Discovery, Hfi, Host, Kind, Number, Refusal, Security, Ssns};
+
+/// The position is left unused where it is unused in the table.
+fn is_used(table: &[u8], kind: Kind, position: u16) -> bool {
+    field(table, kind, position, 0).expect("every record has an ID").used()
+}
+
+fn retell_hfi(builder: &mut Builder, table: &[u8], position: u16) -> Result<(), Refusal> {
+    builder.hfi(&Hfi {
+        record: &image(table, Kind::Hfi, position),
+        info: &image(table, Kind::HfiInfo, position),
+        name: bytes(table, Kind::HfiInfo, position, 104),
+    })
+}
+
+/// Without flag 4 there is no extended info to be read.
+fn retell_ssns(builder: &mut Builder, table: &[u8], position: u16) -> Result<(), Refusal> {
+    let record: [u8; 128] = image(table, Kind::Ssns, position);
+    let (extended, path): ([u8; 18], &[u8]) = match record[3] & 1 << 4 {
+        0 => ([0; 18], b""),
+        _ => (image(table, Kind::SsnsExtended, position), bytes(table, Kind::SsnsExtended, position, 12)),
+    };
+    builder.ssns(&Ssns {
+        record: &record,
+        address: bytes(table, Kind::Ssns, position, 10),
+        service: bytes(table, Kind::Ssns, position, 16),
+        others: bytes(table, Kind::Ssns, position, 48),
+        nqn: bytes(table, Kind::Ssns, position, 54),
+        extended: &extended,
+        path,
+    })
+}
+
+fn retell_security(builder: &mut Builder, table: &[u8], position: u16) -> Result<(), Refusal> {
+    builder.security(&Security {
+        record: &image(table, Kind::Security, position),
+        algorithms: bytes(table, Kind::Security, position, 6),
+        protocols: bytes(table, Kind::Security, position, 12),
+        ciphers: bytes(table, Kind::Security, position, 18),
+        groups: bytes(table, Kind::Security, position, 24),
+        hashes: bytes(table, Kind::Security, position, 30),
+        keypath: bytes(table, Kind::Security, position, 36),
+    })
+}
+
+fn retell_discovery(builder: &mut Builder, table: &[u8], position: u16) -> Result<(), Refusal> {
+    builder.discovery(&Discovery {
+        record: &image(table, Kind::Discovery, position),
+        address: bytes(table, Kind::Discovery, position, 6),
+        nqn: bytes(table, Kind::Discovery, position, 12),
+    })
+}
+
+fn retell_record(builder: &mut Builder, table: &[u8], kind: Kind, position: u16) -> Result<(), Refusal> {
+    match kind {
+        _ if !is_used(table, kind, position) => builder.leave(),
+        Kind::Hfi => retell_hfi(builder, table, position),
+        Kind::Ssns => retell_ssns(builder, table, position),
+        Kind::Security => retell_security(builder, table, position),
+        _ => retell_discovery(builder, table, position),
+    }
+}
+
+fn retell_front(builder: &mut Builder, table: &[u8]) -> Result<(), Refusal> {
+    let front: [u8; 64] = image(table, Kind::Header, 0);
+    let [hfi, ssns, security, discovery] = counts(table);
+    let header = front[10..36].try_into().expect("26 bytes");
+    builder.begin(header, Counts { hfi, ssns, security, discovery }, bytes(table, Kind::Header, 0, 44))?;
+    builder.host(&Host { record: &image(table, Kind::Host, 0), nqn: bytes(table, Kind::Host, 0, 18) })
+}
+
+/// Tells the builder all that is read from a table, short of finishing.
+fn retell(builder: &mut Builder, table: &[u8]) -> Result<(), Refusal> {
+    retell_front(builder, table)?;
+    let kinds = [Kind::Hfi, Kind::Ssns, Kind::Security, Kind::Discovery];
+    let lists = kinds.into_iter().zip(counts(table));
+    let mut records = lists.flat_map(|(kind, count)| (1..=u16::from(count)).map(move |position| (kind, position)));
+    records.try_for_each(|(kind, position)| retell_record(builder, table, kind, position))
+}
+
+#[test]
+fn a_build_is_the_form_of_what_was_told() {
+    for table in SAMPLES {
+        let mut buffer = vec![0xA5; 2000];
+        let mut builder = Builder::new(&mut buffer);
+        retell(&mut builder, table).unwrap();
+        let built = builder.finish().unwrap().to_vec();
+        assert_eq!(built, form(table));
+        assert!(buffer[built.len()..].iter().all(|byte| *byte == 0xA5));
+    }
+}
+
+#[test]
+fn a_build_needs_as_many_bytes_as_its_form() {
+    let length = form(MACHINE).len();
+    let mut buffer = vec![0; length];
+    let mut builder = Builder::new(&mut buffer);
+    retell(&mut builder, MACHINE).unwrap();
+    assert_eq!(builder.finish().unwrap().len(), length);
+    let mut short = vec![0; length - 1];
+    let refusal = retell(&mut Builder::new(&mut short), MACHINE).unwrap_err();
+    assert_eq!(refusal, Refusal { number: Number::OutputTooShort, kind: Kind::Header, position: 0 });
+}
+
+#[test]
+fn counts_are_those_of_their_lists() {
+    let mut buffer = vec![0; 1000];
+    let mut builder = Builder::new(&mut buffer);
+    builder.begin(&[0; 26], Counts { hfi: 1, ssns: 2, security: 3, discovery: 4 }, b"").unwrap();
+    builder.host(&Host { record: &[0; 32], nqn: b"nqn.h" }).unwrap();
+    (0..10).try_for_each(|_| builder.leave()).unwrap();
+    assert_eq!(counts(builder.finish().unwrap()), [1, 2, 3, 4]);
+}
+
+#[test]
+fn an_unfinished_build_is_no_table_and_can_be_resumed() {
+    let mut buffer = vec![0; 2000];
+    let mut builder = Builder::new(&mut buffer);
+    retell(&mut builder, MIXED).unwrap();
+    let (state, used) = (builder.state(), builder.used());
+    assert_eq!(check(&buffer).unwrap_err().number, Number::Length);
+    let mut resumed = Builder::resumed(state, &mut buffer);
+    assert_eq!(resumed.finish().unwrap().len() as u64, used);
+    assert_eq!(resumed.leave().unwrap_err().number, Number::OutOfTurn);
+}
+
+#[test]
+fn indexes_are_judged_at_the_end() {
+    let mut buffer = vec![0; 1000];
+    let mut builder = Builder::new(&mut buffer);
+    builder.begin(&[0; 26], Counts { discovery: 1, ..Counts::default() }, b"").unwrap();
+    builder.host(&Host { record: &[0; 32], nqn: b"nqn.h" }).unwrap();
+    builder.discovery(&Discovery { record: &[0; 32], address: b"", nqn: b"" }).unwrap();
+    let refusal = builder.finish().unwrap_err();
+    assert_eq!(refusal, Refusal { number: Number::Index, kind: Kind::Discovery, position: 1 });
+}
+
+/// What is wrong here: the turn, the state, a two-bit field, an empty NQN and one that is too long, and the room.
+#[test]
+fn refused_calls_change_nothing() {
+    let mut begun = vec![0xA5; 170];
+    let mut builder = Builder::new(&mut begun);
+    builder.begin(&[7; 26], Counts::default(), b"").unwrap();
+    let state = builder.state();
+    type Call = fn(&mut Builder) -> Result<(), Refusal>;
+    let calls: [([u8; 16], Call, Number, Kind); 7] = [
+        (state, |b| b.begin(&[0; 26], Counts::default(), b""), Number::OutOfTurn, Kind::Header),
+        (state, |b| b.finish().map(|_| ()), Number::OutOfTurn, Kind::Header),
+        ([0xFF; 16], |b| b.host(&Host { record: &[0; 32], nqn: b"n" }), Number::OutOfTurn, Kind::Header),
+        (state, |b| b.host(&Host { record: &[0x18; 32], nqn: b"n" }), Number::Record, Kind::Host),
+        (state, |b| b.host(&Host { record: &[0; 32], nqn: b"" }), Number::Reference, Kind::Host),
+        (state, |b| b.host(&Host { record: &[0; 32], nqn: &[1; 65_500] }), Number::ResultTooLong, Kind::Header),
+        (state, |b| b.host(&Host { record: &[0; 32], nqn: &[1; 11] }), Number::OutputTooShort, Kind::Header),
+    ];
+    for (before, call, number, kind) in calls {
+        let mut buffer = begun.clone();
+        let mut builder = Builder::resumed(before, &mut buffer);
+        assert_eq!(call(&mut builder), Err(Refusal { number, kind, position: 0 }));
+        assert_eq!(builder.state(), before);
+        assert_eq!(buffer, begun);
+    }
+}
+
+#[test]
+fn a_refused_call_can_be_mended_and_made_again() {
+    let mut buffer = vec![0; 200];
+    let mut builder = Builder::new(&mut buffer);
+    builder.begin(&[0; 26], Counts::default(), b"").unwrap();
+    assert!(builder.host(&Host { record: &[0; 32], nqn: b"" }).is_err());
+    builder.host(&Host { record: &[0; 32], nqn: b"n" }).unwrap();
+    assert_eq!(builder.finish().map(<[u8]>::len), Ok(161));
+}

@@ -1,0 +1,116 @@
+//! Checks and reads.
+
+mod common;
+
+use common::{bytes, layout, number, summed, LAYOUTS, MACHINE, MIXED, SAMPLES, SMALLEST};
+use nbft::{check, field, object, Kind, Number, Refusal};
+
+fn plain(number: Number) -> Refusal {
+    Refusal { number, kind: Kind::Header, position: 0 }
+}
+
+#[test]
+fn samples_are_good() {
+    assert_eq!(SMALLEST.len(), 162);
+    assert!(SAMPLES.iter().all(|table| check(table) == Ok(())));
+}
+
+#[test]
+fn bytes_behind_the_table_do_not_count_and_bytes_that_lack_do() {
+    assert_eq!(check(&[SMALLEST, &[7]].concat()), Ok(()));
+    assert_eq!(check(&SMALLEST[..161]), Err(plain(Number::Length)));
+    assert_eq!(check(&SMALLEST[..159]), Err(plain(Number::TooFewBytes)));
+    assert_eq!(check(&[]), Err(plain(Number::TooFewBytes)));
+}
+
+#[test]
+fn a_machine_says_what_it_was_told() {
+    let name = b"nqn.2014-08.org.nvmexpress:uuid:8f2b60c4-17de-4a05-b3c9-6a7714e0d582";
+    assert_eq!(field(MACHINE, Kind::Header, 0, 10).unwrap().bytes(), b"VENDOR");
+    assert_eq!(number(MACHINE, Kind::Header, 0, 32), 0x0100_0013);
+    assert_eq!(common::counts(MACHINE), [2, 2, 1, 1]);
+    assert_eq!(number(MACHINE, Kind::Ssns, 2, 46), 2);
+    assert_eq!(number(MACHINE, Kind::HfiInfo, 2, 7), 0x1C01);
+    assert_eq!(number(MACHINE, Kind::SsnsExtended, 1, 10), 32);
+    assert_eq!(bytes(MACHINE, Kind::Ssns, 1, 54), name);
+    assert_eq!(bytes(MACHINE, Kind::Ssns, 2, 10), b"192.168.102.40");
+    assert_eq!(bytes(MACHINE, Kind::Security, 1, 36), b"/redfish/v1/KeyService/NVMeoFKeys/17");
+    assert_eq!(bytes(MACHINE, Kind::Discovery, 1, 6), b"nvme+tcp://192.168.101.40:8009/");
+    assert_eq!(field(MACHINE, Kind::HfiInfo, 1, 20).unwrap().number(), None);
+}
+
+#[test]
+fn an_object_is_a_part_of_the_table() {
+    let host = object(MACHINE, Kind::Host, 0, 18).unwrap().unwrap();
+    assert!(MACHINE.as_ptr_range().contains(&host.as_ptr()));
+    assert!(host.as_ptr_range().end <= MACHINE.as_ptr_range().end);
+}
+
+#[test]
+fn an_unused_record_has_no_field_and_no_object() {
+    let unused = field(MIXED, Kind::Ssns, 1, 24).unwrap();
+    assert!(!unused.used());
+    assert_eq!(unused.bytes(), [0; 4]);
+    assert_eq!(object(MIXED, Kind::Ssns, 1, 54), Ok(None));
+    assert!(field(MIXED, Kind::Ssns, 2, 24).unwrap().used());
+    assert_eq!(object(MIXED, Kind::Header, 0, 44), Ok(None));
+}
+
+/// Every offset of every kind, also of those that no layout has.
+#[test]
+fn fields_and_objects_are_those_of_the_layouts() {
+    let asked = LAYOUTS.iter().flat_map(|layout| (0..300).map(move |offset| (layout.kind, offset)));
+    for (kind, offset) in asked {
+        let position = u16::from(kind as u8 > 2);
+        let length = layout(kind).fields.iter().find(|(start, _)| *start == offset).map(|(_, length)| *length);
+        let read = field(MACHINE, kind, position, offset);
+        assert_eq!(read.map(|field| field.bytes().len()), length.ok_or(plain(Number::NoSuchField)));
+        let referred = layout(kind).objects.contains(&offset);
+        assert_eq!(object(MACHINE, kind, position, offset).is_ok(), referred, "{kind:?} {offset}");
+    }
+}
+
+#[test]
+fn positions_are_those_of_the_lists() {
+    assert_eq!(field(MACHINE, Kind::Ssns, 0, 24), Err(plain(Number::NoSuchField)));
+    assert_eq!(field(MACHINE, Kind::Ssns, 3, 24), Err(plain(Number::NoSuchField)));
+    assert_eq!(field(MACHINE, Kind::Host, 1, 1), Err(plain(Number::NoSuchField)));
+    assert_eq!(object(MACHINE, Kind::SsnsExtended, 2, 12), Err(plain(Number::NoSuchField)));
+}
+
+#[test]
+fn a_flipped_byte_is_refused() {
+    for place in 0..MACHINE.len() {
+        let mut table = MACHINE.to_vec();
+        table[place] ^= 0xFF;
+        let refusal = check(&table).unwrap_err();
+        assert_eq!(field(&table, Kind::Host, 0, 1), Err(refusal), "{place}");
+        assert_eq!(object(&table, Kind::Host, 0, 18), Err(refusal), "{place}");
+    }
+}
+
+/// What says how long the table is and where its heap stands is refused; another OEM or another name is not.
+#[test]
+fn a_flipped_byte_under_a_right_checksum_is_judged_by_what_it_says() {
+    let flipped = |place: usize| {
+        let mut table = MACHINE.to_vec();
+        table[place] ^= 0xFF;
+        check(&summed(table))
+    };
+    let answers: Vec<_> = (0..MACHINE.len()).map(flipped).collect();
+    let (frame, oem, heap, last) = (&answers[..9], &answers[10..36], &answers[36..44], &answers[1157..]);
+    assert!(frame.iter().chain(heap).all(Result::is_err));
+    assert!(oem.iter().chain(last).all(Result::is_ok));
+    let index = Refusal { number: Number::Index, kind: Kind::Ssns, position: 2 };
+    assert_eq!(answers[398], Err(index));
+    assert_eq!(index.to_string(), "an index names no valid record: SSNS 2");
+}
+
+#[test]
+fn every_number_has_its_code_and_its_words() {
+    let codes: Vec<u8> = Number::ALL.iter().map(|number| *number as u8).collect();
+    assert_eq!(codes, (1..=17).collect::<Vec<u8>>());
+    assert_eq!(plain(Number::Checksum).to_string(), "the checksum is wrong");
+    let host = Refusal { number: Number::Version, kind: Kind::Host, position: 0 };
+    assert_eq!(host.to_string(), "a version is wrong: host");
+}

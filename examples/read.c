@@ -1,0 +1,94 @@
+/*
+ * read FILE: whether the table is good, and what it says: the host's NQN, and
+ * each subsystem's NQN and namespace ID.
+ */
+#include <inttypes.h>
+#include <nbft.h>
+#include <stdio.h>
+
+/* Longer than any table: what a file has behind these bytes does not count. */
+static uint8_t table[70000];
+
+/* Where the reads find what is printed: offsets in the records. */
+enum {
+    COUNT_OF_SSNS = 95,
+    HOST_NQN = 18,
+    SSNS_NSID = 24,
+    SSNS_NQN = 54
+};
+
+static size_t read_whole(const char *name)
+{
+    FILE *file = fopen(name, "rb");
+    size_t length;
+
+    if (file == NULL)
+        return 0;
+    length = fread(table, 1, sizeof table, file);
+    if (ferror(file))
+        length = 0;
+    fclose(file);
+    return length;
+}
+
+/* An object is any bytes: what is no printable ASCII is shown by its number. */
+static void print_object(size_t length, uint8_t kind, uint16_t position, uint32_t offset)
+{
+    uint32_t start = nbft_object_start(table, length, kind, position, offset);
+    size_t end = start + NBFT_OBJECT_LENGTH(nbft_object(table, length, kind, position, offset));
+    size_t at;
+
+    for (at = start; at < end; at++)
+        printf(table[at] >= ' ' && table[at] <= '~' ? "%c" : "\\x%02x", table[at]);
+}
+
+/* Numbers stand in `value` with the lowest byte first, and zeros behind them. */
+static uint32_t number_at(size_t length, uint8_t kind, uint16_t position, uint32_t offset, unsigned *used)
+{
+    uint8_t value[16] = {0};
+    uint64_t result = nbft_field(table, length, kind, position, offset, value);
+
+    *used = NBFT_FIELD_USED(result);
+    return (uint32_t)value[0] | (uint32_t)value[1] << 8 | (uint32_t)value[2] << 16 | (uint32_t)value[3] << 24;
+}
+
+static void print_subsystem(size_t length, uint16_t position)
+{
+    unsigned used;
+    uint32_t nsid = number_at(length, NBFT_SSNS, position, SSNS_NSID, &used);
+
+    printf("subsystem %u: ", position);
+    if (used) {
+        print_object(length, NBFT_SSNS, position, SSNS_NQN);
+        printf(", namespace %" PRIu32, nsid);
+    } else {
+        printf("unused");
+    }
+    putchar('\n');
+}
+
+int main(int count, char **words)
+{
+    size_t length;
+    uint32_t answer, subsystems;
+    uint16_t position;
+    unsigned used;
+
+    if (count != 2 || (length = read_whole(words[1])) == 0) {
+        fprintf(stderr, "usage: read FILE, which has bytes to read\n");
+        return 2;
+    }
+    answer = nbft_check(table, length);
+    if (answer != NBFT_DONE) {
+        fprintf(stderr, "%s is refused: number %u, kind %u, position %u\n", words[1],
+                NBFT_NUMBER(answer), NBFT_KIND(answer), NBFT_POSITION(answer));
+        return 1;
+    }
+    printf("host: ");
+    print_object(length, NBFT_HOST, 0, HOST_NQN);
+    putchar('\n');
+    subsystems = number_at(length, NBFT_CONTROL_RECORD, 0, COUNT_OF_SSNS, &used);
+    for (position = 1; position <= subsystems; position++)
+        print_subsystem(length, position);
+    return 0;
+}
