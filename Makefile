@@ -7,6 +7,7 @@
 #   make install  the same under PREFIX, /usr/local if none is given (DESTDIR goes before it); after `make lib`
 #   make examples  the examples in C compiled, run, and held to what they are expected to print
 #   make bindings  the Rust crate over the library, bindings/rust, with its tests
+#   make readme   the examples of README.md and docs/DESCRIPTIONS.md run, and held to what stands there; after `make run`
 #   make soak     the library beside the second program for ten minutes; SECONDS=60 or CASES=1000000 for as long, SEED= for the same again
 #   make bench    time of a check, a read, a rewrite and a build, beside the second program's and a bare byte sum's
 #   make plot     time by the table's length, drawn to docs/performance.png (needs python3)
@@ -16,7 +17,11 @@
 # Without make's flags, since cargo cannot reach the job slots that they name and warns of it.
 CARGO  := MAKEFLAGS= cargo
 SECOND := second/target/release/second
-AGREED := crates/agreement/specs
+AGREED := crates
+ENDED  := target/ended
+
+# Provers at a time: rt waits for all that it started together, so that with one for each of two cores the shorter proof leaves a core idle.
+export RT_JOBS ?= 4
 
 # The library and the programs are x86-64 code. On another processor what links them is compiled for x86-64 too, by the compiler that
 # .ci/emulator installs, and an emulator runs it.
@@ -49,7 +54,7 @@ BENCH   := bench/target/release/bench
 endif
 
 .PHONY: run test proofs compared second-tests comparisons compared-checks compared-reads compared-rewrites compared-builds library lib install \
-        examples bindings soak bench benched plot vectors clean second linked
+        examples bindings readme soak bench benched plot vectors clean second linked
 
 # The programs are proved, then compiled: the first run takes some minutes.
 run:
@@ -68,20 +73,34 @@ run:
 	@$(BIN)/nbft_show target/machine.built | diff target/machine.shown - && echo "shown the same"
 
 # All proofs, and beside them what is compared: where the one leaves a core idle the other has it, and if either fails so does the test.
-# The comparisons take a fraction of the proofs' time, so that the last line is that of `rt ci`: 'N passed, M failed'.
+# The comparisons start when the library is proved and end long before the last edit is tried, so that the last line is that of `rt ci`:
+# 'N passed, M failed'. What an earlier run left is removed first: the wait is for a library that this run proved.
 test:
+	rt fmt --check
+	@rm -rf target
 	@$(MAKE) --no-print-directory --jobs=2 proofs compared
 
+# The mark tells who waits for the library that none will come any more.
 proofs:
-	rt fmt --check
-	rt ci
+	@rt ci; status=$$?; mkdir -p target; touch $(ENDED); exit $$status
 
-# The library is made in a copy of the crates: `rt ci` removes target/, and counts every Rattle file below the repository's top as the
-# repository's own. Each target prints when it is done, so that its lines stay together.
-compared:
-	@copy=$$(mktemp -d) && trap 'rm -rf "$$copy"' EXIT && trap 'exit 1' HUP INT TERM && cp -R crates crates.txt "$$copy" && \
-	RT_JOBS=1 $(MAKE) --no-print-directory --output-sync=target --directory="$$copy" --file="$(CURDIR)/Makefile" library && \
-	$(MAKE) --no-print-directory --output-sync=target NBFT_LIB="$$copy/target/staticlib" second-tests comparisons
+# Whether crates are proved; programs are then compiled too.
+proved = { true $(foreach crate,$(1),&& [ -e target/stamp/$(crate) ]); }
+
+# The library is built in a copy of what `rt ci` has proved: target/ is its own while it runs, and it counts every Rattle file below the
+# repository's top as the repository's. What has a stamp is whole, since a crate's stamp is written last.
+# Each target prints when it is done, so that its lines stay together.
+compared: second-tests
+	@until $(call proved,nbft) || [ -e $(ENDED) ]; do sleep 1; done
+	@$(call proved,nbft) || { echo "nothing is compared: rt ci has not proved the library"; exit 1; }
+	@copy=$$(mktemp -d) && trap 'rm -rf "$$copy"' EXIT && trap 'exit 1' HUP INT TERM && mkdir -p "$$copy/target/rlib" && \
+	cp -a crates crates.txt "$$copy" && cp -a target/stamp "$$copy/target" && \
+	for crate in $$(cd target/rlib && ls -d *.rlib); do \
+	[ ! -e "$$copy/target/stamp/$${crate%.rlib}" ] || cp -a "target/rlib/$$crate" "$$copy/target/rlib" || exit 1; done && \
+	$(MAKE) --no-print-directory --output-sync=target --directory="$$copy" --file="$(CURDIR)/Makefile" library && \
+	$(MAKE) --no-print-directory --output-sync=target NBFT_LIB="$$copy/target/staticlib" comparisons
+	@until $(call proved,nbft_check nbft_show nbft_rewrite nbft_build) || [ -e $(ENDED) ]; do sleep 1; done
+	@$(MAKE) --no-print-directory readme
 
 # The second program's own tests, and that the committed vectors, samples and cases are what it writes.
 second-tests: second
@@ -133,6 +152,10 @@ examples: $(if $(NBFT_LIB),,library)
 bindings: $(if $(NBFT_LIB),,library)
 	cd bindings/rust && $(BINDINGS) test --target $(X86) --offline --quiet
 	cd bindings/rust && $(BINDINGS) doc --target $(X86) --offline --quiet --no-deps
+
+# With the programs that stand in the folder NBFT_BIN, if that is given. It proves and compiles nothing.
+readme:
+	RUN="$(RUN)" .ci/readme-examples $(or $(NBFT_BIN),target/bin) README.md docs/DESCRIPTIONS.md
 
 # As many cases as CASES says, or else as many as SECONDS allow; from SEED on, or else from a fresh seed.
 SECONDS = 600

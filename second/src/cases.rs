@@ -23,12 +23,12 @@ fn dirty(length: usize) -> Vec<u8> {
     vec![0xEE; length]
 }
 
-/// Each file's name and text.
+/// Each file, below the folder of the crates, and its text.
 pub fn files() -> [(&'static str, String); 4] {
     [
-        ("Cases.antt", tables::text()),
-        ("ReadCases.antt", reads::text()),
-        ("RewriteCases.antt", rewrites::text()),
-        ("BuildCases.antt", builds::text()),
+        ("agreement/specs/Cases.antt", tables::text()),
+        ("read_agreement/specs/ReadCases.antt", reads::text()),
+        ("read_agreement/specs/RewriteCases.antt", rewrites::text()),
+        ("agreement/specs/BuildCases.antt", builds::text()),
     ]
 }

@@ -14,7 +14,7 @@ second: an independent reading of NVMe boot firmware tables
   second vectors check DIR    say whether DIR/tables.txt is what would be written
   second samples write DIR    write the sample tables DIR/*.nbft
   second samples check DIR    say whether they are what would be written
-  second cases write DIR      write cases for a proof assistant, DIR/*.antt
+  second cases write DIR      write cases for a proof assistant, DIR/*/specs/*.antt
   second cases check DIR      say whether they are what would be written
 ";
 

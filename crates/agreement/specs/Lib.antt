@@ -1,4 +1,2 @@
 pub mod Cases
-pub mod ReadCases
-pub mod RewriteCases
 pub mod BuildCases

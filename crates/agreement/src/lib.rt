@@ -1,1 +1,1 @@
-// That definitions and second program agree stands in specs/.
+// That definitions and second program agree on checks and builder calls stands in specs/.

@@ -2,9 +2,10 @@
 // the line and the words. Held to `stdout`.
 use description::Built;
 use description::build;
+use libc::STDOUT_FILENO;
 use sections::wrongs::NOTHING;
 use sections::wrongs::REFUSED;
-use sections::wrongs::words_of;
+use sections::wrongs::write_words;
 use tool::MOST;
 use tool::print;
 use tool::print_bytes;
@@ -12,7 +13,7 @@ use tool::print_bytes;
 fn print_wrong(built: Built) {
     print(text::decimal(built.line as u64));
     print_bytes(b": ");
-    print(words_of(built.wrong));
+    write_words(STDOUT_FILENO, built.wrong);
     print_bytes(b"\n");
     if built.wrong == REFUSED {
         let answer = built.answer;
@@ -51,6 +52,7 @@ fn show_wrong_lines() {
     show_built(b"[header]\n[host]\nnqn a\nnqn b\n");
     show_built(b"[header]\n[hfi]\n[host]\nnqn a\n");
     show_built(b"[header]\n[host]\n");
+    show_built(b"[header]\n# no host\n");
     show_built(b"[header]\n[host]\nnqn a\n[hfi unused]\nflags 1\n");
 }
 

@@ -15,7 +15,7 @@ use Rattle.laws.specs.Runs.{AllProper, Build, Call, Proper, after, does, finish
 use Rattle.laws.specs.DemandTwo.{Closed, built}
 use Rattle.turns.proofs.Laws.{next-waits}
 use Rattle.filling.specs.Calls.{hostTold, tellHost, hfiTold, tellHfi, pathTold, ssnsTold, tellSsns, securityTold, tellSecurity, discoveryTold, tellDiscovery}
-use Rattle.builder.specs.Begins.{headerTold, beginWith}
+use Rattle.opening.specs.Begins.{headerTold, beginWith}
 
 -- what a caller hands to each of the calls
 pub data Handed : Type 0 where

@@ -1,3 +1,2 @@
-pub mod BeginLaws
-pub mod EndLaws
+pub mod LeaveLaws
 pub mod DemandTwo

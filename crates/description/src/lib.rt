@@ -1,14 +1,14 @@
 // A table built from its description, and what is promised of it.
+use front::Counts;
 use sections::lines::nth_section;
 use sections::walking::Walk;
 use sections::walking::close;
 use sections::walking::walked;
+use sections::wrongs::INCOMPLETE;
 use sections::wrongs::NOTHING;
-use sections::wrongs::OUT_OF_TURN;
 use sections::wrongs::REFUSED;
 use sections::wrongs::TOO_MANY;
 use table::Answer;
-use writer::front::Counts;
 ghost use mathlib.Core.Path.{_≡_};
 ghost use lib.ListN.{take};
 ghost use Rattle.io.specs.Counts as io;
@@ -85,7 +85,7 @@ fn finish(text: &[u8], w: Walk, out: &mut [u8]) -> Built
     }
     let state = w.state;
     if state.turn != 7 {
-        return failed(OUT_OF_TURN, last, answer);
+        return failed(INCOMPLETE, last, answer);
     }
     let step = builder::finish(out, state);
     let a = step.answer;

@@ -9,6 +9,7 @@ use lib.Seq.{getD-take}
 use lib.Dec.{T, leb, eqb, leb→le, lit<}
 use borrow.Author.Tests.{eq-eqb, ne-eqb, eqb-true}
 use mir.Facts.{and-yes}
+use Rattle.table.specs.declared.Need.{Need}
 use Rattle.table.specs.declared.Answer.{Answer}
 use Rattle.table.specs.declared.State.{State}
 use Rattle.table.specs.Bytes.{pick, every, apply, splice}
@@ -148,3 +149,18 @@ fits-short c o t = leb→le (length o) 65535 (and-yes c (isShort o) t .1)
 pub two-true : (c d : Bool) → (c && d) ≡ true → (c ≡ true) × (d ≡ true)
 two-true true d e = (refl, e)
 two-true false d e = absurd (subst T (sym e) tt)
+
+-- what the code knows of an object under a need
+abbrev pub Fine : Need → List ℕ → Bool
+Fine n o = fitsNeed n (under n [] o) && isShort (under n [] o)
+
+-- what fits is short
+pub fine-short : (n : Need) (o : List ℕ) → Fine n o ≡ true → length (under n [] o) ≤ 65535
+fine-short n o e = fits-short (fitsNeed n (under n [] o)) (under n [] o) (subst T (sym e) tt)
+
+pub three : (f : Bool) → f ≡ ((true && (f && true)) && true)
+three true = refl
+three false = refl
+
+pub length-at : (xs ys : List ℕ) (i : ℕ) → xs ≡ ys → getD xs i 0 ≡ getD ys i 0
+length-at xs ys i e = ap (λ (z : List ℕ). getD z i 0) e

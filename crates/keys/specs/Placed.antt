@@ -1,4 +1,4 @@
--- Where a place may be. Assumes nothing.
+-- Where the value of a word may go: bounds within which a section is kept while it is read. Definitions only.
 use Prim.Native.Nat.{_+_, _≤_}
 use Rattle.keys.specs.declared.Place.{Place}
 

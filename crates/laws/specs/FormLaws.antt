@@ -1,4 +1,4 @@
--- The one form of a meaning: its length, what stands where, that its meaning is the one it was made of, and that it is accepted. Assumes nothing.
+-- The one form of a meaning: its length, what stands where, and that its meaning is the one it was made of. Assumes nothing.
 use mathlib.Core.Path.{_≡_, refl, sym, ap, ap₂, _∙_, subst}
 use mathlib.Core.Bool.{Bool, true, false, not, _&&_, _||_}
 use mathlib.Core.List.{List, [], _∷_, _++_, append-nil}

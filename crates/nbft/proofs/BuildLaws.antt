@@ -1,16 +1,15 @@
--- The builder's calls for C: the positions that their answers name are below 256, and a state is its 16 bytes. Assumes nothing.
-use mathlib.Core.Path.{_≡_, refl, ap, _∙_}
+-- The builder's calls for C: the positions that their answers name are below 256. Assumes nothing.
+use mathlib.Core.Path.{_≡_, refl}
 use mathlib.Core.Bool.{Bool, true, false, _&&_, _||_}
 use mathlib.Core.List.{List, [], _∷_, _++_}
-use Prim.Native.Nat.{ℕ, zero, suc, _+_, _-_, _*_, _/_, _^_, _<_}
+use Prim.Native.Nat.{ℕ, zero, suc, _+_, _-_, _/_, _<_}
 use native.Mathlib.Omega.{arith}
-use lib.ListN.{length, getD, take, drop}
+use lib.ListN.{length, take, drop}
 use lib.Dec.{eqb, leb, lit<}
 use borrow.Author.Tests.{eqb-true}
 use Rattle.table.specs.declared.Answer.{Answer}
 use Rattle.table.specs.declared.State.{State}
-use Rattle.table.specs.declared.Step.{Step}
-use Rattle.table.specs.Bytes.{pick, num, le, splice, checksum}
+use Rattle.table.specs.Bytes.{pick, le, splice, checksum}
 use Rattle.table.specs.Layout.{Layout, Slots, env, pairsRight}
 use Rattle.table.specs.FixedLayouts.{host, hfi, ssns, security, discovery, listKinds}
 use Rattle.table.specs.Objects.{sizeOf}
@@ -19,15 +18,11 @@ use Rattle.table.specs.Meaning.{formLength, laidOut}
 use Rattle.table.specs.Numbers.{check}
 use Rattle.table.specs.Builder.{Outcome, outcome, counts, countOf, inList, waits, finishing, sameState, empty, roomTests, envOf, toldImage, toldSlots, slotsRule, fillAnswer, fill, next, placed, placeOf, leave, begin, begun, opened, finish, finished, sealed, recordsEnd, moved, turn}
 use Rattle.laws.specs.Fields.{Bytes}
-use Rattle.laws.specs.ByteLaws.{num-suc, val-le}
 use Rattle.laws.specs.Positions.{check-placed}
 use Rattle.turns.proofs.Laws.{waits-in-place, in-list-upto}
 use Rattle.filling.specs.Calls.{hostTold, hfiTold, ssnsTold, securityTold, discoveryTold, tellHost, tellHfi, tellSsns, tellSecurity, tellDiscovery}
-use Rattle.builder.specs.Begins.{headerTold, beginWith}
-use Rattle.packing.specs.Packed.{packed}
-use Rattle.nbft.specs.States.{stateOf, stateBytes, stateAfter, Shown, SmallState}
-
--- ---- positions
+use Rattle.opening.specs.Begins.{headerTold, beginWith}
+use Rattle.states.specs.States.{SmallState}
 
 abbrev Placed : Answer → Type 0
 Placed a = a .position < 256
@@ -171,34 +166,3 @@ finish-placed s b p =
     let t : List ℕ = take (s .used) (sealed s b) in
     answered (first (firstFail ts) (check t)) s (moved s (turn finished 0) (s .used)) b (sealed s b)
     (one-of (eqb (firstFail ts .number) 0) (check t) (firstFail ts) (check-placed t (bytes-take (s .used) (sealed s b) (bytes-sealed s b p))) (fails-placed ts (lit< tt, (lit< tt, tt))))
-
--- ---- states
-
-used-halves : (b : List ℕ) → num b 8 8 ≡ num b 8 4 + 4294967296 * num b 12 4
-used-halves b =
-    omega (arith, num-suc b 8 7, num-suc b 9 6, num-suc b 10 5, num-suc b 11 4, num-suc b 8 3, num-suc b 9 2, num-suc b 10 1, num-suc b 11 0)
-
-pub state-read : (b : List ℕ) (t p lo hi : ℕ) → t ≡ num b 0 2 → p ≡ num b 2 2 → lo ≡ num b 8 4 → hi ≡ num b 12 4
-    → record { turn = t; position = p; hfi = getD b 4 0; ssns = getD b 5 0; security = getD b 6 0; discovery = getD b 7 0; used = lo + 4294967296 * hi } ≡ stateOf b
-unfolding stateOf
-state-read b t p lo hi e f g h = let u : lo + 4294967296 * hi ≡ num b 8 8 = omega (arith, g, h, used-halves b) in rw (e, f, u) refl
-
-pub four-bytes : (b : List ℕ) → length b ≡ 4 → getD b 0 0 ∷ getD b 1 0 ∷ getD b 2 0 ∷ getD b 3 0 ∷ [] ≡ b
-four-bytes [] e = absurd (omega (arith, e))
-four-bytes (w ∷ []) e = absurd (omega (arith, e))
-four-bytes (w ∷ x ∷ []) e = absurd (omega (arith, e))
-four-bytes (w ∷ x ∷ y ∷ []) e = absurd (omega (arith, e))
-four-bytes (w ∷ x ∷ y ∷ z ∷ []) e = refl
-four-bytes (w ∷ x ∷ y ∷ z ∷ v ∷ b) e = absurd (omega (arith, e))
-
--- what is stored is read again
-pub state-kept : (s : State) → s .turn < 65536 → s .position < 65536 → s .used < 256 ^ 8 → stateOf (stateBytes s) ≡ s
-unfolding stateOf stateBytes
-state-kept s t p u = rw (val-le 2 (s .turn) t, val-le 2 (s .position) p, val-le 8 (s .used) u) refl
-
--- a call that is made with the state of the caller's bytes
-pub shown : (f : State → Outcome) (s : State) (before after buffer : List ℕ) (step : Step) (r : ℕ) → s ≡ stateOf before → step ≡ f s .step → buffer ≡ f s .buffer
-    → r ≡ packed (step .answer) → after ≡ stateAfter before step → Shown (f (stateOf before)) before r after buffer
-shown f s before after buffer step r e p q n a =
-    let p′ : step ≡ f (stateOf before) .step = p ∙ ap (λ (x : State). f x .step) e in
-    (n ∙ ap (λ (x : Step). packed (x .answer)) p′, a ∙ ap (stateAfter before) p′, q ∙ ap (λ (x : State). f x .buffer) e)

@@ -1,9 +1,6 @@
 // The C functions, and nothing else. include/nbft.h declares them.
 use packing::pack;
-use packing::pack_field;
-use packing::pack_place;
 use packing::pack_rewritten;
-use packing::store;
 ghost use mathlib.Core.Path.{_≡_};
 ghost use lib.ListN.{length};
 ghost use Rattle.table.specs.Numbers.{check};
@@ -32,18 +29,14 @@ pub extern "C" fn nbft_field(
 ) -> u64
     ensures { λ r. ⌜ (r ≡ packedField (readField (now (t .entry)) kind position offset)) × (now (value .exit) ≡ valueAfter (readField (now (t .entry)) kind position offset) (now (value .entry))) ⌝ }
 {
-    let f = field_reads::field(t, kind, position as usize, offset as usize);
-    let answer = f.answer;
-    let bytes = f.bytes;
-    store(value, answer.number, bytes);
-    pack_field(f)
+    packed_reads::field(t, kind, position, offset, value)
 }
 
 #[no_mangle]
 pub extern "C" fn nbft_object(t: &[u8], kind: u8, position: u16, offset: u32) -> u64
     ensures { λ r. ⌜ r ≡ packedPlace (readPlace (now (t .entry)) kind position offset) ⌝ }
 {
-    pack_place(object_reads::object_place(t, kind, position as usize, offset as usize))
+    packed_reads::object(t, kind, position, offset)
 }
 
 // Where that object starts, counted from `t`; 0 where refused or absent.
@@ -51,8 +44,7 @@ pub extern "C" fn nbft_object(t: &[u8], kind: u8, position: u16, offset: u32) ->
 pub extern "C" fn nbft_object_start(t: &[u8], kind: u8, position: u16, offset: u32) -> u32
     ensures { λ r. ⌜ r ≡ readPlace (now (t .entry)) kind position offset .at ⌝ }
 {
-    let p = object_reads::object_place(t, kind, position as usize, offset as usize);
-    p.at as u32
+    packed_reads::object_start(t, kind, position, offset)
 }
 
 // The one form of the table into the first bytes of `out`; where refused, `out` stays as it was.

@@ -4,21 +4,11 @@ use description::build;
 use libc::STDERR_FILENO;
 use sections::wrongs::NOTHING;
 use sections::wrongs::REFUSED;
-use sections::wrongs::words_of;
-use text::Text;
+use sections::wrongs::write_words;
 use tool::complain;
-ghost use Rattle.io.specs.Counts.{Counts};
 
 // A description has comments, and four characters for a byte that is escaped.
 const LONGEST: usize = 300000;
-
-fn complain_text(t: Text)
-    requires { ⌜ Counts (t .len) (t .bytes) ⌝ }
-{
-    let len = t.len;
-    let bytes = t.bytes;
-    complain(&bytes[..len], b"\n");
-}
 
 // As compilers say it: the file, the line, and what is wrong there.
 fn print_wrong(argument: usize, wrong: u8, line: usize) {
@@ -26,8 +16,9 @@ fn print_wrong(argument: usize, wrong: u8, line: usize) {
     let n = os::arg(argument, &mut path);
     complain(&path[..n], b":");
     io::print_decimal(STDERR_FILENO, line as u64);
-    complain(b": ", b"");
-    complain_text(words_of(wrong));
+    io::write_all(STDERR_FILENO, b": ");
+    write_words(STDERR_FILENO, wrong);
+    io::write_all(STDERR_FILENO, b"\n");
 }
 
 fn build_file(from: usize, to: usize) {
@@ -59,8 +50,22 @@ fn write_table(to: usize, out: &[u8], len: usize) {
     }
 }
 
+// Whether OUT has the description's name: it would be replaced by the table.
+fn is_one_name() -> bool {
+    let mut name = io::buffer();
+    let n = os::arg(2, &mut name);
+    tool::argument_is(1, &name[..n])
+}
+
 fn main() {
+    if tool::helped(b"usage: nbft_build SPEC OUT\n") {
+        return;
+    }
     if os::arg_count() == 3 {
+        if is_one_name() {
+            complain(b"OUT is the description, and not replaced", b"\n");
+            return;
+        }
         build_file(1, 2);
         return;
     }

@@ -2,15 +2,22 @@
 // numbers for programs, one of words for people. What hinders the check goes to standard error.
 use tool::MOST;
 
-fn main() {
-    if os::arg_count() != 2 {
-        tool::complain(b"usage: nbft_check FILE", b"\n");
-        return;
-    }
+fn check_file(argument: usize) {
     let mut table = [0u8; MOST];
-    let got = tool::read_file(1, &mut table);
+    let got = tool::read_file(argument, &mut table);
     let n = got.len;
     if got.whole {
         tool::print_answer(reader::check(&table[..n]));
     }
+}
+
+fn main() {
+    if tool::helped(b"usage: nbft_check FILE\n") {
+        return;
+    }
+    if os::arg_count() == 2 {
+        check_file(1);
+        return;
+    }
+    tool::complain(b"usage: nbft_check FILE", b"\n");
 }

@@ -4,6 +4,9 @@ use forms::files::compare_files;
 use forms::files::rewrite_file;
 
 fn main() {
+    if tool::helped(b"usage: nbft_rewrite IN OUT, or nbft_rewrite --same FILE FILE\n") {
+        return;
+    }
     let count = os::arg_count();
     let same = tool::argument_is(1, b"--same");
     if same {

@@ -12,14 +12,19 @@ fn show_file(argument: usize, as_json: bool) {
 }
 
 fn main() {
-    let count = os::arg_count();
-    if count == 2 {
-        show_file(1, false);
+    if tool::helped(b"usage: nbft_show [--json] FILE\n") {
         return;
     }
-    if count == 3 {
-        if tool::argument_is(1, b"--json") {
+    let count = os::arg_count();
+    let json = tool::argument_is(1, b"--json");
+    if json {
+        if count == 3 {
             show_file(2, true);
+            return;
+        }
+    } else {
+        if count == 2 {
+            show_file(1, false);
             return;
         }
     }

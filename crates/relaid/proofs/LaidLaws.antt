@@ -17,7 +17,7 @@ use Rattle.laws.specs.Fields.{imageIn, length-imageIn}
 use Rattle.laws.specs.ListWalk.{refs-within}
 use Rattle.writer.specs.Stores.{refNum}
 use Rattle.writer.proofs.StoreLaws.{splice-join, splice-none, splice-swap, splice-inside}
-use Rattle.writer.proofs.FrontLaws.{length-ref}
+use Rattle.writer.proofs.RecordLaws.{length-ref}
 use Rattle.reader.specs.Accepted.{Accepted}
 use Rattle.reads.specs.declared.seats.Seat.the-variants.{At}
 use Rattle.reads.specs.Seats.{Seated}

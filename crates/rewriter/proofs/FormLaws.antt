@@ -18,8 +18,9 @@ use Rattle.laws.specs.Fields.{Bytes}
 use Rattle.laws.specs.Sound.{length-readList}
 use Rattle.laws.specs.Blank.{lengthsOf}
 use Rattle.writer.specs.Stores.{refNum}
-use Rattle.writer.specs.Front.{headerFor, controlFor}
-use Rattle.writer.proofs.FrontLaws.{length-ref, header-is, header-joined, header-long, control-is, control-joined, control-long}
+use Rattle.front.specs.Front.{headerFor, controlFor}
+use Rattle.writer.proofs.RecordLaws.{length-ref}
+use Rattle.front.proofs.FrontLaws.{header-is, header-joined, header-long, control-is, control-joined, control-long}
 use Rattle.writer.proofs.StoreLaws.{splice-join, splice-none, splice-swap, splice-over}
 use Rattle.reader.specs.Accepted.{Accepted}
 use Rattle.reader.proofs.AcceptedLaws.{laid as sound}

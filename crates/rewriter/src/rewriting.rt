@@ -1,4 +1,7 @@
 // The rewriter: the reader's answer, then 17, then 14; only where all pass is a byte written.
+use front::Counts;
+use front::write_control;
+use front::write_header;
 use relaid::records::lay_entry;
 use relaid::records::lay_named;
 use relaid_lists::lay_lists;
@@ -6,9 +9,6 @@ use room::room_fault;
 use sealing::seal;
 use table::Answer;
 use table::Rewritten;
-use writer::front::Counts;
-use writer::front::write_control;
-use writer::front::write_header;
 ghost use mathlib.Core.Path.{_≡_};
 ghost use mathlib.Core.List.{_∷_, []};
 ghost use Prim.Native.Nat.{_+_, _≤_};
@@ -17,7 +17,7 @@ ghost use Rattle.table.specs.Bytes.{part, splice};
 ghost use Rattle.table.specs.Meaning.{meaning, heapLen, formLength, laidOut};
 ghost use Rattle.table.specs.Rewriting as definition;
 ghost use Rattle.reader.specs.Accepted.{Accepted};
-ghost use Rattle.writer.specs.Front.{headerFor, controlFor};
+ghost use Rattle.front.specs.Front.{headerFor, controlFor};
 
 // Header and control record; `n` is Length, `h` and `k` are place and length of the heap, `d` is the length of the driver signature.
 fn lay_front(out: &mut [u8], t: &[u8], n: usize, h: usize, k: usize, d: usize)

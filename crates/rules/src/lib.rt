@@ -1,4 +1,5 @@
-// The rules of a record's references: each by kind and offset, with the heap record that it refers to. The heap is lent as a part of the table, a heap record as a part of the heap.
+// The rules of a record's references: each by kind and offset, with the heap record that it refers to. The heap is lent as a part of the table,
+// a heap record as a part of the heap.
 use needs::plain_need;
 use needs::security_need;
 use needs::ssns_need;

@@ -1,4 +1,4 @@
-// A section as far as it is read.
+// A section as far as it is read: its bytes, its objects in the lent room, and the line that told each, so that a fault can be named by its line.
 use crate::lines::NO_KIND;
 use crate::lines::Section;
 use crate::wrongs::NO_FIELD;

@@ -1,4 +1,4 @@
-// Lines, words and sections of a text.
+// Lines, words and sections of a text: where each begins and ends, without the blanks around it.
 use check::same;
 use spelling::parts::mark_from;
 ghost use Prim.Native.Nat.{_≤_, _<_};

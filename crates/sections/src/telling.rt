@@ -1,5 +1,6 @@
-// A section told to the builder.
+// A section told to the builder by the call of its kind. What that call would drop without a word is found before.
 use crate::drafts::Draft;
+use front::Counts;
 use needs::security_need;
 use table::Discovery;
 use table::Extended;
@@ -11,7 +12,6 @@ use table::Security;
 use table::Ssns;
 use table::State;
 use table::Step;
-use writer::front::Counts;
 use writer::stores::copy_into;
 ghost use mathlib.Core.Path.{_≡_};
 ghost use Prim.Native.Nat.{_≤_, _<_};

@@ -16,10 +16,10 @@ use crate::wrongs::NOTHING;
 use crate::wrongs::OUT_OF_TURN;
 use crate::wrongs::REFUSED;
 use crate::wrongs::TOLD_UNUSED;
+use front::Counts;
 use spelling::parts::mark_from;
 use table::Answer;
 use table::State;
-use writer::front::Counts;
 
 // The line that was read last, or the one that is wrong; what the builder answered last, and its state.
 pub struct Walk {

@@ -1,11 +1,5 @@
 // What may be wrong with a description, in words.
 use keys::Form;
-use text::Text;
-use text::append::empty;
-use text::append::with_bytes;
-ghost use Prim.Native.Nat.{_≤_};
-ghost use lib.ListN.{length};
-ghost use Rattle.io.specs.Counts.{Counts};
 
 pub const NOTHING: u8 = 0;
 
@@ -43,6 +37,8 @@ pub const TOO_MANY: u8 = 16;
 
 pub const REFUSED: u8 = 17;
 
+pub const INCOMPLETE: u8 = 18;
+
 // A value that is not written as its field asks.
 pub fn wrong_value(form: Form) -> u8 {
     match form {
@@ -57,43 +53,44 @@ pub fn wrong_value(form: Form) -> u8 {
     }
 }
 
-fn word(s: &[u8]) -> Text
-    requires { ⌜ length (now s) ≤ 128 ⌝ }
-    ensures { λ r. ⌜ Counts (r .len) (r .bytes) ⌝ }
-{
-    with_bytes(empty(), s)
-}
-
-fn words_on_values(wrong: u8) -> Text
-    ensures { λ r. ⌜ Counts (r .len) (r .bytes) ⌝ }
-{
+fn write_on_value(fd: i32, wrong: u8) -> bool {
     match wrong {
-        1 => word(b"no number, as 4420 or 0x1144, or too great for its field"),
-        2 => word(b"too long for its field or a table, or a backslash without xHH behind it"),
-        3 => word(b"not hexadecimal digits, two for each byte, or not as many as there must be"),
-        4 => word(b"no address of an interface, as 52:54:00:a1:b2:01"),
-        5 => word(b"no function of a device, as 0000:1c:00.0"),
-        6 => word(b"no Internet address, as 192.168.101.30 or fe80::1"),
-        _ => word(b"no list of numbers up to 255, as 2,3"),
+        1 => io::write_all(
+            fd,
+            b"no number, as 4420 or 0x1144, or too great for its field",
+        ),
+        2 => io::write_all(
+            fd,
+            b"too long for its field or a table, or a backslash without xHH behind it",
+        ),
+        3 => io::write_all(
+            fd,
+            b"not hexadecimal digits, two for each byte, or not as many as there must be",
+        ),
+        4 => io::write_all(fd, b"no address of an interface, as 52:54:00:a1:b2:01"),
+        5 => io::write_all(fd, b"no function of a device, as 0000:1c:00.0"),
+        6 => io::write_all(fd, b"no Internet address, as 192.168.101.30 or fe80::1"),
+        _ => io::write_all(fd, b"no list of numbers up to 255, as 2,3"),
     }
 }
 
-pub fn words_of(wrong: u8) -> Text
-    ensures { λ r. ⌜ Counts (r .len) (r .bytes) ⌝ }
-{
+// The words to an open file, without a line's end.
+pub fn write_words(fd: i32, wrong: u8) -> bool {
     match wrong {
-        8 => word(b"no such field in this section"),
-        9 => word(b"no value"),
-        10 => word(b"no such section"),
-        11 => word(b"a field before the first section"),
-        12 => word(b"told before in this section"),
-        13 => word(b"an unused position has no fields"),
-        14 => word(b"does not count with the flags of this section"),
-        15 => word(
+        8 => io::write_all(fd, b"no such field in this section"),
+        9 => io::write_all(fd, b"no value"),
+        10 => io::write_all(fd, b"no such section"),
+        11 => io::write_all(fd, b"a field before the first section"),
+        12 => io::write_all(fd, b"told before in this section"),
+        13 => io::write_all(fd, b"an unused position has no fields"),
+        14 => io::write_all(fd, b"does not count with the flags of this section"),
+        15 => io::write_all(
+            fd,
             b"out of turn: header and host, one each, then hfi, subsystem, security and discovery",
         ),
-        16 => word(b"more than 255 sections of this kind"),
-        17 => word(b"refused"),
-        _ => words_on_values(wrong),
+        16 => io::write_all(fd, b"more than 255 sections of this kind"),
+        17 => io::write_all(fd, b"refused"),
+        18 => io::write_all(fd, b"the end, and no header or no host"),
+        _ => write_on_value(fd, wrong),
     }
 }

@@ -1,4 +1,4 @@
-// Which records there are.
+// Which records there are: how many a list has, and whether one is used.
 use field_reads::field_in;
 ghost use Rattle.reader.specs.Accepted.{Accepted};
 

@@ -1,4 +1,4 @@
--- Laws of told records. Assumes nothing.
+-- Told records: which kinds may be told, what the builder sets of them, and the image and the objects that are left. Assumes nothing.
 use mathlib.Core.Path.{_≡_, refl, sym, ap, ap₂, _∙_, subst}
 use mathlib.Core.Bool.{Bool, true, false, _&&_}
 use mathlib.Core.List.{List, [], _∷_, _++_, append-assoc, append-nil}

@@ -94,6 +94,18 @@ pub fn argument_is(argument: usize, word: &[u8]) -> bool {
     check::same(&given[..n], word)
 }
 
+// `--help` alone: the usage on standard output, where it was asked for.
+pub fn helped(usage: &[u8]) -> bool {
+    if os::arg_count() != 2 {
+        return false;
+    }
+    if !argument_is(1, b"--help") {
+        return false;
+    }
+    io::write_all(STDOUT_FILENO, usage);
+    true
+}
+
 pub fn print(t: Text)
     requires { ⌜ Counts (t .len) (t .bytes) ⌝ }
 {

@@ -1,4 +1,4 @@
--- Laws of the builder's states. Assumes nothing.
+-- The builder's states as the code tests them: whether one is in place and waits for a kind, and which comes next. Assumes nothing.
 use mathlib.Core.Path.{_≡_, refl, sym, ap, _∙_, subst}
 use mathlib.Core.Bool.{Bool, true, false, not, _&&_, _||_}
 use mathlib.Core.List.{List, [], _∷_}

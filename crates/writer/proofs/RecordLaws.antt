@@ -1,12 +1,14 @@
 -- Laws of stores by table. Assumes nothing.
 use mathlib.Core.Path.{_≡_, refl, sym, ap, _∙_}
+use mathlib.Core.Bool.{Bool, true, false}
 use mathlib.Core.List.{List, [], _∷_, _++_, append-nil}
 use Prim.Native.Nat.{ℕ, zero, suc, _+_, _-_, _≤_, _<_}
 use native.Mathlib.Omega.{arith}
 use lib.ListN.{length, getD, drop}
 use lib.Seq.{drop-length, getD-drop}
+use lib.Dec.{eqb}
 use native.Mathlib.Nat.{not-suc-le-zero, le-of-suc-le-suc}
-use Rattle.table.specs.Bytes.{splice}
+use Rattle.table.specs.Bytes.{pick, splice}
 use Rattle.table.specs.Bytes.{Edit, edit, apply}
 use borrow.Author.Tests.{ne-eqb}
 use native.Mathlib.Nat.{add-zero}
@@ -108,3 +110,10 @@ stores-told (rec {p = p} {shape = shape} img own ss) ps ns ws h i t =
 pub written : {rs : Refs} (ss : Slots rs) (ps ns ws x : List ℕ) (h : ℕ) → Told ss ps ns ws 0 → apply x (storesFrom ps ns ws h 0 (many ss)) ≡ patched h x ss
 unfolding patched
 written ss ps ns ws x h t = ap (apply x) (sym (stores-told ss ps ns ws h 0 t))
+
+pub length-ref : (h n : ℕ) → length (refNum h n) ≡ 6
+length-ref h n = go (eqb n 0)
+  where
+    go : (c : Bool) → length (pick c (ref6 0 0) (ref6 h n)) ≡ 6
+    go true = refl
+    go false = refl

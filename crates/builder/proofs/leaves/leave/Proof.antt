@@ -1,4 +1,4 @@
-use Rattle.builder.proofs.EndLaws.{leave-early, leave-nowhere, leave-short, leave-done}
+use Rattle.builder.proofs.LeaveLaws.{leave-early, leave-nowhere, leave-short, leave-done}
 use lib.ListN.{length, take}
 use Prim.Native.Nat.{ℕ, _+_, _-_, _<_, _≤_}
 use Rattle.steps.proofs.LayLaws.{step-is}

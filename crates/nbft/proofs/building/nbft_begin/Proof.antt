@@ -1,6 +1,7 @@
-use Rattle.nbft.proofs.BuildLaws.{shown, begin-placed}
+use Rattle.nbft.proofs.BuildLaws.{begin-placed}
+use Rattle.states.proofs.StateLaws.{shown}
 use Rattle.table.specs.declared.State.{State}
-use Rattle.builder.specs.Begins.{beginWith}
+use Rattle.opening.specs.Begins.{beginWith}
 use mathlib.Core.List.{List, [], _∷_}
 use mathlib.Core.Path.{ap, _∙_}
 use Prim.Native.Nat.{ℕ}
@@ -9,10 +10,10 @@ use Rattle.nbft.proofs.building.nbft_begin.Statement.{statement}
 use Rattle.nbft.proofs.building.nbft_begin.Tie as tie
 use Rattle.nbft.proofs.building.nbft_begin.Reads as reads
 use Rattle.nbft.proofs.building.nbft_begin.Lts as lts
-use Rattle.builder.proofs.begin.Reads as begin-reads
-use Rattle.nbft.proofs.building.counts_of.Reads as counts-of-reads
-use Rattle.nbft.proofs.building.show.Reads as show-reads
-use Rattle.nbft.proofs.building.state_of.Reads as state-of-reads
+use Rattle.opening.proofs.begin.Reads as begin-reads
+use Rattle.states.proofs.counts_of.Reads as counts-of-reads
+use Rattle.states.proofs.show.Reads as show-reads
+use Rattle.states.proofs.state_of.Reads as state-of-reads
 
 state-of-requires : tie.Need-state-of-requires
 state-of-requires c κs = search needs

@@ -1,14 +1,15 @@
 use Rattle.filling.specs.Calls.{tellDiscovery}
-use Rattle.nbft.proofs.BuildLaws.{shown, discovery-placed}
+use Rattle.nbft.proofs.BuildLaws.{discovery-placed}
+use Rattle.states.proofs.StateLaws.{shown}
 use Rattle.table.specs.declared.State.{State}
 use borrow.Author.Needs.{needs}
 use Rattle.nbft.proofs.building.nbft_discovery.Statement.{statement}
 use Rattle.nbft.proofs.building.nbft_discovery.Tie as tie
 use Rattle.nbft.proofs.building.nbft_discovery.Reads as reads
 use Rattle.nbft.proofs.building.nbft_discovery.Lts as lts
-use Rattle.filling.proofs.discovery.Reads as discovery-reads
-use Rattle.nbft.proofs.building.show.Reads as show-reads
-use Rattle.nbft.proofs.building.state_of.Reads as state-of-reads
+use Rattle.plain_calls.proofs.discovery.Reads as discovery-reads
+use Rattle.states.proofs.show.Reads as show-reads
+use Rattle.states.proofs.state_of.Reads as state-of-reads
 
 state-of-requires : tie.Need-state-of-requires
 state-of-requires c κs = search needs

@@ -1,5 +1,6 @@
 use Rattle.table.specs.Builder.{finish}
-use Rattle.nbft.proofs.BuildLaws.{shown, finish-placed}
+use Rattle.nbft.proofs.BuildLaws.{finish-placed}
+use Rattle.states.proofs.StateLaws.{shown}
 use Rattle.table.specs.declared.State.{State}
 use native.Mathlib.Omega.{arith}
 use borrow.Author.Needs.{needs}
@@ -7,9 +8,9 @@ use Rattle.nbft.proofs.building.nbft_finish.Statement.{statement}
 use Rattle.nbft.proofs.building.nbft_finish.Tie as tie
 use Rattle.nbft.proofs.building.nbft_finish.Reads as reads
 use Rattle.nbft.proofs.building.nbft_finish.Lts as lts
-use Rattle.builder.proofs.finish.Reads as finish-reads
-use Rattle.nbft.proofs.building.show.Reads as show-reads
-use Rattle.nbft.proofs.building.state_of.Reads as state-of-reads
+use Rattle.finishing.proofs.finish.Reads as finish-reads
+use Rattle.states.proofs.show.Reads as show-reads
+use Rattle.states.proofs.state_of.Reads as state-of-reads
 
 state-of-requires : tie.Need-state-of-requires
 state-of-requires c κs = search needs

@@ -1,14 +1,15 @@
 use Rattle.filling.specs.Calls.{tellHfi}
-use Rattle.nbft.proofs.BuildLaws.{shown, hfi-placed}
+use Rattle.nbft.proofs.BuildLaws.{hfi-placed}
+use Rattle.states.proofs.StateLaws.{shown}
 use Rattle.table.specs.declared.State.{State}
 use borrow.Author.Needs.{needs}
 use Rattle.nbft.proofs.building.nbft_hfi.Statement.{statement}
 use Rattle.nbft.proofs.building.nbft_hfi.Tie as tie
 use Rattle.nbft.proofs.building.nbft_hfi.Reads as reads
 use Rattle.nbft.proofs.building.nbft_hfi.Lts as lts
-use Rattle.filling.proofs.hfi.Reads as hfi-reads
-use Rattle.nbft.proofs.building.show.Reads as show-reads
-use Rattle.nbft.proofs.building.state_of.Reads as state-of-reads
+use Rattle.nested_calls.proofs.hfi.Reads as hfi-reads
+use Rattle.states.proofs.show.Reads as show-reads
+use Rattle.states.proofs.state_of.Reads as state-of-reads
 
 state-of-requires : tie.Need-state-of-requires
 state-of-requires c κs = search needs

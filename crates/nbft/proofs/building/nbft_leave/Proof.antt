@@ -1,5 +1,6 @@
 use Rattle.table.specs.Builder.{leave}
-use Rattle.nbft.proofs.BuildLaws.{shown, leave-placed}
+use Rattle.nbft.proofs.BuildLaws.{leave-placed}
+use Rattle.states.proofs.StateLaws.{shown}
 use Rattle.table.specs.declared.State.{State}
 use borrow.Author.Needs.{needs}
 use Rattle.nbft.proofs.building.nbft_leave.Statement.{statement}
@@ -7,8 +8,8 @@ use Rattle.nbft.proofs.building.nbft_leave.Tie as tie
 use Rattle.nbft.proofs.building.nbft_leave.Reads as reads
 use Rattle.nbft.proofs.building.nbft_leave.Lts as lts
 use Rattle.builder.proofs.leave.Reads as leave-reads
-use Rattle.nbft.proofs.building.show.Reads as show-reads
-use Rattle.nbft.proofs.building.state_of.Reads as state-of-reads
+use Rattle.states.proofs.show.Reads as show-reads
+use Rattle.states.proofs.state_of.Reads as state-of-reads
 
 state-of-requires : tie.Need-state-of-requires
 state-of-requires c κs = search needs

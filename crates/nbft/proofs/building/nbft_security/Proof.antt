@@ -1,14 +1,15 @@
 use Rattle.filling.specs.Calls.{tellSecurity}
-use Rattle.nbft.proofs.BuildLaws.{shown, security-placed}
+use Rattle.nbft.proofs.BuildLaws.{security-placed}
+use Rattle.states.proofs.StateLaws.{shown}
 use Rattle.table.specs.declared.State.{State}
 use borrow.Author.Needs.{needs}
 use Rattle.nbft.proofs.building.nbft_security.Statement.{statement}
 use Rattle.nbft.proofs.building.nbft_security.Tie as tie
 use Rattle.nbft.proofs.building.nbft_security.Reads as reads
 use Rattle.nbft.proofs.building.nbft_security.Lts as lts
-use Rattle.filling.proofs.security.Reads as security-reads
-use Rattle.nbft.proofs.building.show.Reads as show-reads
-use Rattle.nbft.proofs.building.state_of.Reads as state-of-reads
+use Rattle.plain_calls.proofs.security.Reads as security-reads
+use Rattle.states.proofs.show.Reads as show-reads
+use Rattle.states.proofs.state_of.Reads as state-of-reads
 
 state-of-requires : tie.Need-state-of-requires
 state-of-requires c κs = search needs

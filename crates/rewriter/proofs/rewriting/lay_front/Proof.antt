@@ -12,8 +12,8 @@ use Rattle.rewriter.proofs.rewriting.lay_front.Statement.{statement}
 use Rattle.rewriter.proofs.rewriting.lay_front.Tie as tie
 use Rattle.rewriter.proofs.rewriting.lay_front.Reads as reads
 use Rattle.rewriter.proofs.rewriting.lay_front.Lts as lts
-use Rattle.writer.proofs.front.write_control.Reads as write-control-reads
-use Rattle.writer.proofs.front.write_header.Reads as write-header-reads
+use Rattle.front.proofs.write_control.Reads as write-control-reads
+use Rattle.front.proofs.write_header.Reads as write-header-reads
 
 sub-write-header : tie.Need-sub-write-header
 sub-write-header c = search needs

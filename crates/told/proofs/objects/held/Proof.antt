@@ -1,5 +1,5 @@
 use Rattle.told.specs.Marks.{refAt}
-use Rattle.writer.proofs.FrontLaws.{length-ref}
+use Rattle.writer.proofs.RecordLaws.{length-ref}
 use Rattle.writer.specs.Stores.{refNum}
 use Rattle.laws.specs.Fields.{imageIn, length-imageIn}
 use Rattle.table.specs.FixedLayouts.{layoutOf}

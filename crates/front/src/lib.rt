@@ -1,0 +1,94 @@
+// Header and control record, each into its own part.
+use writer::records::put_slot;
+use writer::stores::copy_into;
+use writer::stores::fill_zero;
+use writer::stores::put_u8;
+use writer::stores::put_u16;
+use writer::stores::put_u32;
+ghost use mathlib.Core.Path.{_≡_};
+ghost use mathlib.Core.List.{[], _∷_, _++_};
+ghost use Prim.Native.Nat.{_+_, _≤_};
+ghost use lib.ListN.{length};
+ghost use Rattle.table.specs.Bytes.{le, splice};
+ghost use Rattle.front.specs.Front.{headerFor, entryFor, controlFor};
+
+// How many records each list has.
+pub struct Counts {
+    pub hfi: u8,
+    pub ssns: u8,
+    pub security: u8,
+    pub discovery: u8,
+}
+
+// The header with Length `n`; `h` and `k` are place and length of the heap, `d` is the length of the driver signature, which stands first in it.
+// The checksum is 0, so that it can be counted over the finished table and stored then.
+pub fn write_header(part: &mut [u8], oem: &[u8], n: usize, h: usize, k: usize, d: usize)
+    requires { ⌜ length (now part) ≡ 64 ⌝ }
+    requires { ⌜ length (now oem) ≡ 26 ⌝ }
+    ensures { λ r. ⌜ now (part .exit) ≡ headerFor n (now (oem .entry)) h k d ⌝ }
+{
+    let signature = [0x4Eu8, 0x42, 0x46, 0x54];
+    copy_into(part, 0, &signature);
+    put_u32(part, 4, n);
+    put_u8(part, 8, 1);
+    put_u8(part, 9, 0);
+    copy_into(part, 10, oem);
+    put_u32(part, 36, h);
+    put_u32(part, 40, k);
+    put_slot(part, 44, h, d);
+    fill_zero(part, 50, 14);
+}
+
+// Place, record size, version 1 and last byte: a list's entry has its count there, the host's a reserved byte.
+fn put_place(part: &mut [u8], at: usize, place: usize, size: usize, last: u8)
+    requires { ⌜ at + 8 ≤ length (now part) ⌝ }
+    ensures { λ r. ⌜ now (part .exit) ≡ splice (now (part .entry)) at (le 4 place ++ (le 2 size ++ (1 ∷ last ∷ []))) ⌝ }
+{
+    put_u32(part, at, place);
+    put_u16(part, at + 4, size);
+    put_u8(part, at + 6, 1);
+    put_u8(part, at + 7, last);
+}
+
+// The entry of a list; an empty list has no place and no size, whatever place the caller counted up to.
+fn put_entry(part: &mut [u8], at: usize, place: usize, size: usize, count: u8)
+    requires { ⌜ at + 8 ≤ length (now part) ⌝ }
+    ensures { λ r. ⌜ now (part .exit) ≡ splice (now (part .entry)) at (entryFor place size count) ⌝ }
+{
+    if count == 0 {
+        put_place(part, at, 0, 0, 0);
+        return;
+    }
+    put_place(part, at, place, size, count);
+}
+
+// The control record: the host stands behind it, and the lists behind the host, each right behind the one before.
+pub fn write_control(part: &mut [u8], c: Counts)
+    requires { ⌜ length (now part) ≡ 64 ⌝ }
+    ensures { λ r. ⌜ now (part .exit) ≡ controlFor (c .hfi ∷ c .ssns ∷ c .security ∷ c .discovery ∷ []) ⌝ }
+{
+    // ID, revision 1.0, a reserved byte, the record's own length, flags: valid, a reserved byte.
+    let lead = [table::Control::ID, 1, 0, 0, 64, 0, 1, 0];
+    // Header and control record together are this long.
+    let host = table::Control::SIZE;
+    let hfi = host + table::Host::SIZE;
+    let ssns = hfi + (c.hfi as usize) * table::Hfi::SIZE;
+    let security = ssns + (c.ssns as usize) * table::Ssns::SIZE;
+    let discovery = security + (c.security as usize) * table::Security::SIZE;
+    copy_into(part, 0, &lead);
+    put_place(part, 8, host, table::Host::SIZE, 0);
+    put_entry(part, 16, hfi, table::Hfi::SIZE, c.hfi);
+    put_entry(part, 24, ssns, table::Ssns::SIZE, c.ssns);
+    put_entry(part, 32, security, table::Security::SIZE, c.security);
+    put_entry(part, 40, discovery, table::Discovery::SIZE, c.discovery);
+    fill_zero(part, 48, 16);
+}
+
+// Both, into the first bytes of `out`.
+pub fn write_front(out: &mut [u8], oem: &[u8], c: Counts, n: usize, h: usize, k: usize, d: usize)
+    requires { ⌜ (128 ≤ length (now out)) × (length (now oem) ≡ 26) ⌝ }
+    ensures { λ r. ⌜ now (out .exit) ≡ splice (splice (now (out .entry)) 0 (headerFor n (now (oem .entry)) h k d)) 64 (controlFor (c .hfi ∷ c .ssns ∷ c .security ∷ c .discovery ∷ [])) ⌝ }
+{
+    write_header(&mut out[0..64], oem, n, h, k, d);
+    write_control(&mut out[64..128], c);
+}

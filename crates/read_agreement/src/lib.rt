@@ -1,0 +1,1 @@
+// That definitions and second program agree on reads and rewrites stands in specs/.
