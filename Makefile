@@ -21,7 +21,8 @@ AGREED := crates
 ENDED  := target/ended
 
 # Provers at a time: rt waits for all that it started together, so that with one for each of two cores the shorter proof leaves a core idle.
-export RT_JOBS ?= 4
+# The more there are, the fewer such waits. Each takes up to 1.3 GB.
+export RT_JOBS ?= 8
 
 # The library and the programs are x86-64 code. On another processor what links them is compiled for x86-64 too, by the compiler that
 # .ci/emulator installs, and an emulator runs it.
@@ -84,8 +85,9 @@ test:
 proofs:
 	@rt ci; status=$$?; mkdir -p target; touch $(ENDED); exit $$status
 
-# Whether crates are proved; programs are then compiled too.
-proved = { true $(foreach crate,$(1),&& [ -e target/stamp/$(crate) ]); }
+# Whether crates are proved, and whether programs are there: rt has no mark for these before it has run them.
+proved    = { true $(foreach crate,$(1),&& [ -e target/stamp/$(crate) ]); }
+answering = { true $(foreach program,$(1),&& $(BIN)/$(program) --help >/dev/null 2>&1); }
 
 # The library is built in a copy of what `rt ci` has proved: target/ is its own while it runs, and it counts every Rattle file below the
 # repository's top as the repository's. What has a stamp is whole, since a crate's stamp is written last.
@@ -99,7 +101,7 @@ compared: second-tests
 	[ ! -e "$$copy/target/stamp/$${crate%.rlib}" ] || cp -a "target/rlib/$$crate" "$$copy/target/rlib" || exit 1; done && \
 	$(MAKE) --no-print-directory --output-sync=target --directory="$$copy" --file="$(CURDIR)/Makefile" library && \
 	$(MAKE) --no-print-directory --output-sync=target NBFT_LIB="$$copy/target/staticlib" comparisons
-	@until $(call proved,nbft_check nbft_show nbft_rewrite nbft_build) || [ -e $(ENDED) ]; do sleep 1; done
+	@until $(call answering,nbft_check nbft_show nbft_rewrite nbft_build) || [ -e $(ENDED) ]; do sleep 1; done
 	@$(MAKE) --no-print-directory readme
 
 # The second program's own tests, and that the committed vectors, samples and cases are what it writes.

@@ -84,7 +84,7 @@ fn whole(text: &[u8]) -> Result<(), String> {
 
 #[test]
 fn what_is_shown_is_json() {
-    let file = Path::new(env!("CARGO_MANIFEST_DIR")).join("../crates/show_sample/stdout");
+    let file = Path::new(env!("CARGO_MANIFEST_DIR")).join("../crates/tool_samples/stdout");
     let shown = fs::read(file).expect("the program's expected output");
     let start = shown.windows(9).position(|part| part == b"{\"header\"").expect("JSON behind the tables");
     whole(&shown[start..]).unwrap();

@@ -1,6 +1,6 @@
 -- Demand 2 of what the code leaves: by their contracts the calls are these outcomes, each given the state and the buffer that the last one left. Assumes nothing.
 use mathlib.Core.Path.{_≡_, refl, sym, ap, _∙_, subst}
-use mathlib.Core.Bool.{Bool, true}
+use mathlib.Core.Bool.{true}
 use mathlib.Core.List.{List, [], _∷_}
 use Prim.Native.Nat.{ℕ, _+_, _≤_, _<_}
 use lib.ListN.{length}
@@ -10,7 +10,7 @@ use Rattle.table.specs.Bytes.{pick}
 use Rattle.table.specs.Layout.{baseOf}
 use Rattle.table.specs.FixedLayouts.{host, hfi, ssns, security, discovery, info, extended}
 use Rattle.table.specs.Meaning.{Meaning}
-use Rattle.table.specs.Builder.{Outcome, begin, empty, finish, finished, leave, next, waits}
+use Rattle.table.specs.Builder.{Outcome, empty, finish, finished, leave, next, waits}
 use Rattle.laws.specs.Runs.{AllProper, Build, Call, Proper, after, does, finishes, leaves, opens, run, tells, tellsDiscovery, tellsHfi, tellsHost, tellsSecurity, tellsSsns}
 use Rattle.laws.specs.DemandTwo.{Closed, built}
 use Rattle.turns.proofs.Laws.{next-waits}

@@ -1,202 +1,165 @@
-// The columns' names as texts: for people those that users of `nvme nbft show` know, and words without a space for JSON.
-use text::Text;
-ghost use Prim.Native.Nat.{_≤_};
-ghost use lib.ListN.{length};
-ghost use Rattle.io.specs.Counts.{Counts};
+// The columns' names, printed: for people, up to a width, those that users of `nvme nbft show` know, and words without a space for JSON.
+use tool::print_bytes;
+use values::pad;
+use values::print_string;
 
-// A name; all are far shorter than a text may be.
-fn word(s: &[u8]) -> Text
-    requires { ⌜ length (now s) ≤ 128 ⌝ }
-    ensures { λ r. ⌜ Counts (r .len) (r .bytes) ⌝ }
-{
-    text::append::with_bytes(text::append::empty(), s)
-}
-
-fn header_title(i: usize) -> Text
-    ensures { λ r. ⌜ Counts (r .len) (r .bytes) ⌝ }
-{
+fn header_title(i: usize, width: usize) {
     match i {
-        0 => word(b"OEM ID"),
-        1 => word(b"OEM Table ID"),
-        2 => word(b"OEM Revision"),
-        3 => word(b"Creator ID"),
-        4 => word(b"Creator Revision"),
-        5 => word(b"Driver Signature"),
-        _ => text::append::empty(),
+        0 => print_string(b"OEM ID", false, width),
+        1 => print_string(b"OEM Table ID", false, width),
+        2 => print_string(b"OEM Revision", false, width),
+        3 => print_string(b"Creator ID", false, width),
+        4 => print_string(b"Creator Revision", false, width),
+        5 => print_string(b"Driver Signature", false, width),
+        _ => pad(0, width),
     }
 }
 
-fn header_key(i: usize) -> Text
-    ensures { λ r. ⌜ Counts (r .len) (r .bytes) ⌝ }
-{
+fn header_key(i: usize) {
     match i {
-        0 => word(b"oem_id"),
-        1 => word(b"oem_table_id"),
-        2 => word(b"oem_revision"),
-        3 => word(b"creator_id"),
-        4 => word(b"creator_revision"),
-        5 => word(b"driver_signature"),
-        _ => text::append::empty(),
+        0 => print_bytes(b"oem_id"),
+        1 => print_bytes(b"oem_table_id"),
+        2 => print_bytes(b"oem_revision"),
+        3 => print_bytes(b"creator_id"),
+        4 => print_bytes(b"creator_revision"),
+        5 => print_bytes(b"driver_signature"),
+        _ => print_bytes(b""),
     }
 }
 
-fn host_title(i: usize) -> Text
-    ensures { λ r. ⌜ Counts (r .len) (r .bytes) ⌝ }
-{
+fn host_title(i: usize, width: usize) {
     match i {
-        0 => word(b"Host ID"),
-        1 => word(b"NQN"),
-        2 => word(b"Flags"),
-        _ => text::append::empty(),
+        0 => print_string(b"Host ID", false, width),
+        1 => print_string(b"NQN", false, width),
+        2 => print_string(b"Flags", false, width),
+        _ => pad(0, width),
     }
 }
 
-fn host_key(i: usize) -> Text
-    ensures { λ r. ⌜ Counts (r .len) (r .bytes) ⌝ }
-{
+fn host_key(i: usize) {
     match i {
-        0 => word(b"host_id"),
-        1 => word(b"nqn"),
-        2 => word(b"flags"),
-        _ => text::append::empty(),
+        0 => print_bytes(b"host_id"),
+        1 => print_bytes(b"nqn"),
+        2 => print_bytes(b"flags"),
+        _ => print_bytes(b""),
     }
 }
 
-fn hfi_title(i: usize) -> Text
-    ensures { λ r. ⌜ Counts (r .len) (r .bytes) ⌝ }
-{
+fn hfi_title(i: usize, width: usize) {
     match i {
-        0 => word(b"Idx"),
-        1 => word(b"Trsp"),
-        2 => word(b"PCI Addr"),
-        3 => word(b"MAC Addr"),
-        4 => word(b"DHCP"),
-        5 => word(b"IP Addr"),
-        6 => word(b"Mask"),
-        7 => word(b"Gateway"),
-        8 => word(b"DNS"),
-        _ => text::append::empty(),
+        0 => print_string(b"Idx", false, width),
+        1 => print_string(b"Trsp", false, width),
+        2 => print_string(b"PCI Addr", false, width),
+        3 => print_string(b"MAC Addr", false, width),
+        4 => print_string(b"DHCP", false, width),
+        5 => print_string(b"IP Addr", false, width),
+        6 => print_string(b"Mask", false, width),
+        7 => print_string(b"Gateway", false, width),
+        8 => print_string(b"DNS", false, width),
+        _ => pad(0, width),
     }
 }
 
-fn hfi_key(i: usize) -> Text
-    ensures { λ r. ⌜ Counts (r .len) (r .bytes) ⌝ }
-{
+fn hfi_key(i: usize) {
     match i {
-        0 => word(b"index"),
-        1 => word(b"transport"),
-        2 => word(b"pci_address"),
-        3 => word(b"mac_address"),
-        4 => word(b"dhcp"),
-        5 => word(b"ip_address"),
-        6 => word(b"mask"),
-        7 => word(b"gateway"),
-        8 => word(b"dns"),
-        _ => text::append::empty(),
+        0 => print_bytes(b"index"),
+        1 => print_bytes(b"transport"),
+        2 => print_bytes(b"pci_address"),
+        3 => print_bytes(b"mac_address"),
+        4 => print_bytes(b"dhcp"),
+        5 => print_bytes(b"ip_address"),
+        6 => print_bytes(b"mask"),
+        7 => print_bytes(b"gateway"),
+        8 => print_bytes(b"dns"),
+        _ => print_bytes(b""),
     }
 }
 
-fn ssns_title(i: usize) -> Text
-    ensures { λ r. ⌜ Counts (r .len) (r .bytes) ⌝ }
-{
+fn ssns_title(i: usize, width: usize) {
     match i {
-        0 => word(b"Idx"),
-        1 => word(b"NQN"),
-        2 => word(b"Trsp"),
-        3 => word(b"Address"),
-        4 => word(b"SvcId"),
-        5 => word(b"HFIs"),
-        _ => text::append::empty(),
+        0 => print_string(b"Idx", false, width),
+        1 => print_string(b"NQN", false, width),
+        2 => print_string(b"Trsp", false, width),
+        3 => print_string(b"Address", false, width),
+        4 => print_string(b"SvcId", false, width),
+        5 => print_string(b"HFIs", false, width),
+        _ => pad(0, width),
     }
 }
 
-fn ssns_key(i: usize) -> Text
-    ensures { λ r. ⌜ Counts (r .len) (r .bytes) ⌝ }
-{
+fn ssns_key(i: usize) {
     match i {
-        0 => word(b"index"),
-        1 => word(b"nqn"),
-        2 => word(b"transport"),
-        3 => word(b"address"),
-        4 => word(b"service_id"),
-        5 => word(b"hfis"),
-        _ => text::append::empty(),
+        0 => print_bytes(b"index"),
+        1 => print_bytes(b"nqn"),
+        2 => print_bytes(b"transport"),
+        3 => print_bytes(b"address"),
+        4 => print_bytes(b"service_id"),
+        5 => print_bytes(b"hfis"),
+        _ => print_bytes(b""),
     }
 }
 
-fn security_title(i: usize) -> Text
-    ensures { λ r. ⌜ Counts (r .len) (r .bytes) ⌝ }
-{
+fn security_title(i: usize, width: usize) {
     match i {
-        0 => word(b"Idx"),
-        1 => word(b"Flags"),
-        2 => word(b"Channels"),
-        3 => word(b"Auths"),
-        4 => word(b"Ciphers"),
-        5 => word(b"Groups"),
-        6 => word(b"Hashes"),
-        7 => word(b"Keypath"),
-        _ => text::append::empty(),
+        0 => print_string(b"Idx", false, width),
+        1 => print_string(b"Flags", false, width),
+        2 => print_string(b"Channels", false, width),
+        3 => print_string(b"Auths", false, width),
+        4 => print_string(b"Ciphers", false, width),
+        5 => print_string(b"Groups", false, width),
+        6 => print_string(b"Hashes", false, width),
+        7 => print_string(b"Keypath", false, width),
+        _ => pad(0, width),
     }
 }
 
-fn security_key(i: usize) -> Text
-    ensures { λ r. ⌜ Counts (r .len) (r .bytes) ⌝ }
-{
+fn security_key(i: usize) {
     match i {
-        0 => word(b"index"),
-        1 => word(b"flags"),
-        2 => word(b"channels"),
-        3 => word(b"authentications"),
-        4 => word(b"ciphers"),
-        5 => word(b"groups"),
-        6 => word(b"hashes"),
-        7 => word(b"keypath"),
-        _ => text::append::empty(),
+        0 => print_bytes(b"index"),
+        1 => print_bytes(b"flags"),
+        2 => print_bytes(b"channels"),
+        3 => print_bytes(b"authentications"),
+        4 => print_bytes(b"ciphers"),
+        5 => print_bytes(b"groups"),
+        6 => print_bytes(b"hashes"),
+        7 => print_bytes(b"keypath"),
+        _ => print_bytes(b""),
     }
 }
 
-fn discovery_title(i: usize) -> Text
-    ensures { λ r. ⌜ Counts (r .len) (r .bytes) ⌝ }
-{
+fn discovery_title(i: usize, width: usize) {
     match i {
-        0 => word(b"Idx"),
-        1 => word(b"URI"),
-        2 => word(b"NQN"),
-        _ => text::append::empty(),
+        0 => print_string(b"Idx", false, width),
+        1 => print_string(b"URI", false, width),
+        2 => print_string(b"NQN", false, width),
+        _ => pad(0, width),
     }
 }
 
-fn discovery_key(i: usize) -> Text
-    ensures { λ r. ⌜ Counts (r .len) (r .bytes) ⌝ }
-{
+fn discovery_key(i: usize) {
     match i {
-        0 => word(b"index"),
-        1 => word(b"uri"),
-        2 => word(b"nqn"),
-        _ => text::append::empty(),
+        0 => print_bytes(b"index"),
+        1 => print_bytes(b"uri"),
+        2 => print_bytes(b"nqn"),
+        _ => print_bytes(b""),
     }
 }
 
 // The name of column `i` of the records of a kind, for people.
-pub fn title(kind: u8, i: usize) -> Text
-    ensures { λ r. ⌜ Counts (r .len) (r .bytes) ⌝ }
-{
+pub fn print_title(kind: u8, i: usize, width: usize) {
     match kind {
-        0 => header_title(i),
-        2 => host_title(i),
-        3 => hfi_title(i),
-        4 => ssns_title(i),
-        5 => security_title(i),
-        6 => discovery_title(i),
-        _ => text::append::empty(),
+        0 => header_title(i, width),
+        2 => host_title(i, width),
+        3 => hfi_title(i, width),
+        4 => ssns_title(i, width),
+        5 => security_title(i, width),
+        6 => discovery_title(i, width),
+        _ => pad(0, width),
     }
 }
 
 // The same for JSON.
-pub fn key(kind: u8, i: usize) -> Text
-    ensures { λ r. ⌜ Counts (r .len) (r .bytes) ⌝ }
-{
+pub fn print_key(kind: u8, i: usize) {
     match kind {
         0 => header_key(i),
         2 => host_key(i),
@@ -204,6 +167,6 @@ pub fn key(kind: u8, i: usize) -> Text
         4 => ssns_key(i),
         5 => security_key(i),
         6 => discovery_key(i),
-        _ => text::append::empty(),
+        _ => print_bytes(b""),
     }
 }

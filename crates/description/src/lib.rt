@@ -62,7 +62,7 @@ fn counts_of(text: &[u8]) -> Counts {
 
 // The line of the section that an answer speaks of, or the last line.
 fn line_of(text: &[u8], a: Answer, last: usize) -> usize {
-    let position = a.position as usize;
+    let position = a.position;
     let mut n: usize = 1;
     if 0 < position {
         n = position;

@@ -1,22 +1,22 @@
 -- A call that is told a record is its tests, then room and bytes: over any kind. Assumes nothing.
 use mathlib.Core.Path.{_≡_, refl, sym, ap, ap₂, _∙_, subst}
 use mathlib.Core.Bool.{Bool, true, false, _&&_}
-use mathlib.Core.List.{List, [], _∷_, _++_, append-nil}
+use mathlib.Core.List.{List, [], _∷_}
 use Prim.Native.Nat.{ℕ, zero, suc, _+_, _≤_, _<_}
 use native.Mathlib.Omega.{arith}
 use lib.ListN.{length, getD, take}
 use lib.Seq.{getD-take}
-use lib.Dec.{T, leb, eqb, leb→le, lit<}
-use borrow.Author.Tests.{eq-eqb, ne-eqb, eqb-true}
+use lib.Dec.{T, leb, eqb, leb→le}
+use borrow.Author.Tests.{ne-eqb}
 use mir.Facts.{and-yes}
 use Rattle.table.specs.declared.Need.{Need}
 use Rattle.table.specs.declared.Answer.{Answer}
 use Rattle.table.specs.declared.State.{State}
-use Rattle.table.specs.Bytes.{pick, every, apply, splice}
+use Rattle.table.specs.Bytes.{pick, every, apply}
 use Rattle.table.specs.Layout.{Layout, Env, Refs, Slots, nil, bytes, gone, rec, baseOf, offsets, pairsRight}
 use Rattle.table.specs.Objects.{sizeOf, heapOf, patched, under}
 use Rattle.table.specs.Rules.{Test, test, answer, firstFail, firstOf}
-use Rattle.table.specs.Builder.{Outcome, outcome, envOf, fill, fillAnswer, fitsNeed, isShort, mayHave, mayLack, next, placeOf, placed, roomTests, slotsRule, toldImage, toldSlots, waits}
+use Rattle.table.specs.Builder.{outcome, envOf, fill, fillAnswer, fitsNeed, isShort, mayHave, mayLack, next, placeOf, placed, roomTests, slotsRule, toldImage, toldSlots, waits}
 use Rattle.laws.specs.Fields.{imageIn}
 use Rattle.laws.specs.Refusals.{Free}
 use Rattle.writer.specs.Stores.{storesFrom, Room}

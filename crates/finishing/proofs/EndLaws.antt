@@ -2,7 +2,7 @@
 use mathlib.Core.Path.{_≡_, refl, sym, ap, ap₂, _∙_}
 use mathlib.Core.Bool.{Bool, true, false}
 use mathlib.Core.List.{List, [], _∷_, _++_, append-assoc}
-use Prim.Native.Nat.{ℕ, suc, _+_, _-_, _*_, _/_, _%_, _≤_, _<_}
+use Prim.Native.Nat.{ℕ, _+_, _-_, _≤_, _<_}
 use native.Mathlib.Omega.{arith}
 use lib.ListN.{length, getD, take, drop, length-take, length-drop, length-append, take-append-drop, List·getD-eq-default}
 use lib.Seq.{take-at, drop-at, drop-drop, length-take-le, getD-take, getD-drop, drop-cons}
@@ -10,11 +10,12 @@ use lib.Dec.{ltb, lit<}
 use borrow.Author.Tests.{le-leb, lt-leb, eq-eqb, ne-eqb, ltb-true, ltb-false}
 use Rattle.table.specs.declared.Answer.{Answer}
 use Rattle.table.specs.declared.State.{State}
-use Rattle.table.specs.Bytes.{part, val, num, le, checksum, splice}
+use Rattle.table.specs.Bytes.{part, num, le, checksum, splice}
 use Rattle.table.specs.Rules.{answer}
 use Rattle.table.specs.Numbers.{check}
 use Rattle.table.specs.Builder.{finish, finished, moved, recordsEnd, sealed, turn, waits}
 use Rattle.laws.specs.ByteLaws.{length-splice}
+use Rattle.laws.specs.Found.{le-val}
 use Rattle.table.specs.FixedLayouts.{host}
 use Rattle.turns.proofs.Laws.{host-place}
 
@@ -62,14 +63,6 @@ put-back t a xs ys e k =
     let l : length ys ≡ length xs = ap length e ∙ length-take-le (length xs) (drop a t) (rw length-drop (omega arith)) in
     over t a xs ys (sym l) k ∙ ap (splice t a) e ∙ same t a (length xs) k
 
-le-val : (xs : List ℕ) → ((i : ℕ) → getD xs i 0 < 256) → le (length xs) (val xs) ≡ xs
-le-val [] b = refl
-le-val (x ∷ xs) b =
-    let k = b 0 in
-    let m : (x + 256 * val xs) % 256 ≡ x = omega (arith, k) in
-    let d : (x + 256 * val xs) / 256 ≡ val xs = omega (arith, k) in
-    ap₂ (λ (y : ℕ) (ys : List ℕ). y ∷ ys) m (ap (le (length xs)) d ∙ le-val xs (λ i. b (suc i)))
-
 small-part : (t : List ℕ) (a n : ℕ) → ((i : ℕ) → getD t i 0 < 256) → (i : ℕ) → getD (part t a n) i 0 < 256
 small-part t a n b i = go (ltb i n) refl
   where
@@ -80,7 +73,7 @@ small-part t a n b i = go (ltb i n) refl
 pub le-part : (t : List ℕ) (a n : ℕ) → ((i : ℕ) → getD t i 0 < 256) → a + n ≤ length t → le n (num t a n) ≡ part t a n
 le-part t a n b k =
     let l : length (part t a n) ≡ n = length-take-le n (drop a t) (rw length-drop (omega arith)) in
-    ap (λ (m : ℕ). le m (num t a n)) (sym l) ∙ le-val (part t a n) (small-part t a n b)
+    ap (λ (m : ℕ). le m (num t a n)) (sym l) ∙ le-val (length (part t a n)) (part t a n) refl (small-part t a n b)
 
 -- ---- the finished bytes
 

@@ -10,7 +10,7 @@ use lib.Dec.{eqb}
 use Rattle.table.specs.Bytes.{pick, le}
 use Rattle.table.specs.Layout.{Layout, Entry, Body, stop, more, baseOf, slotAt}
 use Rattle.table.specs.FixedLayouts.{host, hfi, ssns, security, discovery}
-use Rattle.table.specs.Objects.{ref6, entry8, placesBody}
+use Rattle.table.specs.Objects.{entry8, placesBody}
 use Rattle.table.specs.Meaning.{Meaning, heapAt, driverRef, headFront, headBack, controlBytes}
 use Rattle.laws.specs.Blank.{lengthsOf}
 use Rattle.writer.specs.Stores.{refNum}

@@ -42,12 +42,6 @@ pub fn with_hex_byte(t: Text, b: u8) -> Text
     with_hex(t, 2, b as u64)
 }
 
-pub fn hex_byte(b: u8) -> Text
-    ensures { λ r. ⌜ Counts (r .len) (r .bytes) × (take (r .len) (r .bytes) ≡ hexOf 2 b) ⌝ }
-{
-    with_hex_byte(empty(), b)
-}
-
 // Byte `i` of an address, behind a colon.
 fn with_next(t: Text, b: &[u8], i: usize) -> Text
     requires { ⌜ (t .len + 3 ≤ 128) × (i < length (now b)) ⌝ }

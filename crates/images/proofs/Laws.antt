@@ -7,11 +7,11 @@ use native.Mathlib.Nat.{zero-add}
 use native.Mathlib.Numerals.{add-one}
 use native.Mathlib.Omega.{arith}
 use lib.Bits.{bitAnd, and-mask}
-use lib.Dec.{T, eqb, ltb, eqb→eq}
+use lib.Dec.{T, eqb, eqb→eq}
 use lib.ListN.{length, getD, take, drop, replicate, set, length-take, length-drop, List·getD-append}
 use lib.Seq.{take-suc, drop-cons, append-snoc, set-at, length-take-le, take-length, getD-drop, getD-take}
 use mir.Facts.{and-yes}
-use borrow.Author.Tests.{eqb-true, ltb-true, ltb-false}
+use borrow.Author.Tests.{eqb-true}
 use Rattle.table.specs.Bytes.{pick, part, splice, padded}
 use Rattle.table.specs.Layout.{Keep, low, sel, modOf, baseOf, Layout}
 use Rattle.table.specs.FixedLayouts.{layoutOf, header, control, host, hfi, ssns, security, discovery, info, extended, noKind}

@@ -80,9 +80,6 @@ discovery-names t a b =
     (whole (discovery .shape .keep) t a 3 tt refl (b (a + 3))) (whole (discovery .shape .keep) t a 4 tt refl (b (a + 4))))
 
 -- the security index, under flag 2, is the table's byte
-flag-two : (x : ℕ) → x % 8 / 4 ≡ x / 4 % 2
-flag-two x = omega arith
-
 index-on : (t : List ℕ) (a : ℕ) → Bytes t → eqb (num (imageIn ssns t a) 3 2 / 4 % 2) 0 ≡ false → getD (imageIn ssns t a) 45 0 ≡ getD t (a + 45) 0
 unfolding imageIn ssns
 index-on t a b e =

@@ -1,12 +1,12 @@
 -- The meaning of an accepted table obeys the rules of meanings (`lawful`), and stands in the table (`stands`). Assumes nothing.
-use mathlib.Core.Path.{_≡_, refl, sym, ap, ap₂, _∙_, subst}
-use mathlib.Core.Bool.{Bool, true, false, not, _&&_, _||_}
-use mathlib.Core.List.{List, [], _∷_, _++_}
-use Prim.Native.Nat.{ℕ, zero, suc, _+_, _-_, _*_, _/_, _%_, _^_, _≤_, _<_}
+use mathlib.Core.Path.{_≡_, refl}
+use mathlib.Core.Bool.{Bool, true, false, not, _&&_}
+use mathlib.Core.List.{List, [], _∷_}
+use Prim.Native.Nat.{ℕ, zero, suc, _+_, _*_, _≤_, _<_}
 use native.Mathlib.Omega.{arith}
-use lib.ListN.{length, getD, take, drop, length-drop}
+use lib.ListN.{length, getD, drop, length-drop}
 use lib.Seq.{length-take-le}
-use lib.Dec.{T, leb, ltb, eqb, leb→le, eqb·suc-zero}
+use lib.Dec.{T, leb, eqb, leb→le, eqb·suc-zero}
 use mir.Facts.{and-yes}
 use Rattle.table.specs.declared.Region.{Region}
 use Rattle.table.specs.Bytes.{num, pick}

@@ -1,13 +1,12 @@
 -- Lists of which nothing is told yet from some position on, and what one more told record changes in them. Assumes nothing.
 use mathlib.Core.Path.{_≡_, refl, sym, ap, ap₂, _∙_, subst}
-use mathlib.Core.Bool.{Bool, true, false, not, _&&_}
+use mathlib.Core.Bool.{false}
 use mathlib.Core.List.{List, [], _∷_, _++_, append-assoc, append-nil}
-use Prim.Native.Nat.{ℕ, zero, suc, _+_, _-_, _*_, _≤_, _<_}
+use Prim.Native.Nat.{ℕ, zero, suc, _+_, _-_, _*_, _<_}
 use native.Mathlib.Nat.{add-zero, zero-mul}
 use native.Mathlib.Omega.{arith}
-use lib.ListN.{length, getD, take, drop, set, replicate, length-append, length-replicate, take-append-drop, replicate-append-replicate}
-use lib.Seq.{length-take-le, set-split, drop-drop, drop-at}
-use lib.Dec.{T, leb, ltb, eqb, eqb→eq, ltb→lt, nltb→le, eqb-refl}
+use lib.ListN.{length, getD, drop, replicate, length-append, length-replicate, replicate-append-replicate}
+use lib.Dec.{T, eqb, eqb-refl}
 use mir.Facts.{and-yes}
 use Rattle.table.specs.Bytes.{le, pick}
 use Rattle.table.specs.Layout.{Body, Entry, Layout, baseOf, env, more, stop, unused}

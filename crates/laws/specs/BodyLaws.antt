@@ -1,11 +1,11 @@
 -- The lists of a table that are laid out stand there, and their regions are in order. Assumes nothing.
-use mathlib.Core.Path.{_≡_, refl, sym, ap, ap₂, _∙_, subst}
+use mathlib.Core.Path.{_≡_, refl, ap₂, _∙_, subst}
 use mathlib.Core.Bool.{Bool, true, false, not, _&&_, _||_}
 use mathlib.Core.List.{List, [], _∷_, _++_}
-use Prim.Native.Nat.{ℕ, zero, suc, _+_, _-_, _*_, _/_, _%_, _^_, _≤_, _<_}
+use Prim.Native.Nat.{ℕ, _+_, _*_, _^_, _≤_, _<_}
 use native.Mathlib.Omega.{arith}
-use lib.ListN.{length, getD, take, drop, length-append}
-use lib.Dec.{T, leb, ltb, eqb, lit<, eqb-refl}
+use lib.ListN.{length, getD, length-append}
+use lib.Dec.{T, leb, eqb, lit<}
 use mir.Facts.{and-yes, yes-and, yes-leb, no-eqb}
 use Rattle.table.specs.declared.Region.{Region}
 use Rattle.table.specs.Bytes.{le, num}

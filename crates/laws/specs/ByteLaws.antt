@@ -1,13 +1,13 @@
 -- Bytes: numbers in little endian, and `Holds t a bs`: the list t has bs from place a on. Assumes nothing.
-use mathlib.Core.Path.{_≡_, refl, sym, ap, ap₂, _∙_, subst}
+use mathlib.Core.Path.{_≡_, refl, sym, ap, ap₂, _∙_}
 use mathlib.Core.Bool.{Bool, true, false, not}
 use lib.Dec.{T}
-use mathlib.Core.List.{List, [], _∷_, _++_, append-assoc, append-nil}
+use mathlib.Core.List.{List, [], _∷_, _++_, append-assoc}
 use Prim.Native.Nat.{ℕ, zero, suc, _+_, _-_, _*_, _/_, _%_, _^_, _≤_, _<_}
-use native.Mathlib.Nat.{le-of-suc-le-suc, not-suc-le-zero, add-zero, zero-add, add-assoc, div-add-mod, div-lt-iff-lt-mul, zero-lt-suc, pow-suc, mul-comm, add-comm}
+use native.Mathlib.Nat.{add-zero, div-add-mod, div-lt-iff-lt-mul, zero-lt-suc, pow-suc, mul-comm, add-comm}
 use native.Mathlib.Omega.{arith}
-use lib.ListN.{length, getD, take, drop, length-append, length-take, length-drop, take-append-drop, List·getD-append, List·getD-eq-default}
-use lib.Seq.{length-take-le, take-nil, drop-drop, drop-append-seam, take-append-seam, drop-append-le, take-append-le, getD-drop, getD-take, getD-append-add, drop-at, take-at}
+use lib.ListN.{length, getD, take, drop, length-append, length-drop, take-append-drop, List·getD-append}
+use lib.Seq.{length-take-le, take-nil, drop-drop, drop-append-seam, take-append-seam, drop-append-le, take-append-le, getD-drop, getD-take, drop-at}
 use Rattle.table.specs.Bytes.{le, num, part, pick, splice, val}
 
 pub pick-yes {ℓ} : {X : Type ℓ} (c : Bool) (x y : X) → T c → pick c x y ≡ x

@@ -2,11 +2,11 @@
 -- Assumes nothing.
 use mathlib.Core.Path.{_≡_, refl, sym, ap, _∙_, subst}
 use mathlib.Core.Bool.{Bool, true, false, not, _&&_, _||_}
-use mathlib.Core.List.{List, [], _∷_, _++_}
-use Prim.Native.Nat.{ℕ, zero, suc, _+_, _-_, _*_, _≤_, _<_}
+use mathlib.Core.List.{List, [], _∷_}
+use Prim.Native.Nat.{ℕ, zero, suc, _+_, _≤_, _<_}
 use native.Mathlib.Omega.{arith}
 use lib.ListN.{length, take, drop}
-use lib.Dec.{T, leb, eqb, leb→le, eqb→eq, eqb-refl, eqb·suc-zero, lit<, lit≤}
+use lib.Dec.{T, leb, eqb, leb→le, eqb→eq, eqb·suc-zero, lit<}
 use mir.Facts.{and-yes, yes-and, yes-eqb}
 use Rattle.table.specs.declared.Answer.{Answer}
 use Rattle.table.specs.declared.Region.{Region}
@@ -25,7 +25,7 @@ use Rattle.laws.specs.TestLaws.{AllPass, all-pass, self-numbered}
 use Rattle.laws.specs.FormLaws.{laid, round-trip}
 use Rattle.laws.specs.ToldLaws.{okMarks, okTold}
 use Rattle.laws.specs.Blank.{BlankFrom, Put, lengthsOf, there}
-use Rattle.laws.specs.Turns.{after-other, blank-leave, end-is, missing, put-here}
+use Rattle.laws.specs.Turns.{after-other, blank-leave, end-is, missing, put-here, off}
 use Rattle.laws.specs.Runs.{AllProper, Build, Call, Proper, Sized, after, does, entryOf, finishes, leaves, opens, run, setDiscovery, setHfi, setSecurity, setSsns, tells, tellsDiscovery, tellsHfi, tellsHost, tellsSecurity, tellsSsns, withLists, withOwner}
 use Rattle.laws.specs.Filling.{AfterOk, InList, ListKind, OkKind, Open, Passed, begin-open, counts-same, fill-passed, host-open, in-list, list-open, next-after, next-counts}
 use Rattle.laws.specs.Sealing.{sealed-form, sealed-tail}
@@ -40,10 +40,6 @@ tellableInList l n =
     tellable l n
     && (leb 1 (l .shape .index .len)
     && ((not (eqb (l .kind) 2) && not (eqb (l .kind) 0)) && (not (eqb (l .kind) finished) && not (eqb (l .kind) 2 || eqb (l .kind) finishing))))
-
-off : (c : Bool) → T (not c) → c ≡ false
-off true t = absurd t
-off false t = refl
 
 ok-kind : (l : Layout) → ((n : ℕ) → T (tellable l n)) → OkKind l
 ok-kind l t = record {

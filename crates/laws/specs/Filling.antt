@@ -1,14 +1,12 @@
 -- A build in progress: the buffer holds the table of what was told so far, the rest unused; every done call keeps that. Assumes nothing.
-use mathlib.Core.Path.{_≡_, refl, sym, ap, ap₂, _∙_, subst}
-use mathlib.Core.Bool.{Bool, true, false, not, _&&_, _||_}
+use mathlib.Core.Path.{_≡_, refl, sym, ap, _∙_, subst}
+use mathlib.Core.Bool.{true, false, not, _||_}
 use mathlib.Core.List.{List, [], _∷_, _++_, append-assoc, append-nil}
 use Prim.Native.Nat.{ℕ, zero, suc, _+_, _-_, _*_, _^_, _≤_, _<_}
-use native.Mathlib.Nat.{zero-add}
 use native.Mathlib.Omega.{arith}
-use lib.ListN.{length, getD, take, drop, replicate, length-append, length-replicate}
+use lib.ListN.{length, getD, drop, replicate, length-append, length-replicate}
 use lib.Seq.{drop-drop}
-use lib.Dec.{T, leb, ltb, eqb, leb→le, eqb→eq, lit<, lit≤}
-use borrow.Author.Tests.{eq-eqb, ne-eqb}
+use lib.Dec.{T, leb, eqb, leb→le, eqb→eq, lit<}
 use mir.Facts.{and-yes, yes-and}
 use Rattle.table.specs.declared.State.{State}
 use Rattle.table.specs.Bytes.{pick, same, splice}

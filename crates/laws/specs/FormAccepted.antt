@@ -1,15 +1,13 @@
 -- The one form of a meaning that obeys the rules is accepted. Assumes nothing.
-use mathlib.Core.Path.{_≡_, refl, sym, ap, ap₂, _∙_, subst}
-use mathlib.Core.Bool.{Bool, true, false, not, _&&_, _||_}
+use mathlib.Core.Path.{_≡_, ap, _∙_}
+use mathlib.Core.Bool.{Bool, true, false, not}
 use mathlib.Core.List.{List, [], _∷_, _++_}
-use Prim.Native.Nat.{ℕ, zero, suc, _+_, _-_, _*_, _/_, _%_, _^_, _≤_, _<_}
-use native.Mathlib.Nat.{add-assoc}
-use native.Mathlib.Numerals.{add-one}
+use Prim.Native.Nat.{ℕ, _+_, _%_, _≤_}
 use native.Mathlib.Omega.{arith}
-use lib.ListN.{length, getD, take, drop}
-use lib.Seq.{take-all, split-at}
-use lib.Dec.{T, leb, ltb, eqb, lit<, lit≤}
-use mir.Facts.{and-yes, yes-and, yes-leb, yes-eqb, no-eqb}
+use lib.ListN.{length, getD, take}
+use lib.Seq.{take-all}
+use lib.Dec.{T, leb, eqb, lit≤}
+use mir.Facts.{yes-and, yes-leb, yes-eqb}
 use Rattle.table.specs.declared.Region.{Region}
 use Rattle.table.specs.Bytes.{checksum, num, total}
 use Rattle.table.specs.Layout.{region}
@@ -26,7 +24,7 @@ use Rattle.laws.specs.FormLaws.{fixed-back, form-head, form-stands, h₂
 
 -- ---- the checksum
 
-total-append : (xs ys : List ℕ) → total (xs ++ ys) ≡ total xs + total ys
+pub total-append : (xs ys : List ℕ) → total (xs ++ ys) ≡ total xs + total ys
 total-append [] ys = omega arith
 total-append (x ∷ xs) ys = ap (λ (n : ℕ). x + n) (total-append xs ys) ∙ omega arith
 

@@ -1,13 +1,10 @@
 -- The one form of a meaning: its length, what stands where, and that its meaning is the one it was made of. Assumes nothing.
-use mathlib.Core.Path.{_≡_, refl, sym, ap, ap₂, _∙_, subst}
-use mathlib.Core.Bool.{Bool, true, false, not, _&&_, _||_}
+use mathlib.Core.Path.{_≡_, refl, sym, ap, _∙_}
 use mathlib.Core.List.{List, [], _∷_, _++_, append-nil}
-use Prim.Native.Nat.{ℕ, zero, suc, _+_, _-_, _*_, _/_, _%_, _^_, _≤_, _<_}
+use Prim.Native.Nat.{ℕ, _+_, _^_, _≤_, _<_}
 use native.Mathlib.Omega.{arith}
-use lib.ListN.{length, getD, take, drop, replicate, length-append}
-use lib.Seq.{take-all}
-use lib.Dec.{T, leb, ltb, eqb, lit<, lit≤, leb→le}
-use mir.Facts.{and-yes, yes-and, yes-leb, yes-eqb}
+use lib.ListN.{length, getD, replicate, length-append}
+use lib.Dec.{T, lit<}
 use Rattle.table.specs.declared.Region.{Region}
 use Rattle.table.specs.Bytes.{checksum, le, num, part, val}
 use Rattle.table.specs.Layout.{Slots, bytes, env, nil, region, slotAt}

@@ -1,14 +1,13 @@
 -- In an accepted table its meaning stands: the converse of `Standing`. Assumes nothing.
-use mathlib.Core.Path.{_≡_, refl, sym, ap, ap₂, _∙_, subst}
+use mathlib.Core.Path.{_≡_, refl, sym, ap, ap₂, _∙_}
 use mathlib.Core.Bool.{Bool, true, false, not, _&&_, _||_}
 use mathlib.Core.List.{List, [], _∷_, _++_}
-use Prim.Native.Nat.{ℕ, zero, suc, _+_, _-_, _*_, _/_, _%_, _^_, _≤_, _<_}
-use native.Mathlib.Nat.{not-suc-le-zero}
+use Prim.Native.Nat.{ℕ, zero, suc, _+_, _*_, _≤_, _<_}
 use native.Mathlib.Omega.{arith}
-use lib.ListN.{length, getD, take, drop, length-take, length-drop, take-append-drop}
-use lib.Seq.{getD-drop, getD-take, length-take-le}
-use lib.Dec.{T, leb, ltb, eqb, eqb→eq, leb→le, eqb·suc-zero, lit<}
-use mir.Facts.{and-yes, yes-and, eqb-no}
+use lib.ListN.{length, getD, drop, length-drop, take-append-drop}
+use lib.Seq.{getD-drop, length-take-le}
+use lib.Dec.{T, leb, eqb, eqb→eq, leb→le, eqb·suc-zero, lit<}
+use mir.Facts.{and-yes, eqb-no}
 use Rattle.table.specs.declared.Region.{Region}
 use Rattle.table.specs.declared.Need.{Need}
 use Rattle.table.specs.declared.Need.the-variants.{Ignored, Optional, Required}
@@ -23,7 +22,7 @@ use Rattle.laws.specs.ListLaws.{OkLayout, ok-layout}
 use Rattle.laws.specs.Standing.{At, BodyAt, EntryAt, ListAt, PlainAt, RefTo}
 use Rattle.laws.specs.Sound.{Bounded, answer-of, first-both, first-of, length-readList, list-zero, num-bound, part-there, pick-of, reached}
 
-le-val : (n : ℕ) (bs : List ℕ) → length bs ≡ n → ((i : ℕ) → getD bs i 0 < 256) → le n (val bs) ≡ bs
+pub le-val : (n : ℕ) (bs : List ℕ) → length bs ≡ n → ((i : ℕ) → getD bs i 0 < 256) → le n (val bs) ≡ bs
 le-val zero [] e b = refl
 le-val zero (x ∷ xs) e b = absurd (omega arith)
 le-val (suc n) [] e b = absurd (omega arith)

@@ -1,6 +1,6 @@
 -- A layout that is in order, and a meaning that is lawful: what the rules ask of a meaning alone. Definitions only.
 use mathlib.Core.Path.{_≡_}
-use mathlib.Core.Bool.{Bool, true, false, not, _&&_}
+use mathlib.Core.Bool.{Bool, true, false, _&&_}
 use mathlib.Core.List.{List, [], _∷_}
 use Prim.Native.Nat.{ℕ, suc, _+_, _*_, _%_, _<_}
 use lib.ListN.{length, getD, take, drop}

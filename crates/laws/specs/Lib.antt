@@ -29,3 +29,4 @@ pub mod Fields
 pub mod RefWalk
 pub mod ListWalk
 pub mod Positions
+pub mod RecordKinds

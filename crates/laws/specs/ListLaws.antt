@@ -1,13 +1,13 @@
 -- Entries and lists of entries that are laid out: lengths, and what their images are. Assumes nothing.
-use mathlib.Core.Path.{_≡_, refl, sym, ap, ap₂, _∙_, subst}
-use mathlib.Core.Bool.{Bool, true, false, not, _&&_}
-use mathlib.Core.List.{List, [], _∷_, _++_}
-use Prim.Native.Nat.{ℕ, zero, suc, _+_, _-_, _*_, _/_, _%_, _^_, _≤_, _<_}
-use native.Mathlib.Nat.{zero-mod, zero-mul, suc-mul}
+use mathlib.Core.Path.{_≡_, refl, sym, ap, ap₂, _∙_}
+use mathlib.Core.Bool.{_&&_}
+use mathlib.Core.List.{List, [], _∷_}
+use Prim.Native.Nat.{ℕ, suc, _+_, _*_, _%_, _<_}
+use native.Mathlib.Nat.{zero-mod, zero-mul}
 use native.Mathlib.Omega.{arith}
-use lib.ListN.{length, getD, take, drop, replicate, length-append, length-replicate, getD-replicate}
+use lib.ListN.{length, getD, drop, replicate, length-append, length-replicate, getD-replicate}
 use lib.Seq.{getD-drop}
-use lib.Dec.{T, leb, ltb, eqb, ltb→lt}
+use lib.Dec.{T, ltb, ltb→lt}
 use mir.Facts.{and-yes}
 use Rattle.table.specs.Layout.{Entry, Env, Layout, Slots, baseOf, env, image, low, modOf, unused, used}
 use Rattle.table.specs.Objects.{heapEntry, heapList, patched, recEntry, recsList, sizeEntry, sizeList}

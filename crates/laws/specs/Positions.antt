@@ -18,10 +18,10 @@ use Rattle.table.specs.Numbers.{check, driverRule, hostRule, heapIn, records, t
 use Rattle.laws.specs.Fields.{Bytes}
 use Rattle.laws.specs.Sound.{length-readList}
 
-abbrev Placed : Answer → Type 0
+abbrev pub Placed : Answer → Type 0
 Placed r = r .position < 256
 
-one-of : (c : Bool) (x y : Answer) → Placed x → Placed y → Placed (pick c x y)
+pub one-of : (c : Bool) (x y : Answer) → Placed x → Placed y → Placed (pick c x y)
 one-of true x y p q = p
 one-of false x y p q = q
 

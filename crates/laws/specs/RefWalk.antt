@@ -2,11 +2,10 @@
 use mathlib.Core.Path.{_≡_, refl, sym, ap, ap₂, _∙_, subst}
 use mathlib.Core.Bool.{Bool, true, false, not, _&&_, _||_}
 use mathlib.Core.List.{List, [], _∷_}
-use Prim.Native.Nat.{ℕ, _+_, _≤_, _<_}
-use native.Mathlib.Nat.{not-suc-le-zero, le-of-suc-le-suc}
+use Prim.Native.Nat.{ℕ, _+_, _≤_}
 use native.Mathlib.Omega.{arith}
-use lib.ListN.{length, getD, drop, length-take, length-drop}
-use lib.Dec.{T, leb, eqb, leb→le}
+use lib.ListN.{length, drop, length-take, length-drop}
+use lib.Dec.{T, leb, eqb}
 use borrow.Author.Tests.{eq-eqb, eqb-true, leb-true}
 use mir.Facts.{and-yes}
 use Rattle.table.specs.declared.Region.{Region}

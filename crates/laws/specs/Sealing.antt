@@ -1,10 +1,10 @@
 -- Finish: storing heap length, Length and checksum in a table laid out with zeros there gives the one form. Assumes nothing.
 use mathlib.Core.Path.{_≡_, refl, sym, ap, _∙_}
 use mathlib.Core.List.{List, [], _∷_, _++_}
-use Prim.Native.Nat.{ℕ, _+_, _-_, _≤_, _<_}
+use Prim.Native.Nat.{ℕ, _+_, _-_, _≤_}
 use native.Mathlib.Omega.{arith}
-use lib.ListN.{length, take, drop, replicate, length-append}
-use lib.Dec.{lit<, lit≤}
+use lib.ListN.{length, take, drop, replicate}
+use lib.Dec.{lit≤}
 use Rattle.table.specs.declared.State.{State}
 use Rattle.table.specs.Bytes.{checksum, le, splice}
 use Rattle.table.specs.Meaning.{Meaning, behind, driverRef, form, formLength, headBack, headFront, heapAt, heapLen, laidOut}

@@ -1,15 +1,13 @@
 -- Objects that are laid out read back as they were. Assumes nothing.
-use mathlib.Core.Path.{_≡_, refl, sym, ap, ap₂, _∙_, subst}
-use mathlib.Core.Bool.{Bool, true, false, not, _&&_}
-use mathlib.Core.List.{List, [], _∷_, _++_}
-use Prim.Native.Nat.{ℕ, zero, suc, _+_, _-_, _*_, _/_, _%_, _^_, _≤_, _<_}
-use native.Mathlib.Nat.{le-of-suc-le-suc, not-suc-le-zero, zero-mod, mod-one, add-assoc}
-use native.Mathlib.Decide.{decLe}
+use mathlib.Core.Path.{_≡_, refl, sym, ap, _∙_}
+use mathlib.Core.Bool.{Bool, _&&_}
+use mathlib.Core.List.{List, [], _∷_}
+use Prim.Native.Nat.{ℕ, _+_, _%_, _≤_, _<_}
 use native.Mathlib.Omega.{arith}
-use lib.ListN.{length, getD, take, drop, length-append, List·getD-append}
-use lib.Seq.{getD-drop, getD-take}
-use lib.Dec.{T, leb, ltb, eqb, leb→le, ltb→lt, eqb→eq, lit<}
-use mir.Facts.{and-yes, no-eqb}
+use lib.ListN.{length, getD, drop, length-append}
+use lib.Seq.{getD-drop}
+use lib.Dec.{T, leb, ltb, leb→le, ltb→lt}
+use mir.Facts.{and-yes}
 use Rattle.table.specs.declared.Need.{Need}
 use Rattle.table.specs.Layout.{Env, Keep, Refs, Shape, Slots, bytes, gone, image, low, nest, nil, none, plain, rec}
 use Rattle.table.specs.Objects.{heapOf, patched, ref6, refFor, sizeOf, stores}

@@ -1,14 +1,14 @@
 -- The meaning of an accepted table obeys the rules that speak of meanings. Assumes nothing.
-use mathlib.Core.Path.{_≡_, refl, sym, ap, ap₂, _∙_, subst}
-use mathlib.Core.Bool.{Bool, true, false, not, _&&_, _||_}
-use mathlib.Core.List.{List, [], _∷_, _++_}
-use Prim.Native.Nat.{ℕ, zero, suc, _+_, _-_, _*_, _/_, _%_, _^_, _≤_, _<_}
-use native.Mathlib.Nat.{pow-suc, mul-comm, mul-le-mul-right, le-of-suc-le-suc}
+use mathlib.Core.Path.{_≡_, refl, ap}
+use mathlib.Core.Bool.{Bool, true, false, not, _&&_}
+use mathlib.Core.List.{List, [], _∷_}
+use Prim.Native.Nat.{ℕ, zero, suc, _+_, _^_, _≤_, _<_}
+use native.Mathlib.Nat.{pow-suc}
 use native.Mathlib.Omega.{arith}
 use lib.ListN.{length, getD, take, drop, length-take, length-drop}
 use lib.Seq.{getD-drop}
-use lib.Dec.{T, leb, ltb, eqb, eqb→eq, leb→le, eqb·suc-zero, lit<}
-use mir.Facts.{and-yes, yes-and, eqb-no}
+use lib.Dec.{T, leb, eqb, leb→le, eqb·suc-zero, lit<}
+use mir.Facts.{and-yes, eqb-no}
 use Rattle.table.specs.declared.Answer.{Answer}
 use Rattle.table.specs.declared.Region.{Region}
 use Rattle.table.specs.declared.Need.{Need}

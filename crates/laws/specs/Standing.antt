@@ -1,9 +1,9 @@
 -- `At t heap a img ss`: in the table t the references of the record at a give the objects ss, wherever in the heap those stand. `EntryAt`, `ListAt`
 -- and `BodyAt` say so of an entry, a list and all lists. Definitions only.
 use mathlib.Core.Path.{_≡_}
-use mathlib.Core.Bool.{Bool, true, false, not}
+use mathlib.Core.Bool.{not}
 use mathlib.Core.List.{List, [], _∷_}
-use Prim.Native.Nat.{ℕ, suc, _+_, _^_, _≤_, _<_}
+use Prim.Native.Nat.{ℕ, _+_, _^_, _≤_, _<_}
 use lib.ListN.{length, getD, drop}
 use lib.Dec.{T}
 use Rattle.table.specs.declared.Region.{Region}

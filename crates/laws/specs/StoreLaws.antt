@@ -1,15 +1,14 @@
 -- Runs of stores into bytes that do not count, by ascending place. Assumes nothing.
-use mathlib.Core.Path.{_≡_, refl, sym, ap, ap₂, _∙_, subst}
-use mathlib.Core.Bool.{Bool, true, false, _&&_}
-use mathlib.Core.List.{List, [], _∷_, _++_}
-use Prim.Native.Nat.{ℕ, zero, suc, _+_, _-_, _*_, _/_, _%_, _≤_, _<_}
+use mathlib.Core.Path.{_≡_, refl, sym, ap, _∙_}
+use mathlib.Core.Bool.{Bool}
+use mathlib.Core.List.{List, [], _∷_}
+use Prim.Native.Nat.{ℕ, _+_, _-_, _%_, _≤_, _<_}
 use native.Mathlib.Nat.{mod-one}
 use native.Mathlib.Decide.{decLe}
 use native.Mathlib.Omega.{arith}
 use lib.ListN.{length, getD, take, drop, length-take, length-drop}
 use lib.Seq.{getD-drop, getD-take}
-use lib.Dec.{T, leb, eqb, leb→le, eqb→eq}
-use mir.Facts.{and-yes}
+use lib.Dec.{T, eqb, eqb→eq}
 use Rattle.table.specs.Bytes.{Edit, apply, splice}
 use Rattle.table.specs.Layout.{Keep, image, low, sel}
 use Rattle.laws.specs.ByteLaws.{Holds, getD-splice-above, getD-splice-below, holds-in, holds-splice-below, length-splice, splice-here}

@@ -1,14 +1,14 @@
 -- Whose turn it is: counts and places by lists, the first untold position, and what is still untold after it. Assumes nothing.
-use mathlib.Core.Path.{_≡_, refl, sym, ap, ap₂, _∙_, subst}
+use mathlib.Core.Path.{_≡_, refl, sym, ap, _∙_, subst}
 use mathlib.Core.Bool.{Bool, true, false, not, _&&_}
 use mathlib.Core.List.{List, [], _∷_, _++_}
-use Prim.Native.Nat.{ℕ, zero, suc, _+_, _-_, _*_, _≤_, _<_}
+use Prim.Native.Nat.{ℕ, zero, suc, _+_, _-_, _*_, _≤_}
 use native.Mathlib.Nat.{sub-zero}
 use native.Mathlib.Omega.{arith}
 use lib.ListN.{length, take, drop, set, replicate, length-append, length-replicate, take-append-drop}
 use lib.Seq.{length-take-le, set-split, drop-drop, drop-at}
-use lib.Dec.{T, leb, ltb, eqb, eqb→eq, eqb-refl}
-use borrow.Author.Tests.{eq-eqb, ne-eqb, eqb-true, lt-ltb, le-ltb}
+use lib.Dec.{T, ltb, eqb}
+use borrow.Author.Tests.{eq-eqb, eqb-true, lt-ltb, le-ltb}
 use mir.Facts.{and-yes}
 use Rattle.table.specs.Bytes.{pick}
 use Rattle.table.specs.Layout.{Body, Entry, Layout, baseOf, blank, env, more, stop, unused}
@@ -75,7 +75,7 @@ abbrev pub distinct : List Layout → Bool
 distinct [] = true
 distinct (l ∷ ls) = missing (l .kind) ls && distinct ls
 
-off : (c : Bool) → T (not c) → c ≡ false
+pub off : (c : Bool) → T (not c) → c ≡ false
 off true t = absurd t
 off false t = refl
 

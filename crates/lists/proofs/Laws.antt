@@ -17,6 +17,7 @@ use Rattle.table.specs.Rules.{answer, done, firstOf, usedRule}
 use Rattle.laws.specs.Fields.{imageIn}
 use Rattle.laws.specs.RefWalk.{firstOver, refs-over}
 use Rattle.laws.specs.ListWalk.{validIn, envIn, usedIt, record-is, flagOk, walk, walk-stop, walk-more, walk-none, kinds-distinct}
+use Rattle.laws.specs.RecordKinds.{kind-of}
 use Rattle.rules.specs.Rules.{refFault}
 use Rattle.records.specs.Records.{rightRule}
 use Rattle.indexes.specs.Indexes.{refsFault, namesRule}
@@ -78,17 +79,6 @@ record-by k heap t a pos x y = sym (record-is (layoutOf k) (validIn t) heap (env
 
 pub next-start : (a i s : ℕ) → a + i * s + s ≡ a + (i + 1) * s
 next-start a i s = rw (add-one i, suc-mul i s, add-assoc a (i * s) s)
-
-pub kind-of : (k : ℕ) → 2 ≤ k → k ≤ 6 → layoutOf k .kind ≡ k
-unfolding layoutOf host hfi ssns security discovery
-kind-of zero x y = absurd (omega arith)
-kind-of (suc zero) x y = absurd (omega arith)
-kind-of (suc (suc zero)) x y = refl
-kind-of (suc (suc (suc zero))) x y = refl
-kind-of (suc (suc (suc (suc zero)))) x y = refl
-kind-of (suc (suc (suc (suc (suc zero))))) x y = refl
-kind-of (suc (suc (suc (suc (suc (suc zero)))))) x y = refl
-kind-of (suc (suc (suc (suc (suc (suc (suc k))))))) x y = absurd (omega arith)
 
 -- a turn of the walk at position i + 1
 module _ (k : ℕ) (heap : Region) (t : List ℕ) (step base i count : ℕ) where

@@ -18,22 +18,15 @@ use Rattle.table.specs.Meaning.{formLength, laidOut}
 use Rattle.table.specs.Numbers.{check}
 use Rattle.table.specs.Builder.{Outcome, outcome, counts, countOf, inList, waits, finishing, sameState, empty, roomTests, envOf, toldImage, toldSlots, slotsRule, fillAnswer, fill, next, placed, placeOf, leave, begin, begun, opened, finish, finished, sealed, recordsEnd, moved, turn}
 use Rattle.laws.specs.Fields.{Bytes}
-use Rattle.laws.specs.Positions.{check-placed}
+use Rattle.laws.specs.Positions.{Placed, one-of, check-placed}
 use Rattle.turns.proofs.Laws.{waits-in-place, in-list-upto}
 use Rattle.filling.specs.Calls.{hostTold, hfiTold, ssnsTold, securityTold, discoveryTold, tellHost, tellHfi, tellSsns, tellSecurity, tellDiscovery}
 use Rattle.opening.specs.Begins.{headerTold, beginWith}
 use Rattle.states.specs.States.{SmallState}
 
-abbrev Placed : Answer → Type 0
-Placed a = a .position < 256
-
 abbrev AllPlaced : List Test → Type 0
 AllPlaced [] = Unit {0}
 AllPlaced (x ∷ xs) = Placed (x .gives) × AllPlaced xs
-
-one-of : (c : Bool) (x y : Answer) → Placed x → Placed y → Placed (pick c x y)
-one-of true x y p q = p
-one-of false x y p q = q
 
 fails-placed : (ts : List Test) → AllPlaced ts → Placed (firstFail ts)
 fails-placed [] h = lit< tt

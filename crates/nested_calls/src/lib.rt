@@ -23,7 +23,6 @@ use told::objects::kept;
 ghost use mathlib.Core.Path.{_≡_};
 ghost use Prim.Native.Nat.{_+_, _≤_};
 ghost use lib.ListN.{length};
-ghost use Rattle.table.specs.Bytes.{pick};
 ghost use Rattle.table.specs.FixedLayouts as layouts;
 ghost use Rattle.table.specs.Objects.{under};
 ghost use Rattle.laws.specs.Fields.{imageIn};

@@ -1,19 +1,19 @@
 -- The beginning of a build: its answers, and the table of which only that is told. Assumes nothing.
 use mathlib.Core.Path.{_≡_, refl, sym, ap, ap₂, _∙_}
-use mathlib.Core.Bool.{Bool, true, false, _&&_}
+use mathlib.Core.Bool.{Bool, true, false}
 use mathlib.Core.List.{List, [], _∷_, _++_, append-assoc, append-nil}
-use Prim.Native.Nat.{ℕ, zero, suc, _+_, _-_, _*_, _≤_, _<_}
+use Prim.Native.Nat.{ℕ, zero, suc, _+_, _-_, _≤_, _<_}
 use native.Mathlib.Omega.{arith}
 use native.Mathlib.Nat.{add-zero}
-use lib.ListN.{length, getD, replicate, length-append, length-replicate, replicate-append-replicate}
-use lib.Dec.{leb, eqb, lit<}
+use lib.ListN.{length, getD, replicate, length-append, replicate-append-replicate}
+use lib.Dec.{eqb, lit<}
 use borrow.Author.Tests.{le-leb, lt-leb, eq-eqb, ne-eqb}
 use Rattle.table.specs.declared.Answer.{Answer}
 use Rattle.table.specs.declared.State.{State}
 use Rattle.table.specs.Bytes.{pick, splice}
-use Rattle.table.specs.Layout.{Env, Slots, env, baseOf, slotAt, unused}
+use Rattle.table.specs.Layout.{Env, env, slotAt}
 use Rattle.table.specs.FixedLayouts.{header, host, hfi, ssns, security, discovery, listKinds}
-use Rattle.table.specs.Objects.{sizeOf, sizeEntry, sizeBody, spanBody, heapOf, recEntry, heapEntry, recsBody, heapBody}
+use Rattle.table.specs.Objects.{sizeOf, sizeEntry, spanBody, heapOf, recEntry, heapEntry, recsBody, heapBody}
 use Rattle.table.specs.Meaning.{Meaning, heapAt, heapLen, formLength, headFront, headBack, controlBytes, behind, laidOut}
 use Rattle.table.specs.Rules.{answer, firstFail}
 use Rattle.table.specs.Builder.{begin, begun, endOf, recordsEnd, countOf, empty, isShort, opened, allUnused, roomTests, sameState, slotsRule}

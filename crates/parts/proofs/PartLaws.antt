@@ -13,7 +13,7 @@ use borrow.Author.Tests.{eqb-true}
 use Rattle.table.specs.declared.Need.{Need}
 use Rattle.table.specs.declared.Need.the-variants.{Ignored, Optional, Required}
 use Rattle.table.specs.Bytes.{pick, part, num, Edit, edit}
-use Rattle.table.specs.Layout.{Shape, Layout, Refs, none, plain, nest, Slots, bytes, gone, rec, image, isValid, unused, used, baseOf, offsets}
+use Rattle.table.specs.Layout.{Shape, Layout, Refs, none, plain, nest, Slots, gone, rec, image, isValid, unused, used, baseOf, offsets}
 use Rattle.table.specs.FixedLayouts.{layoutOf, header, control, host, hfi, ssns, security, discovery, info, extended, noKind, whenSet}
 use Rattle.table.specs.Objects.{under, readSlots, readEntry, readList, sizeOf, sizeEntry, sizeList, sizeBody, spanBody, readBody, stores, heapOf, ref6}
 use Rattle.table.specs.Meaning.{meaning, heapLen}

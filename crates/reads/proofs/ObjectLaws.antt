@@ -20,10 +20,10 @@ use Rattle.table.specs.Rules.{answer, done, refRule, plainRule, refsRule}
 use Rattle.table.specs.Numbers.{heapIn, check}
 use Rattle.table.specs.Reads.{Seat, nowhere, seat, seatOf, needAt, hasPlain, noPlace, refPlace, placeAt, readPlace, shown}
 use Rattle.laws.specs.Sound.{first-of}
-use Rattle.laws.specs.Fields.{Bytes, imageIn}
+use Rattle.laws.specs.Fields.{Bytes, imageIn, two-bytes}
 use Rattle.laws.specs.ListWalk.{by-layout}
 use Rattle.laws.specs.DemandTwo.{check-zero}
-use Rattle.wire.proofs.Laws.{num2, num4}
+use Rattle.wire.proofs.Laws.{num4}
 use Rattle.needs.specs.Needs.{plainNeed}
 use Rattle.reader.specs.Accepted.{Accepted}
 use Rattle.reader.proofs.AcceptedLaws.{laid}
@@ -159,7 +159,7 @@ read-room t k n q = go (eqb (check t .number) 0) refl where
 -- ---- an object's place and length are small numbers
 
 num2-small : (t : List ℕ) → Bytes t → (a : ℕ) → num t a 2 < 65536
-num2-small t b a = omega (arith, num2 t a, b a, b (a + 1))
+num2-small t b a = omega (arith, two-bytes t a, b a, b (a + 1))
 
 num4-small : (t : List ℕ) → Bytes t → (a : ℕ) → num t a 4 < 4294967296
 num4-small t b a = omega (arith, num4 t a, num2-small t b a, num2-small t b (a + 2))

@@ -1,7 +1,6 @@
 // The rewriter: the reader's answer, then 17, then 14; only where all pass is a byte written.
 use front::Counts;
-use front::write_control;
-use front::write_header;
+use front::write_front;
 use relaid::records::lay_entry;
 use relaid::records::lay_named;
 use relaid_lists::lay_lists;
@@ -24,14 +23,13 @@ fn lay_front(out: &mut [u8], t: &[u8], n: usize, h: usize, k: usize, d: usize)
     requires { ⌜ (160 ≤ length (now t)) × (160 ≤ length (now out)) ⌝ }
     ensures { λ r. ⌜ now (out .exit) ≡ splice (splice (now (out .entry)) 0 (headerFor n (part (now (t .entry)) 10 26) h k d)) 64 (controlFor (getD (now (t .entry)) 87 0 ∷ getD (now (t .entry)) 95 0 ∷ getD (now (t .entry)) 103 0 ∷ getD (now (t .entry)) 111 0 ∷ [])) ⌝ }
 {
-    write_header(&mut out[0..64], &t[10..36], n, h, k, d);
     let counts = Counts {
         hfi: t[87],
         ssns: t[95],
         security: t[103],
         discovery: t[111],
     };
-    write_control(&mut out[64..128], counts);
+    write_front(out, &t[10..36], counts, n, h, k, d);
 }
 
 // The one form but for its checksum, which is 0. The header is written once it is known how long the driver signature is, over the reference to it.

@@ -1,11 +1,11 @@
 -- Sums of bytes: of a part, and of an accepted table. Assumes nothing.
 use mathlib.Core.Path.{_≡_, refl, sym, ap, _∙_}
 use mathlib.Core.Bool.{Bool, true, false}
-use mathlib.Core.List.{List, [], _∷_, _++_}
-use Prim.Native.Nat.{ℕ, _+_, _%_, _≤_, _<_}
+use mathlib.Core.List.{List}
+use Prim.Native.Nat.{ℕ, _+_, _%_, _≤_}
 use native.Mathlib.Omega.{arith}
 use lib.Dec.{eqb, eqb→eq}
-use lib.ListN.{length, getD, take, drop, take-append-drop}
+use lib.ListN.{length, take, drop, take-append-drop}
 use lib.Seq.{ext-getD, getD-take, length-take-le, drop-drop}
 use borrow.Author.Tests.{eqb-true}
 use Rattle.table.specs.declared.Answer.{Answer}
@@ -14,12 +14,9 @@ use Rattle.table.specs.Rules.{done, first, firstFail}
 use Rattle.table.specs.Meaning.{meaning}
 use Rattle.table.specs.Numbers.{check, tests, records}
 use Rattle.laws.specs.TestLaws.{all-pass}
+use Rattle.laws.specs.FormAccepted.{total-append}
 use Rattle.images.proofs.Laws.{part-long, part-byte}
 use Rattle.reader.specs.Accepted.{Accepted}
-
-total-append : (xs ys : List ℕ) → total (xs ++ ys) ≡ total xs + total ys
-total-append [] ys = omega arith
-total-append (x ∷ xs) ys = ap (λ (n : ℕ). x + n) (total-append xs ys) ∙ omega arith
 
 -- before a part, the part, behind it
 pub total-parts : (t : List ℕ) (a n : ℕ) → total t ≡ total (take a t) + (total (part t a n) + total (drop (a + n) t))

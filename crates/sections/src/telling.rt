@@ -14,7 +14,7 @@ use table::State;
 use table::Step;
 use writer::stores::copy_into;
 ghost use mathlib.Core.Path.{_≡_};
-ghost use Prim.Native.Nat.{_≤_, _<_};
+ghost use Prim.Native.Nat.{_<_};
 ghost use lib.ListN.{length};
 
 fn is_ignored(need: Need) -> bool {

@@ -4,7 +4,7 @@ use crate::records::count_of;
 use crate::records::is_used;
 use columns::column_at;
 use columns::column_count;
-use columns::names::key;
+use columns::names::print_key;
 use tool::print;
 use tool::print_bytes;
 ghost use Rattle.reader.specs.Accepted.{Accepted};
@@ -13,7 +13,7 @@ fn print_member(t: &[u8], kind: u8, position: usize, i: usize)
     requires { ⌜ Accepted (now t) ⌝ }
 {
     print_bytes(b"\"");
-    print(key(kind, i));
+    print_key(kind, i);
     print_bytes(b"\":");
     print_cell(t, position, column_at(kind, i), true);
 }

@@ -4,7 +4,7 @@ use crate::records::count_of;
 use crate::records::is_used;
 use columns::column_at;
 use columns::column_count;
-use columns::names::title;
+use columns::names;
 use tool::print_bytes;
 use values::print_plain;
 use values::print_rule;
@@ -12,7 +12,7 @@ ghost use Rattle.reader.specs.Accepted.{Accepted};
 
 fn print_title(kind: u8, i: usize) {
     let c = column_at(kind, i);
-    print_plain(title(kind, i), false, c.width);
+    names::print_title(kind, i, c.width);
 }
 
 fn print_titles(kind: u8) {

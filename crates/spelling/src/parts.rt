@@ -2,7 +2,6 @@
 use crate::Taken;
 use crate::numbers::number_of;
 use crate::refused;
-ghost use mathlib.Core.Path.{_≡_};
 ghost use Prim.Native.Nat.{_≤_, _<_};
 ghost use lib.ListN.{length};
 

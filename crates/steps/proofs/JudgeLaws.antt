@@ -1,11 +1,11 @@
 -- The tests of a told record: ID, type and index are right as the builder set them, so that only two-bit fields are left to be wrong. Assumes nothing.
-use mathlib.Core.Path.{_≡_, refl, sym, ap, ap₂, _∙_, subst}
+use mathlib.Core.Path.{_≡_, refl, sym, ap, _∙_}
 use mathlib.Core.Bool.{Bool, true, false, _&&_}
 use mathlib.Core.List.{List, [], _∷_}
-use Prim.Native.Nat.{ℕ, zero, suc, _^_, _≤_, _<_}
+use Prim.Native.Nat.{ℕ, _^_, _≤_, _<_}
 use native.Mathlib.Omega.{arith}
 use lib.ListN.{length}
-use lib.Dec.{T, eqb, lit<, lit≤}
+use lib.Dec.{T, eqb, lit≤}
 use borrow.Author.Tests.{eqb-true}
 use mir.Facts.{and-yes}
 use Rattle.table.specs.declared.State.{State}
@@ -18,26 +18,11 @@ use Rattle.table.specs.Builder.{waits, toldImage}
 use Rattle.laws.specs.Fields.{imageIn}
 use Rattle.laws.specs.ListWalk.{envIn}
 use Rattle.laws.specs.ToldLaws.{okMarks, byte-pow, told-right}
+use Rattle.laws.specs.RecordKinds.{by-record}
 use Rattle.records.specs.Records.{rightRule}
-use Rattle.turns.specs.Turns.{inPlace}
 use Rattle.turns.proofs.Laws.{waits-in-place}
 use Rattle.told.proofs.Laws.{image-is}
 use Rattle.steps.specs.Steps.{Marked, judgeTests}
-
--- the host's kind and the lists'
-pub by-record : (P : ℕ → Type 0) → P 2 → P 3 → P 4 → P 5 → P 6 → (k : ℕ) → 2 ≤ k → k ≤ 6 → P k
-by-record P a b c d e zero l h = absurd (omega arith)
-by-record P a b c d e (suc zero) l h = absurd (omega arith)
-by-record P a b c d e (suc (suc zero)) l h = a
-by-record P a b c d e (suc (suc (suc zero))) l h = b
-by-record P a b c d e (suc (suc (suc (suc zero)))) l h = c
-by-record P a b c d e (suc (suc (suc (suc (suc zero))))) l h = d
-by-record P a b c d e (suc (suc (suc (suc (suc (suc zero)))))) l h = e
-by-record P a b c d e (suc (suc (suc (suc (suc (suc (suc k))))))) l h = absurd (omega arith)
-
-pub kind-is : (k : ℕ) → 2 ≤ k → k ≤ 6 → layoutOf k .kind ≡ k
-unfolding layoutOf host hfi ssns security discovery
-kind-is = by-record (λ k. layoutOf k .kind ≡ k) refl refl refl refl refl
 
 marks-ok : (n k : ℕ) → 2 ≤ k → k ≤ 6 → T (okMarks (layoutOf k .shape) n)
 unfolding layoutOf host hfi ssns security discovery

@@ -8,9 +8,7 @@ use Rattle.table.specs.declared.Answer.{Answer}
 use Rattle.table.specs.declared.Image.{Image}
 use Rattle.table.specs.declared.Field.{Field}
 use Rattle.table.specs.declared.Place.{Place}
-use Rattle.table.specs.declared.Rewritten.{Rewritten}
 use Rattle.table.specs.declared.State.{State}
-use Rattle.table.specs.declared.Step.{Step}
 use Rattle.table.specs.Bytes.{pick, same, padded, Edit, apply}
 use Rattle.table.specs.Layout.{image, isRight, slotAt, nil, bytes, rec}
 use Rattle.table.specs.FixedLayouts.{header, control, host, info, extended, hfi, ssns, security, discovery}

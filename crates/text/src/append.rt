@@ -43,12 +43,3 @@ pub fn with_bytes(t: Text, s: &[u8]) -> Text
     }
     longer
 }
-
-pub fn with_text(t: Text, s: Text) -> Text
-    requires { ⌜ Counts (t .len) (t .bytes) × Counts (s .len) (s .bytes) × (t .len + s .len ≤ 128) ⌝ }
-    ensures { λ r. ⌜ (r .len ≡ t .len + s .len) × Counts (r .len) (r .bytes) × (take (r .len) (r .bytes) ≡ take (t .len) (t .bytes) ++ take (s .len) (s .bytes)) ⌝ }
-{
-    let len = s.len;
-    let bytes = s.bytes;
-    with_bytes(t, &bytes[..len])
-}

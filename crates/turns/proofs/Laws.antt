@@ -5,14 +5,14 @@ use mathlib.Core.List.{List, [], _∷_}
 use Prim.Native.Nat.{ℕ, _+_, _-_, _*_, _≤_, _<_}
 use native.Mathlib.Omega.{arith}
 use lib.Dec.{T, leb, ltb, eqb, leb→le, eqb→eq}
-use borrow.Author.Tests.{ne-eqb, eq-eqb, le-leb, lt-leb, lt-ltb, le-ltb, eqb-true, eqb-false, ltb-true, ltb-false}
+use borrow.Author.Tests.{ne-eqb, eq-eqb, le-leb, lt-leb, lt-ltb, le-ltb, eqb-false, ltb-true, ltb-false}
 use mir.Facts.{and-yes}
 use Rattle.table.specs.declared.State.{State}
 use Rattle.table.specs.Bytes.{pick}
 use Rattle.table.specs.Layout.{Layout, baseOf}
-use Rattle.table.specs.FixedLayouts.{host, hfi, ssns, security, discovery, listKinds, layoutOf}
+use Rattle.table.specs.FixedLayouts.{host, hfi, ssns, security, discovery, listKinds}
 use Rattle.table.specs.Meaning.{limit}
-use Rattle.table.specs.Builder.{Turn, counts, countOf, startOf, recordsEnd, placeOf, turn, firstTurn, turnAfter, nextTurn, next, moved, finishing, inList, waits}
+use Rattle.table.specs.Builder.{Turn, counts, countOf, startOf, recordsEnd, placeOf, turn, firstTurn, turnAfter, next, moved, finishing, inList, waits}
 use Rattle.turns.specs.Turns.{inPlace, laterOf, laterTurn}
 
 -- a number that is no list's kind

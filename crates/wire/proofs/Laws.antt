@@ -8,15 +8,13 @@ use lib.ListN.{length, getD, drop, drop-of-length-le}
 use lib.Seq.{drop-cons}
 use Rattle.table.specs.Bytes.{num, total}
 use Rattle.laws.specs.ByteLaws.{num-suc}
-
-pub num2 : (t : List ℕ) (a : ℕ) → num t a 2 ≡ getD t a 0 + 256 * getD t (a + 1) 0
-num2 t a = omega (arith, num-suc t a 1, num-suc t (a + 1) 0)
+use Rattle.laws.specs.Fields.{two-bytes}
 
 pub num4 : (t : List ℕ) (a : ℕ) → num t a 4 ≡ num t a 2 + 65536 * num t (a + 2) 2
 num4 t a =
     let e : a + 1 + 1 ≡ a + 2 = omega arith in
     let f : num t (a + 1 + 1) 2 ≡ num t (a + 2) 2 = ap (λ (b : ℕ). num t b 2) e in
-    omega (arith, num-suc t a 3, num-suc t (a + 1) 2, num2 t a, f)
+    omega (arith, num-suc t a 3, num-suc t (a + 1) 2, two-bytes t a, f)
 
 pub sum-step : (t : List ℕ) (i : ℕ) → i < length t → total (drop i t) ≡ getD t i 0 + total (drop (i + 1) t)
 sum-step t i h = rw (add-one, drop-cons t i 0)

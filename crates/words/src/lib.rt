@@ -61,18 +61,6 @@ fn with_kind(t: Text, kind: u8) -> Text
     }
 }
 
-pub fn meaning_words(number: u8) -> Text
-    ensures { λ r. ⌜ Counts (r .len) (r .bytes) × (take (r .len) (r .bytes) ≡ ascii (meaningOf number)) ⌝ }
-{
-    with_meaning(empty(), number)
-}
-
-pub fn kind_words(kind: u8) -> Text
-    ensures { λ r. ⌜ Counts (r .len) (r .bytes) × (take (r .len) (r .bytes) ≡ ascii (kindOf kind)) ⌝ }
-{
-    with_kind(empty(), kind)
-}
-
 // Where a fault is.
 fn with_place(t: Text, kind: u8, position: u64) -> Text
     requires { ⌜ Counts (t .len) (t .bytes) × (t .len + 44 ≤ 128) ⌝ }

@@ -2,19 +2,18 @@
 use mathlib.Core.Path.{_≡_, refl, sym, ap, _∙_}
 use mathlib.Core.Bool.{Bool, true, false}
 use mathlib.Core.List.{List, [], _∷_, _++_, append-nil}
-use Prim.Native.Nat.{ℕ, zero, suc, _+_, _-_, _≤_, _<_}
+use Prim.Native.Nat.{ℕ, suc, _+_, _-_, _≤_, _<_}
 use native.Mathlib.Omega.{arith}
 use lib.ListN.{length, getD, drop}
-use lib.Seq.{drop-length, getD-drop}
+use lib.Seq.{drop-length}
 use lib.Dec.{eqb}
-use native.Mathlib.Nat.{not-suc-le-zero, le-of-suc-le-suc}
 use Rattle.table.specs.Bytes.{pick, splice}
 use Rattle.table.specs.Bytes.{Edit, edit, apply}
 use borrow.Author.Tests.{ne-eqb}
 use native.Mathlib.Nat.{add-zero}
 use Rattle.table.specs.Layout.{Refs, Slots, nil, bytes, gone, rec}
 use Rattle.table.specs.Objects.{sizeOf, stores, patched, ref6, refFor}
-use Rattle.writer.specs.Stores.{refNum, storesFrom, Room}
+use Rattle.writer.specs.Stores.{refNum, storesFrom}
 
 -- a turn of the loop over the references
 pub stores-more : (x ps ns ws : List ℕ) (h i n : ℕ) → i < n
@@ -47,23 +46,6 @@ pub stores-turn : (x y ps ns ws : List ℕ) (h i n : ℕ) → i < n → y ≡ sp
     → apply y (storesFrom ps ns ws (h + getD ws i 0) (i + 1) (n - (i + 1))) ≡ apply x (storesFrom ps ns ws h i (n - i))
 stores-turn x y ps ns ws h i n k e =
     ap (λ (z : List ℕ). apply z (storesFrom ps ns ws (h + getD ws i 0) (i + 1) (n - (i + 1)))) e ∙ sym (stores-more x ps ns ws h i n k)
-
--- the room of a written-out table, store by store
-abbrev pub AllIn : ℕ → List ℕ → List ℕ → ℕ → Type 0
-AllIn zero ps ws size = Unit {0}
-AllIn (suc n) ps ws size = (getD ps 0 0 + 6 ≤ size) × (getD ws 0 0 ≤ 131072) × AllIn n (drop 1 ps) (drop 1 ws) size
-
-in-at : (n : ℕ) (ps ws : List ℕ) (size : ℕ) → AllIn n ps ws size → (i : ℕ) → i < n → (getD ps i 0 + 6 ≤ size) × (getD ws i 0 ≤ 131072)
-in-at zero ps ws size a i k = absurd (not-suc-le-zero k)
-in-at (suc n) ps ws size a zero k = (a .0, a .1)
-in-at (suc n) ps ws size a (suc i) k =
-    let r = in-at n (drop 1 ps) (drop 1 ws) size (a .2) i (le-of-suc-le-suc k) in
-    let e₁ : getD (drop 1 ps) i 0 ≡ getD ps (suc i) 0 = getD-drop 1 ps i 0 ∙ ap (λ (m : ℕ). getD ps m 0) (omega arith) in
-    let e₂ : getD (drop 1 ws) i 0 ≡ getD ws (suc i) 0 = getD-drop 1 ws i 0 ∙ ap (λ (m : ℕ). getD ws m 0) (omega arith) in
-    (omega arith, omega arith)
-
-pub room-of : (n : ℕ) (ps ws : List ℕ) (size : ℕ) → n ≤ 6 → AllIn n ps ws size → Room n ps ws size
-room-of n ps ws size f a = record { few = f; room = λ i k. in-at n ps ws size a i k .0; short = λ i k. in-at n ps ws size a i k .1 }
 
 -- ---- the table says what the slots are: any kind, any depth
 

@@ -5,9 +5,8 @@ use lib.Seq.{length-take-le}
 use lib.ListN.{length, take}
 use Prim.Native.Nat.{ℕ, _≤_}
 use mathlib.Core.List.{List}
-use mathlib.Core.Path.{_≡_, sym, ap, _∙_}
+use mathlib.Core.Path.{sym, ap, _∙_}
 use native.Mathlib.Omega.{arith}
-use Rattle.table.proofs.Rules.{picks}
 use borrow.Author.Needs.{needs}
 use Rattle.description.proofs.finish.Statement.{statement}
 use Rattle.description.proofs.finish.Tie as tie

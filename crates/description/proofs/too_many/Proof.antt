@@ -1,6 +1,4 @@
-use Prim.Native.Nat.{_≤_, _<_, _-_, _+_}
-use lib.ListN.{length}
-use mathlib.Core.Path.{_≡_}
+use Prim.Native.Nat.{_≤_, _-_}
 use Rattle.table.proofs.Rules.{picks}
 use Rattle.description.proofs.too_many.Statement.{statement}
 use Rattle.description.proofs.too_many.Tie as tie

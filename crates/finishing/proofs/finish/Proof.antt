@@ -3,16 +3,12 @@ use Rattle.table.specs.Builder.{sealed}
 use Rattle.table.specs.Bytes.{pick}
 use borrow.Author.Tests.{eq-eqb, ne-eqb}
 use mathlib.Core.Bool.{Bool}
-use lib.ListN.{length, take}
-use Prim.Native.Nat.{ℕ, _+_, _-_, _<_, _≤_}
 use Rattle.steps.proofs.LayLaws.{step-is}
-use Rattle.turns.proofs.Laws.{used-bounds}
 use Rattle.turns.proofs.Laws.{not-true, not-false}
 use Rattle.table.specs.declared.State.{State}
 use Rattle.table.specs.declared.Answer.{Answer}
-use mathlib.Core.Path.{_≡_, refl, sym, ap, ap₂, _∙_}
+use mathlib.Core.Path.{sym, ap, _∙_}
 use native.Mathlib.Omega.{arith}
-use Rattle.table.proofs.Rules.{picks}
 use borrow.Author.Needs.{needs}
 use Rattle.finishing.proofs.finish.Statement.{statement}
 use Rattle.finishing.proofs.finish.Tie as tie

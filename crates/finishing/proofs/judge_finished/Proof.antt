@@ -8,16 +8,11 @@ use lib.Dec.{lit≤}
 use native.Mathlib.Nat.{sub-zero}
 use mathlib.Core.List.{List}
 use mathlib.Core.Bool.{Bool}
-use lib.ListN.{length, take}
-use Prim.Native.Nat.{ℕ, _+_, _-_, _<_, _≤_}
-use Rattle.steps.proofs.LayLaws.{step-is}
+use lib.ListN.{take}
+use Prim.Native.Nat.{ℕ, _≤_}
 use Rattle.turns.proofs.Laws.{used-bounds}
-use Rattle.turns.proofs.Laws.{not-true, not-false}
-use Rattle.table.specs.declared.State.{State}
-use Rattle.table.specs.declared.Answer.{Answer}
-use mathlib.Core.Path.{_≡_, refl, sym, ap, ap₂, _∙_}
+use mathlib.Core.Path.{refl, sym, ap, ap₂, _∙_}
 use native.Mathlib.Omega.{arith}
-use Rattle.table.proofs.Rules.{picks}
 use borrow.Author.Needs.{needs}
 use Rattle.finishing.proofs.judge_finished.Statement.{statement}
 use Rattle.finishing.proofs.judge_finished.Tie as tie

@@ -7,7 +7,6 @@ use lib.Seq.{length-take-le}
 use Rattle.table.specs.Bytes.{splice}
 use Rattle.laws.specs.ByteLaws.{length-splice}
 use Rattle.writer.proofs.StoreLaws.{lent}
-use Rattle.table.proofs.Rules.{picks}
 use borrow.Author.Needs.{needs}
 use Rattle.front.proofs.write_front.Statement.{statement}
 use Rattle.front.proofs.write_front.Tie as tie

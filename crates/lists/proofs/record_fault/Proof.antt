@@ -2,7 +2,7 @@ use mathlib.Core.Bool.{true}
 use Rattle.table.specs.FixedLayouts.{layoutOf}
 use Rattle.table.specs.Bytes.{odd}
 use Rattle.table.specs.Layout.{region}
-use Prim.Native.Nat.{_-_, _+_}
+use Prim.Native.Nat.{_+_}
 use native.Mathlib.Omega.{arith}
 use lib.ListN.{getD, length}
 use mathlib.Core.Path.{_≡_}

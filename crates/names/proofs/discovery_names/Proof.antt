@@ -1,5 +1,5 @@
 use Rattle.table.specs.FixedLayouts.{zeroOr}
-use Prim.Native.Nat.{_-_, _+_}
+use Prim.Native.Nat.{_+_}
 use native.Mathlib.Omega.{arith}
 use Rattle.laws.specs.ListWalk.{validIn}
 use Rattle.table.specs.Bytes.{pick}

@@ -1,4 +1,4 @@
-use Prim.Native.Nat.{_-_, _+_}
+use Prim.Native.Nat.{_+_}
 use native.Mathlib.Omega.{arith}
 use Rattle.laws.specs.ListWalk.{validIn}
 use Rattle.table.specs.Bytes.{pick}

@@ -1,7 +1,6 @@
 use Rattle.nested_calls.proofs.KindLaws.{not-own, is-own}
 use Rattle.table.specs.FixedLayouts.{ssns}
 use Rattle.laws.specs.Fields.{imageIn}
-use Rattle.table.proofs.Rules.{picks}
 use borrow.Author.Needs.{needs}
 use Rattle.nested_calls.proofs.own_need.Statement.{statement}
 use Rattle.nested_calls.proofs.own_need.Tie as tie

@@ -8,17 +8,15 @@ use Rattle.steps.specs.Steps.{judgeTests}
 use Rattle.laws.specs.Fields.{imageIn}
 use Rattle.table.specs.Builder.{Outcome}
 use Rattle.table.specs.Rules.{firstFail}
-use Rattle.table.specs.FixedLayouts.{layoutOf, host, hfi, ssns, security, discovery, info, extended}
+use Rattle.table.specs.FixedLayouts.{layoutOf, ssns, extended}
 use Rattle.table.specs.declared.Need.the-variants.{Optional, Required}
 use lib.Dec.{lit≤}
 use native.Mathlib.Nat.{sub-zero}
 use lib.ListN.{length, take, length-take}
-use Prim.Native.Nat.{ℕ, _+_, _-_, _≤_}
-use mathlib.Core.List.{List, [], _∷_, _++_, append-nil}
+use Prim.Native.Nat.{ℕ, _-_, _≤_}
 use mathlib.Core.Bool.{Bool, true, _&&_}
 use mathlib.Core.Path.{_≡_, refl, sym, ap, ap₂, _∙_}
 use native.Mathlib.Omega.{arith}
-use Rattle.table.proofs.Rules.{picks}
 use borrow.Author.Needs.{needs}
 use Rattle.nested_calls.proofs.ssns.Statement.{statement}
 use Rattle.nested_calls.proofs.ssns.Tie as tie

@@ -2,15 +2,14 @@ use Rattle.table.specs.Builder.{recordsEnd}
 use Rattle.opening.proofs.BeginLaws.{opened-length, begin-again, begin-long, begin-refused, begin-done}
 use Rattle.room.proofs.RoomLaws.{room-passed}
 use mathlib.Core.List.{[], _∷_}
-use lib.ListN.{length, take}
-use Prim.Native.Nat.{ℕ, _+_, _-_, _<_, _≤_}
+use lib.ListN.{length}
+use Prim.Native.Nat.{_+_}
 use Rattle.steps.proofs.LayLaws.{step-is}
 use Rattle.turns.proofs.Laws.{not-true, not-false}
 use Rattle.table.specs.declared.State.{State}
 use Rattle.table.specs.declared.Answer.{Answer}
-use mathlib.Core.Path.{_≡_, refl, sym, ap, ap₂, _∙_}
+use mathlib.Core.Path.{sym, ap, _∙_}
 use native.Mathlib.Omega.{arith}
-use Rattle.table.proofs.Rules.{picks}
 use borrow.Author.Needs.{needs}
 use Rattle.opening.proofs.begin.Statement.{statement}
 use Rattle.opening.proofs.begin.Tie as tie

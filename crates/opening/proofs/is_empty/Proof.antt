@@ -1,7 +1,6 @@
 use Rattle.opening.proofs.BeginLaws.{same-state}
 use borrow.Author.Tests.{eq-eqb, ne-eqb}
 use mathlib.Core.Path.{refl}
-use Rattle.table.proofs.Rules.{picks}
 use Rattle.opening.proofs.is_empty.Statement.{statement}
 use Rattle.opening.proofs.is_empty.Tie as tie
 use Rattle.opening.proofs.is_empty.Reads as reads

@@ -4,10 +4,9 @@ use Rattle.front.specs.Front.{headerFor, controlFor}
 use Rattle.table.specs.Bytes.{splice}
 use lib.ListN.{length, replicate, length-replicate}
 use Prim.Native.Nat.{ℕ, _+_, _-_}
-use mathlib.Core.List.{List, [], _∷_}
-use mathlib.Core.Path.{_≡_, refl, sym, ap, ap₂, _∙_}
+use mathlib.Core.List.{[], _∷_}
+use mathlib.Core.Path.{_≡_, refl, ap, _∙_}
 use native.Mathlib.Omega.{arith}
-use Rattle.table.proofs.Rules.{picks}
 use borrow.Author.Needs.{needs}
 use Rattle.opening.proofs.lay_opened.Statement.{statement}
 use Rattle.opening.proofs.lay_opened.Tie as tie

@@ -1,22 +1,20 @@
 use Rattle.plain_calls.proofs.KindLaws.{host-refused, host-done}
-use Rattle.filling.proofs.FillLaws.{Fine, fine-short, refs-room, six-short, two-true}
-use Rattle.steps.proofs.LayLaws.{step-is, six-long}
-use Rattle.turns.proofs.Laws.{used-bounds}
+use Rattle.filling.proofs.FillLaws.{Fine, fine-short, refs-room, six-short}
+use Rattle.steps.proofs.LayLaws.{step-is}
 use Rattle.steps.proofs.JudgeLaws.{judge-passed}
 use Rattle.steps.specs.Steps.{judgeTests}
 use Rattle.laws.specs.Fields.{imageIn}
 use Rattle.table.specs.Builder.{Outcome}
 use Rattle.table.specs.Rules.{firstFail}
-use Rattle.table.specs.FixedLayouts.{layoutOf, host, hfi, ssns, security, discovery, info, extended}
-use Rattle.table.specs.declared.Need.the-variants.{Optional, Required}
+use Rattle.table.specs.FixedLayouts.{layoutOf, host}
+use Rattle.table.specs.declared.Need.the-variants.{Required}
 use lib.Dec.{lit≤}
-use lib.ListN.{length, take}
-use Prim.Native.Nat.{ℕ, _+_, _≤_}
-use mathlib.Core.List.{List, [], _∷_, _++_, append-nil}
-use mathlib.Core.Bool.{Bool, true, _&&_}
+use lib.ListN.{length}
+use Prim.Native.Nat.{_≤_}
+use mathlib.Core.List.{append-nil}
+use mathlib.Core.Bool.{Bool}
 use mathlib.Core.Path.{_≡_, refl, sym, ap, _∙_}
 use native.Mathlib.Omega.{arith}
-use Rattle.table.proofs.Rules.{picks}
 use borrow.Author.Needs.{needs}
 use Rattle.plain_calls.proofs.host.Statement.{statement}
 use Rattle.plain_calls.proofs.host.Tie as tie

@@ -2,22 +2,18 @@ use Rattle.table.specs.Builder.{waits}
 use Rattle.plain_calls.proofs.KindLaws.{security-refused, security-done}
 use Rattle.filling.proofs.FillLaws.{Fine, fine-short, refs-room, six-short, two-true}
 use Rattle.steps.proofs.LayLaws.{step-is, six-long}
-use Rattle.turns.proofs.Laws.{used-bounds}
 use Rattle.steps.proofs.JudgeLaws.{judge-passed}
 use Rattle.steps.specs.Steps.{judgeTests}
 use Rattle.laws.specs.Fields.{imageIn}
 use Rattle.table.specs.Builder.{Outcome}
 use Rattle.table.specs.Rules.{firstFail}
-use Rattle.table.specs.FixedLayouts.{layoutOf, host, hfi, ssns, security, discovery, info, extended}
-use Rattle.table.specs.declared.Need.the-variants.{Optional, Required}
+use Rattle.table.specs.FixedLayouts.{layoutOf, security}
 use lib.Dec.{lit≤}
-use lib.ListN.{length, take}
-use Prim.Native.Nat.{ℕ, _+_, _≤_}
-use mathlib.Core.List.{List, [], _∷_, _++_, append-nil}
+use lib.ListN.{length}
+use Prim.Native.Nat.{_≤_}
 use mathlib.Core.Bool.{Bool, true, _&&_}
 use mathlib.Core.Path.{_≡_, refl, sym, ap, ap₂, _∙_}
 use native.Mathlib.Omega.{arith}
-use Rattle.table.proofs.Rules.{picks}
 use borrow.Author.Needs.{needs}
 use Rattle.plain_calls.proofs.security.Statement.{statement}
 use Rattle.plain_calls.proofs.security.Tie as tie

@@ -1,6 +1,6 @@
 use Rattle.table.specs.FixedLayouts.{layoutOf, header}
 use Rattle.reader.specs.Stages.{numbered}
-use Prim.Native.Nat.{ℕ, _≤_, _-_}
+use Prim.Native.Nat.{ℕ, _≤_}
 use native.Mathlib.Omega.{arith}
 use Rattle.table.specs.Layout.{region}
 use lib.ListN.{length}

@@ -6,7 +6,6 @@ use lib.ListN.{take}
 use Rattle.table.specs.Bytes.{part, total}
 use Rattle.reader.proofs.AcceptedLaws.{laid}
 use Rattle.sealing.proofs.SumLaws.{part-front, accepted-sum}
-use Rattle.table.proofs.Rules.{picks}
 use borrow.Author.Needs.{needs}
 use Rattle.sealing.proofs.form_sum.Statement.{statement}
 use Rattle.sealing.proofs.form_sum.Tie as tie

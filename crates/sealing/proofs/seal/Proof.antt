@@ -6,7 +6,6 @@ use native.Mathlib.Nat.{sub-zero}
 use lib.ListN.{take}
 use lib.Seq.{length-take-le}
 use Rattle.table.specs.Bytes.{splice, total}
-use Rattle.table.proofs.Rules.{picks}
 use borrow.Author.Needs.{needs}
 use Rattle.sealing.proofs.seal.Statement.{statement}
 use Rattle.sealing.proofs.seal.Tie as tie

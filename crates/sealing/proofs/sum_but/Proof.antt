@@ -7,7 +7,6 @@ use lib.ListN.{length, take, drop, length-drop}
 use lib.Seq.{take-all}
 use Rattle.table.specs.Bytes.{total}
 use Rattle.sealing.proofs.SumLaws.{total-parts}
-use Rattle.table.proofs.Rules.{picks}
 use borrow.Author.Needs.{needs}
 use Rattle.sealing.proofs.sum_but.Statement.{statement}
 use Rattle.sealing.proofs.sum_but.Tie as tie

@@ -3,7 +3,6 @@ use Rattle.turns.proofs.Laws.{none}
 use lib.Dec.{lit≤}
 use native.Mathlib.Omega.{arith}
 use Rattle.table.specs.FixedLayouts.{hfi, ssns, security, discovery}
-use Rattle.table.proofs.Rules.{picks}
 use borrow.Author.Needs.{needs}
 use Rattle.turns.proofs.count_of.Statement.{statement}
 use Rattle.turns.proofs.count_of.Tie as tie

@@ -1,11 +1,8 @@
 use mathlib.Core.Path.{refl}
 use borrow.Author.Tests.{lt-leb}
 use Rattle.turns.proofs.Laws.{in-list-upto}
-use mathlib.Core.Path.{sym, _∙_}
 use Rattle.turns.proofs.Laws.{in-list-is}
 use native.Mathlib.Omega.{arith}
-use Rattle.table.specs.FixedLayouts.{hfi, ssns, security, discovery}
-use Rattle.table.proofs.Rules.{picks}
 use borrow.Author.Needs.{needs}
 use Rattle.turns.proofs.in_list.Statement.{statement}
 use Rattle.turns.proofs.in_list.Tie as tie

@@ -1,9 +1,6 @@
 use mathlib.Core.Path.{refl}
 use borrow.Author.Tests.{ne-eqb, eqb-true}
-use mathlib.Core.Path.{sym, _∙_}
 use native.Mathlib.Omega.{arith}
-use Rattle.table.specs.FixedLayouts.{hfi, ssns, security, discovery}
-use Rattle.table.proofs.Rules.{picks}
 use borrow.Author.Needs.{needs}
 use Rattle.turns.proofs.in_place.Statement.{statement}
 use Rattle.turns.proofs.in_place.Tie as tie

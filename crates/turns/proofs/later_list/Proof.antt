@@ -2,7 +2,6 @@ use mathlib.Core.Path.{refl}
 use borrow.Author.Tests.{ne-eqb}
 use Rattle.turns.specs.Turns.{laterTurn}
 use Rattle.table.specs.FixedLayouts.{hfi, ssns, security, discovery}
-use Rattle.table.proofs.Rules.{picks}
 use borrow.Author.Needs.{needs}
 use Rattle.turns.proofs.later_list.Statement.{statement}
 use Rattle.turns.proofs.later_list.Tie as tie

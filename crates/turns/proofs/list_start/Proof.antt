@@ -1,7 +1,6 @@
 use borrow.Author.Tests.{ne-eqb}
 use native.Mathlib.Omega.{arith}
 use Rattle.table.specs.FixedLayouts.{hfi, ssns, security, discovery}
-use Rattle.table.proofs.Rules.{picks}
 use borrow.Author.Needs.{needs}
 use Rattle.turns.proofs.list_start.Statement.{statement}
 use Rattle.turns.proofs.list_start.Tie as tie

@@ -7,7 +7,6 @@ use Rattle.table.specs.Bytes.{pick}
 use Rattle.table.specs.Builder.{moved, turn}
 use Rattle.turns.proofs.Laws.{next-inside, next-later}
 use native.Mathlib.Omega.{arith}
-use Rattle.table.proofs.Rules.{picks}
 use borrow.Author.Needs.{needs}
 use Rattle.turns.proofs.next.Statement.{statement}
 use Rattle.turns.proofs.next.Tie as tie

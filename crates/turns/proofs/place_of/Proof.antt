@@ -4,7 +4,6 @@ use Prim.Native.Nat.{ℕ, _+_, _-_, _*_}
 use Rattle.table.specs.FixedLayouts.{layoutOf}
 use Rattle.turns.proofs.Laws.{host-place, hfi-place, ssns-place, security-place, discovery-place, in-its-list}
 use native.Mathlib.Omega.{arith}
-use Rattle.table.proofs.Rules.{picks}
 use borrow.Author.Needs.{needs}
 use Rattle.turns.proofs.place_of.Statement.{statement}
 use Rattle.turns.proofs.place_of.Tie as tie

@@ -1,7 +1,6 @@
 use Rattle.table.specs.Builder.{recordsEnd}
 use native.Mathlib.Omega.{arith}
 use Rattle.table.specs.FixedLayouts.{hfi, ssns, security, discovery}
-use Rattle.table.proofs.Rules.{picks}
 use borrow.Author.Needs.{needs}
 use Rattle.turns.proofs.records_end.Statement.{statement}
 use Rattle.turns.proofs.records_end.Tie as tie

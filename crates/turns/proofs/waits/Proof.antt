@@ -6,8 +6,6 @@ use borrow.Author.Tests.{ne-eqb}
 use Rattle.table.specs.Builder.{waits}
 use Rattle.turns.proofs.Laws.{not-true, not-false, not-in-place, too-low, waits-for}
 use native.Mathlib.Omega.{arith}
-use Rattle.table.specs.FixedLayouts.{hfi, ssns, security, discovery}
-use Rattle.table.proofs.Rules.{picks}
 use borrow.Author.Needs.{needs}
 use Rattle.turns.proofs.waits.Statement.{statement}
 use Rattle.turns.proofs.waits.Tie as tie

@@ -1,5 +1,5 @@
 use native.Mathlib.Omega.{arith}
-use Rattle.wire.proofs.Laws.{num2}
+use Rattle.laws.specs.Fields.{two-bytes}
 use borrow.Author.Needs.{needs}
 use Rattle.wire.proofs.u16_at.Statement.{statement}
 use Rattle.wire.proofs.u16_at.Tie as tie
@@ -26,7 +26,7 @@ add-result : tie.Need-add-result
 add-result c = search needs
 
 returns : tie.Need-returns
-returns c = let a = c .before .before .before .before .before .args in omega (arith, num2 (a .t .now) (a .at))
+returns c = let a = c .before .before .before .before .before .args in omega (arith, two-bytes (a .t .now) (a .at))
 
 pub u16-at-spec : {M : Type 1} → statement M
 u16-at-spec =

@@ -1,14 +1,11 @@
 use Rattle.builder.proofs.LeaveLaws.{leave-early, leave-nowhere, leave-short, leave-done}
-use lib.ListN.{length, take}
-use Prim.Native.Nat.{ℕ, _+_, _-_, _<_, _≤_}
 use Rattle.steps.proofs.LayLaws.{step-is}
 use Rattle.turns.proofs.Laws.{used-bounds}
 use Rattle.turns.proofs.Laws.{not-true, not-false}
 use Rattle.table.specs.declared.State.{State}
 use Rattle.table.specs.declared.Answer.{Answer}
-use mathlib.Core.Path.{_≡_, refl, sym, ap, ap₂, _∙_}
+use mathlib.Core.Path.{sym, ap, ap₂, _∙_}
 use native.Mathlib.Omega.{arith}
-use Rattle.table.proofs.Rules.{picks}
 use borrow.Author.Needs.{needs}
 use Rattle.builder.proofs.leaves.leave.Statement.{statement}
 use Rattle.builder.proofs.leaves.leave.Tie as tie

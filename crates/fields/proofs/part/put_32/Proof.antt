@@ -1,7 +1,6 @@
 use Rattle.fields.proofs.Laws.{stored-whole}
 use lib.ListN.{length}
 use mathlib.Core.Path.{_≡_}
-use Rattle.table.proofs.Rules.{picks}
 use borrow.Author.Needs.{needs}
 use Rattle.fields.proofs.part.put_32.Statement.{statement}
 use Rattle.fields.proofs.part.put_32.Tie as tie

@@ -4,7 +4,6 @@ use Rattle.table.specs.FixedLayouts.{layoutOf}
 use Rattle.laws.specs.Fields.{imageIn}
 use Rattle.laws.specs.ListWalk.{base-small}
 use Rattle.images.proofs.Laws.{splice-padded}
-use Rattle.table.proofs.Rules.{picks}
 use borrow.Author.Needs.{needs}
 use Rattle.images.proofs.images.image_at.Statement.{statement}
 use Rattle.images.proofs.images.image_at.Tie as tie

@@ -1,5 +1,4 @@
 use mathlib.Core.Path.{refl, sym}
-use Rattle.table.proofs.Rules.{picks}
 use borrow.Author.Needs.{needs}
 use Rattle.parts.proofs.references.counts.Statement.{statement}
 use Rattle.parts.proofs.references.counts.Tie as tie

@@ -8,7 +8,6 @@ use Rattle.table.specs.Reads.{seat, placeAt}
 use Rattle.laws.specs.ListWalk.{base-small}
 use Rattle.parts.specs.Parts.{refsOf, slotsIn, recordPart}
 use Rattle.parts.proofs.PartLaws.{offset-is, own-size}
-use Rattle.table.proofs.Rules.{picks}
 use borrow.Author.Needs.{needs}
 use Rattle.parts.proofs.references.held_span.Statement.{statement}
 use Rattle.parts.proofs.references.held_span.Tie as tie

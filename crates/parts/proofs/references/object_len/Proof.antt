@@ -8,7 +8,6 @@ use Rattle.table.specs.Layout.{image, baseOf}
 use Rattle.table.specs.FixedLayouts.{layoutOf, security}
 use Rattle.reads.proofs.ObjectLaws.{plain-fits}
 use Rattle.parts.proofs.PartLaws.{place-len, never-ignored, security-len}
-use Rattle.table.proofs.Rules.{picks}
 use Rattle.parts.proofs.references.object_len.Statement.{statement}
 use Rattle.parts.proofs.references.object_len.Tie as tie
 use Rattle.parts.proofs.references.object_len.Reads as reads

@@ -1,7 +1,6 @@
 use Rattle.parts.specs.Parts.{recordPart}
 use mathlib.Core.Path.{refl}
 use lib.Dec.{lit≤}
-use Rattle.table.proofs.Rules.{picks}
 use borrow.Author.Needs.{needs}
 use Rattle.parts.proofs.references.record_span.Statement.{statement}
 use Rattle.parts.proofs.references.record_span.Tie as tie

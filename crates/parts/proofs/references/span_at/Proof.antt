@@ -5,7 +5,6 @@ use Rattle.reads.specs.declared.seats.Seat.{Seat}
 use Rattle.reads.proofs.SeatLaws.{record-held}
 use Rattle.parts.specs.Parts.{Part, recordPart}
 use Rattle.parts.proofs.PartLaws.{plain-part, nest-part, one-object}
-use Rattle.table.proofs.Rules.{picks}
 use borrow.Author.Needs.{needs}
 use Rattle.parts.proofs.references.span_at.Statement.{statement}
 use Rattle.parts.proofs.references.span_at.Tie as tie

@@ -1,17 +1,9 @@
 use native.Mathlib.Nat.{add-zero}
-use mathlib.Core.Path.{_≡_, refl, sym, ap, ap₂, _∙_}
-use mathlib.Core.List.{List}
-use Prim.Native.Nat.{ℕ, _+_, _≤_, _<_}
-use native.Mathlib.Omega.{arith}
-use lib.ListN.{length, getD, drop}
-use Rattle.table.specs.FixedLayouts.{layoutOf}
+use mathlib.Core.Path.{sym, _∙_}
 use Rattle.table.specs.Bytes.{splice}
-use Rattle.table.specs.Layout.{baseOf}
 use Rattle.writer.proofs.StoreLaws.{splice-none}
 use Rattle.writer.specs.Stores.{refNum}
-use Rattle.relaid.specs.Laid.{laid, applyAt}
-use Rattle.parts.specs.Parts.{Part, refsOf, OneObject, slotsIn, partAt, recordPart, bytesAt, recordBytes, spansOver, storesOver, objectsOver}
-use Rattle.table.proofs.Rules.{picks}
+use Rattle.parts.specs.Parts.{recordPart, recordBytes}
 use borrow.Author.Needs.{needs}
 use Rattle.relaid.proofs.objects.lay_record.Statement.{statement}
 use Rattle.relaid.proofs.objects.lay_record.Tie as tie

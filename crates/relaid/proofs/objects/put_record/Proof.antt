@@ -8,7 +8,6 @@ use Rattle.table.specs.FixedLayouts.{layoutOf}
 use Rattle.laws.specs.Fields.{imageIn, length-imageIn}
 use Rattle.writer.proofs.RecordLaws.{splice-all}
 use Rattle.writer.proofs.StoreLaws.{lent}
-use Rattle.table.proofs.Rules.{picks}
 use borrow.Author.Needs.{needs}
 use Rattle.relaid.proofs.objects.put_record.Statement.{statement}
 use Rattle.relaid.proofs.objects.put_record.Tie as tie

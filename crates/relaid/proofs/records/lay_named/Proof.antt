@@ -1,17 +1,14 @@
-use mathlib.Core.Path.{_≡_, refl, sym, ap, ap₂, _∙_}
-use mathlib.Core.List.{List}
+use mathlib.Core.Path.{_≡_, refl, sym, ap, _∙_}
 use Prim.Native.Nat.{ℕ, _+_, _-_, _≤_, _<_}
 use native.Mathlib.Omega.{arith}
-use lib.ListN.{length, getD, drop}
+use lib.ListN.{length, drop}
 use Rattle.laws.specs.ListWalk.{refs-within}
 use Rattle.table.specs.Bytes.{splice}
-use Rattle.table.specs.FixedLayouts.{layoutOf}
-use Rattle.table.specs.Layout.{baseOf}
 use Rattle.writer.specs.Stores.{refNum}
 use Rattle.relaid.specs.Laid.{laid, applyAt}
 use Rattle.relaid.proofs.LaidLaws.{named-turn, go-done, go-all}
 use Rattle.parts.proofs.PartLaws.{offset-is, sized-all, spans-more, spans-done}
-use Rattle.parts.specs.Parts.{refsOf, slotsIn, partAt, bytesAt, spansOver, storesOver, objectsOver}
+use Rattle.parts.specs.Parts.{refsOf, partAt, bytesAt, spansOver, storesOver, objectsOver}
 use Rattle.table.proofs.Rules.{picks}
 use Rattle.relaid.proofs.records.lay_named.Statement.{statement}
 use Rattle.relaid.proofs.records.lay_named.Tie as tie

@@ -8,7 +8,6 @@ use Rattle.table.specs.Objects.{stores, heapOf}
 use Rattle.parts.specs.Parts.{slotsIn}
 use Rattle.relaid.specs.Laid.{applyAt}
 use Rattle.relaid.proofs.LaidLaws.{record-laid}
-use Rattle.table.proofs.Rules.{picks}
 use borrow.Author.Needs.{needs}
 use Rattle.relaid.proofs.records.lay_used.Statement.{statement}
 use Rattle.relaid.proofs.records.lay_used.Tie as tie

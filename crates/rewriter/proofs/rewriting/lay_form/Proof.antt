@@ -10,7 +10,6 @@ use Rattle.reader.proofs.AcceptedLaws.{laid}
 use Rattle.reads.proofs.SeatLaws.{header-seated, host-entered}
 use Rattle.relaid.specs.Laid.{laid as both}
 use Rattle.rewriter.proofs.FormLaws.{form-length, heap-length, front-late, form-laid}
-use Rattle.table.proofs.Rules.{picks}
 use borrow.Author.Needs.{needs}
 use Rattle.rewriter.proofs.rewriting.lay_form.Statement.{statement}
 use Rattle.rewriter.proofs.rewriting.lay_form.Tie as tie

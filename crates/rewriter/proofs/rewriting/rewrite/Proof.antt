@@ -1,4 +1,4 @@
-use mathlib.Core.Path.{_≡_, refl}
+use mathlib.Core.Path.{refl}
 use mathlib.Core.List.{List}
 use Prim.Native.Nat.{_-_}
 use lib.ListN.{take}
@@ -20,7 +20,6 @@ use Rattle.table.specs.Meaning.{limit, meaning}
 use Rattle.laws.specs.Fields.{Bytes}
 use Rattle.reads.proofs.ObjectLaws.{accepted}
 use Rattle.rewriter.proofs.AnswerLaws.{answer-is, read-refused, read-passed, rewrite-refused, rewrite-done, room-passed, length-is, laid-length, sealed}
-use Rattle.table.proofs.Rules.{picks}
 use borrow.Author.Needs.{needs}
 use Rattle.rewriter.proofs.rewriting.rewrite.Statement.{statement}
 use Rattle.rewriter.proofs.rewriting.rewrite.Tie as tie

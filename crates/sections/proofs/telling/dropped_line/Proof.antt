@@ -1,6 +1,4 @@
-use Prim.Native.Nat.{_≤_, _<_, _-_, _+_}
-use lib.ListN.{length}
-use mathlib.Core.Path.{_≡_}
+use Prim.Native.Nat.{_≤_, _-_}
 use Rattle.table.proofs.Rules.{picks}
 use Rattle.sections.proofs.telling.dropped_line.Statement.{statement}
 use Rattle.sections.proofs.telling.dropped_line.Tie as tie

@@ -5,7 +5,6 @@ use Prim.Native.Nat.{_+_}
 use mathlib.Core.List.{[], _∷_}
 use mathlib.Core.Path.{refl}
 use native.Mathlib.Omega.{arith}
-use Rattle.table.proofs.Rules.{picks}
 use borrow.Author.Needs.{needs}
 use Rattle.steps.proofs.laying.lay_pieces.Statement.{statement}
 use Rattle.steps.proofs.laying.lay_pieces.Tie as tie

@@ -14,7 +14,6 @@ use Prim.Native.Nat.{_+_}
 use mathlib.Core.List.{[], _∷_}
 use mathlib.Core.Path.{sym, ap, _∙_}
 use native.Mathlib.Omega.{arith}
-use Rattle.table.proofs.Rules.{picks}
 use borrow.Author.Needs.{needs}
 use Rattle.steps.proofs.laying.lay_told.Statement.{statement}
 use Rattle.steps.proofs.laying.lay_told.Tie as tie

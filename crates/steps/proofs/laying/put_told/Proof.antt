@@ -12,7 +12,6 @@ use Prim.Native.Nat.{ℕ, _+_, _-_}
 use mathlib.Core.List.{List}
 use mathlib.Core.Path.{_≡_, sym, ap, ap₂, _∙_}
 use native.Mathlib.Omega.{arith}
-use Rattle.table.proofs.Rules.{picks}
 use borrow.Author.Needs.{needs}
 use Rattle.steps.proofs.laying.put_told.Statement.{statement}
 use Rattle.steps.proofs.laying.put_told.Tie as tie

@@ -1,7 +1,6 @@
 use Rattle.told.proofs.Laws.{flags-inside, valid-of}
 use native.Mathlib.Omega.{arith}
 use Rattle.told.specs.Marks.{marked}
-use Rattle.table.proofs.Rules.{picks}
 use borrow.Author.Needs.{needs}
 use Rattle.told.proofs.marks.mark.Statement.{statement}
 use Rattle.told.proofs.marks.mark.Tie as tie

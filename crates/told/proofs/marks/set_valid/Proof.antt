@@ -1,5 +1,4 @@
 use native.Mathlib.Omega.{arith}
-use Rattle.table.proofs.Rules.{picks}
 use borrow.Author.Needs.{needs}
 use Rattle.told.proofs.marks.set_valid.Statement.{statement}
 use Rattle.told.proofs.marks.set_valid.Tie as tie

@@ -9,7 +9,6 @@ use Prim.Native.Nat.{ℕ}
 use mathlib.Core.List.{[], _∷_}
 use mathlib.Core.Path.{ap, _∙_}
 use native.Mathlib.Omega.{arith}
-use Rattle.table.proofs.Rules.{picks}
 use borrow.Author.Needs.{needs}
 use Rattle.told.proofs.marks.stamp.Statement.{statement}
 use Rattle.told.proofs.marks.stamp.Tie as tie

@@ -1,6 +1,5 @@
 use Rattle.told.proofs.Laws.{required-none, required-some}
 use mathlib.Core.Path.{refl}
-use Rattle.table.proofs.Rules.{picks}
 use borrow.Author.Needs.{needs}
 use Rattle.told.proofs.objects.fits.Statement.{statement}
 use Rattle.told.proofs.objects.fits.Tie as tie

@@ -9,7 +9,6 @@ use Prim.Native.Nat.{ℕ}
 use mathlib.Core.Path.{ap, _∙_}
 use Rattle.told.proofs.Laws.{ref-at, held-is}
 use native.Mathlib.Omega.{arith}
-use Rattle.table.proofs.Rules.{picks}
 use borrow.Author.Needs.{needs}
 use Rattle.told.proofs.objects.held.Statement.{statement}
 use Rattle.told.proofs.objects.held.Tie as tie
