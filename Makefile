@@ -21,8 +21,8 @@ AGREED := crates
 ENDED  := target/ended
 
 # Provers at a time: rt waits for all that it started together, so that with one for each of two cores the shorter proof leaves a core idle.
-# The more there are, the fewer such waits. Each takes up to 1.3 GB.
-export RT_JOBS ?= 8
+# With eight the whole test took a minute longer than with four.
+export RT_JOBS ?= 4
 
 # The library and the programs are x86-64 code. On another processor what links them is compiled for x86-64 too, by the compiler that
 # .ci/emulator installs, and an emulator runs it.
