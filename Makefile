@@ -21,7 +21,7 @@ AGREED := crates
 ENDED  := target/ended
 
 # Provers at a time: rt waits for all that it started together, so that with one for each of two cores the shorter proof leaves a core idle.
-# With eight the whole test took a minute longer than with four.
+# With eight the whole test took longer than with four (docs/TIMES.md).
 export RT_JOBS ?= 4
 
 # The library and the programs are x86-64 code. On another processor what links them is compiled for x86-64 too, by the compiler that
