@@ -7,7 +7,7 @@
 #   make install  the same under PREFIX, /usr/local if none is given (DESTDIR goes before it); after `make lib`
 #   make examples  the examples in C compiled, run, and held to what they are expected to print
 #   make bindings  the Rust crate over the library, bindings/rust, with its tests
-#   make readme   the examples of README.md and docs/DESCRIPTIONS.md run, and held to what stands there; after `make run`
+#   make readme   the examples of README.md, docs/DESCRIPTIONS.md and docs/SAMPLES.md run, and held to what stands there; after `make run`
 #   make soak     the library beside the second program for ten minutes; SECONDS=60 or CASES=1000000 for as long, SEED= for the same again
 #   make bench    time of a check, a read, a rewrite and a build, beside the second program's and a bare byte sum's
 #   make plot     time by the table's length, drawn to docs/performance.png (needs python3)
@@ -157,7 +157,7 @@ bindings: $(if $(NBFT_LIB),,library)
 
 # With the programs that stand in the folder NBFT_BIN, if that is given. It proves and compiles nothing.
 readme:
-	RUN="$(RUN)" .ci/readme-examples $(or $(NBFT_BIN),target/bin) README.md docs/DESCRIPTIONS.md
+	RUN="$(RUN)" .ci/readme-examples $(or $(NBFT_BIN),target/bin) README.md docs/DESCRIPTIONS.md docs/SAMPLES.md
 
 # As many cases as CASES says, or else as many as SECONDS allow; from SEED on, or else from a fresh seed.
 SECONDS = 600

@@ -84,9 +84,9 @@ fn whole(text: &[u8]) -> Result<(), String> {
 
 #[test]
 fn what_is_shown_is_json() {
-    let file = Path::new(env!("CARGO_MANIFEST_DIR")).join("../crates/tool_samples/stdout");
-    let shown = fs::read(file).expect("the program's expected output");
-    let start = shown.windows(9).position(|part| part == b"{\"header\"").expect("JSON behind the tables");
+    let file = Path::new(env!("CARGO_MANIFEST_DIR")).join("../docs/SAMPLES.md");
+    let shown = fs::read(file).expect("what the program is expected to print");
+    let start = shown.windows(9).position(|part| part == b"{\"header\"").expect("JSON at the end");
     whole(&shown[start..]).unwrap();
 }
 

@@ -23,7 +23,6 @@ use Rattle.writer.proofs.RecordLaws.{length-ref}
 use Rattle.front.proofs.FrontLaws.{header-is, header-joined, header-long, control-is, control-joined, control-long}
 use Rattle.writer.proofs.StoreLaws.{splice-join, splice-none, splice-swap, splice-over}
 use Rattle.reader.specs.Accepted.{Accepted}
-use Rattle.reader.proofs.AcceptedLaws.{laid as sound}
 use Rattle.images.proofs.Laws.{part-long}
 use Rattle.reads.proofs.SeatLaws.{header-seated, host-entered}
 use Rattle.parts.specs.Parts.{refsOf, OneObject, slotsIn, partAt, bytesAt, storesOver}

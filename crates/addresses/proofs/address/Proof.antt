@@ -4,12 +4,6 @@ use Rattle.addresses.proofs.Groups.{eight, runs-fit, runs-right}
 use borrow.Author.Needs.{needs}
 use Rattle.addresses.proofs.address.Statement.{statement}
 use Rattle.addresses.proofs.address.Tie as tie
-use Rattle.addresses.proofs.address.Reads as reads
-use Rattle.addresses.proofs.address.Lts as lts
-use Rattle.addresses.proofs.is_mapped.Reads as is-mapped-reads
-use Rattle.addresses.proofs.quad.Reads as quad-reads
-use Rattle.addresses.proofs.runs_in.Reads as runs-in-reads
-use Rattle.addresses.proofs.six.Reads as six-reads
 
 runs-in-requires : tie.Need-runs-in-requires
 runs-in-requires c κs = search needs

@@ -2,8 +2,6 @@ use Rattle.text.proofs.Rules.{picks}
 use borrow.Author.Needs.{needs}
 use Rattle.addresses.proofs.first_with.Statement.{statement}
 use Rattle.addresses.proofs.first_with.Tie as tie
-use Rattle.addresses.proofs.first_with.Reads as reads
-use Rattle.addresses.proofs.first_with.Lts as lts
 
 add-result : tie.Need-add-result
 add-result c = search needs

@@ -3,9 +3,6 @@ use Rattle.addresses.proofs.Groups.{group-is}
 use borrow.Author.Needs.{needs}
 use Rattle.addresses.proofs.group_at.Statement.{statement}
 use Rattle.addresses.proofs.group_at.Tie as tie
-use Rattle.addresses.proofs.group_at.Reads as reads
-use Rattle.addresses.proofs.group_at.Lts as lts
-use Rattle.addresses.proofs.wide.Reads as wide-reads
 
 mul-wide : tie.Need-mul-wide
 mul-wide c = search needs

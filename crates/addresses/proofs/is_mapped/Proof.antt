@@ -4,9 +4,6 @@ use Rattle.addresses.specs.Addresses.{mapped}
 use borrow.Author.Needs.{needs}
 use Rattle.addresses.proofs.is_mapped.Statement.{statement}
 use Rattle.addresses.proofs.is_mapped.Tie as tie
-use Rattle.addresses.proofs.is_mapped.Reads as reads
-use Rattle.addresses.proofs.is_mapped.Lts as lts
-use Rattle.addresses.proofs.group_at.Reads as group-at-reads
 
 group-at-requires : tie.Need-group-at-requires
 group-at-requires c κs = search needs

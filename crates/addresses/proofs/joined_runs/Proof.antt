@@ -3,9 +3,6 @@ use Rattle.text.proofs.Rules.{picks}
 use borrow.Author.Needs.{needs}
 use Rattle.addresses.proofs.joined_runs.Statement.{statement}
 use Rattle.addresses.proofs.joined_runs.Tie as tie
-use Rattle.addresses.proofs.joined_runs.Reads as reads
-use Rattle.addresses.proofs.joined_runs.Lts as lts
-use Rattle.addresses.proofs.first_with.Reads as first-with-reads
 
 first-with-requires : tie.Need-first-with-requires
 first-with-requires c κs = search needs

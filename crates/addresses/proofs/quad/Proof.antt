@@ -5,12 +5,6 @@ use Rattle.addresses.specs.Addresses.{quadOf}
 use borrow.Author.Needs.{needs}
 use Rattle.addresses.proofs.quad.Statement.{statement}
 use Rattle.addresses.proofs.quad.Tie as tie
-use Rattle.addresses.proofs.quad.Reads as reads
-use Rattle.addresses.proofs.quad.Lts as lts
-use Rattle.addresses.proofs.wide.Reads as wide-reads
-use Rattle.addresses.proofs.with_octet.Reads as with-octet-reads
-use Rattle.text.proofs.append.empty.Reads as empty-reads
-use Rattle.text.proofs.decimals.with_number.Reads as with-number-reads
 
 empty-requires : tie.Need-empty-requires
 empty-requires c κs = search needs

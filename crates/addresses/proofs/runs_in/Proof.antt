@@ -9,10 +9,6 @@ use Rattle.addresses.proofs.Groups.{eight, runs-fit, runs-next}
 use Rattle.text.proofs.Rules.{picks}
 use Rattle.addresses.proofs.runs_in.Statement.{statement}
 use Rattle.addresses.proofs.runs_in.Tie as tie
-use Rattle.addresses.proofs.runs_in.Reads as reads
-use Rattle.addresses.proofs.runs_in.Lts as lts
-use Rattle.addresses.proofs.group_at.Reads as group-at-reads
-use Rattle.addresses.proofs.joined_runs.Reads as joined-runs-reads
 
 abbrev Inv-loop : tie.InvT-loop
 Inv-loop b r₀ i₀ r i = (i ≤ 8) × (r ≡ runsOf (drop i (groups b)))

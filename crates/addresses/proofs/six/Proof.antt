@@ -8,11 +8,6 @@ use Rattle.addresses.proofs.Groups.{eight}
 use borrow.Author.Needs.{needs}
 use Rattle.addresses.proofs.six.Statement.{statement}
 use Rattle.addresses.proofs.six.Tie as tie
-use Rattle.addresses.proofs.six.Reads as reads
-use Rattle.addresses.proofs.six.Lts as lts
-use Rattle.addresses.proofs.with_groups.Reads as with-groups-reads
-use Rattle.text.proofs.append.empty.Reads as empty-reads
-use Rattle.text.proofs.append.with_bytes.Reads as with-bytes-reads
 
 empty-requires : tie.Need-empty-requires
 empty-requires c κs = search needs

@@ -4,9 +4,6 @@ use Rattle.text.proofs.Rules.{picks}
 use borrow.Author.Needs.{needs}
 use Rattle.addresses.proofs.with_group.Statement.{statement}
 use Rattle.addresses.proofs.with_group.Tie as tie
-use Rattle.addresses.proofs.with_group.Reads as reads
-use Rattle.addresses.proofs.with_group.Lts as lts
-use Rattle.hexadecimal.proofs.with_hex.Reads as with-hex-reads
 
 with-hex-requires : tie.Need-with-hex-requires
 with-hex-requires c κs = search needs

@@ -8,11 +8,6 @@ use Rattle.addresses.proofs.Groups.{eight, group-step, group-end}
 use borrow.Author.Needs.{needs}
 use Rattle.addresses.proofs.with_groups.Statement.{statement}
 use Rattle.addresses.proofs.with_groups.Tie as tie
-use Rattle.addresses.proofs.with_groups.Reads as reads
-use Rattle.addresses.proofs.with_groups.Lts as lts
-use Rattle.addresses.proofs.group_at.Reads as group-at-reads
-use Rattle.addresses.proofs.with_group.Reads as with-group-reads
-use Rattle.addresses.proofs.with_next_groups.Reads as with-next-groups-reads
 
 group-at-requires : tie.Need-group-at-requires
 group-at-requires c κs = search needs

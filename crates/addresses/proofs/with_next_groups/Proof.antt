@@ -10,11 +10,6 @@ use Rattle.addresses.proofs.Groups.{eight, colon-step, colon-end}
 use Rattle.text.proofs.Rules.{picks}
 use Rattle.addresses.proofs.with_next_groups.Statement.{statement}
 use Rattle.addresses.proofs.with_next_groups.Tie as tie
-use Rattle.addresses.proofs.with_next_groups.Reads as reads
-use Rattle.addresses.proofs.with_next_groups.Lts as lts
-use Rattle.addresses.proofs.group_at.Reads as group-at-reads
-use Rattle.addresses.proofs.with_group.Reads as with-group-reads
-use Rattle.text.proofs.append.with_byte.Reads as with-byte-reads
 
 abbrev Inv-loop : tie.InvT-loop
 Inv-loop b from to longer₀ i₀ longer i = (from ≤ i) × (i ≤ to) × (longer .len + 5 * from ≤ longer₀ .len + 5 * i) × Counts (longer .len) (longer .bytes) × (take (longer .len) (longer .bytes) ++ behindColons (drop i (take to (groups b))) ≡ take (longer₀ .len) (longer₀ .bytes) ++ behindColons (drop from (take to (groups b))))

@@ -2,11 +2,6 @@ use native.Mathlib.Omega.{arith}
 use borrow.Author.Needs.{needs}
 use Rattle.addresses.proofs.with_octet.Statement.{statement}
 use Rattle.addresses.proofs.with_octet.Tie as tie
-use Rattle.addresses.proofs.with_octet.Reads as reads
-use Rattle.addresses.proofs.with_octet.Lts as lts
-use Rattle.addresses.proofs.wide.Reads as wide-reads
-use Rattle.text.proofs.append.with_byte.Reads as with-byte-reads
-use Rattle.text.proofs.decimals.with_number.Reads as with-number-reads
 
 with-byte-requires : tie.Need-with-byte-requires
 with-byte-requires c κs = search needs

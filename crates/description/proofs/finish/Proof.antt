@@ -10,11 +10,6 @@ use native.Mathlib.Omega.{arith}
 use borrow.Author.Needs.{needs}
 use Rattle.description.proofs.finish.Statement.{statement}
 use Rattle.description.proofs.finish.Tie as tie
-use Rattle.description.proofs.finish.Reads as reads
-use Rattle.description.proofs.finish.Lts as lts
-use Rattle.builder.proofs.finish.Reads as finish-reads
-use Rattle.description.proofs.failed.Reads as failed-reads
-use Rattle.description.proofs.line_of.Reads as line-of-reads
 
 failed-requires : tie.Need-failed-requires
 failed-requires c κs = search needs

@@ -2,9 +2,6 @@ use Prim.Native.Nat.{_≤_, _-_}
 use Rattle.table.proofs.Rules.{picks}
 use Rattle.description.proofs.too_many.Statement.{statement}
 use Rattle.description.proofs.too_many.Tie as tie
-use Rattle.description.proofs.too_many.Reads as reads
-use Rattle.description.proofs.too_many.Lts as lts
-use Rattle.sections.proofs.lines.nth_section.Reads as nth-section-reads
 
 abbrev Inv-loop : tie.InvT-loop
 Inv-loop text kind₀ kind = kind ≤ 7

@@ -7,11 +7,6 @@ use mathlib.Core.Path.{sym, ap, _∙_}
 use borrow.Author.Needs.{needs}
 use Rattle.field_reads.proofs.field.Statement.{statement}
 use Rattle.field_reads.proofs.field.Tie as tie
-use Rattle.field_reads.proofs.field.Reads as reads
-use Rattle.field_reads.proofs.field.Lts as lts
-use Rattle.reader.proofs.check.Reads as check-reads
-use Rattle.field_reads.proofs.field_in.Reads as field-in-reads
-use Rattle.field_reads.proofs.refused_field.Reads as refused-field-reads
 
 check-requires : tie.Need-check-requires
 check-requires c κs = search needs

@@ -7,9 +7,6 @@ use mathlib.Core.Path.{sym, ap, _∙_}
 use borrow.Author.Needs.{needs}
 use Rattle.field_reads.proofs.field_bytes.Statement.{statement}
 use Rattle.field_reads.proofs.field_bytes.Tie as tie
-use Rattle.field_reads.proofs.field_bytes.Reads as reads
-use Rattle.field_reads.proofs.field_bytes.Lts as lts
-use Rattle.images.proofs.field_at.Reads as field-at-reads
 
 field-at-requires : tie.Need-field-at-requires
 field-at-requires c κs = search needs

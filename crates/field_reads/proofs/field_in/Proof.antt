@@ -4,12 +4,6 @@ use mathlib.Core.Path.{ap, _∙_}
 use borrow.Author.Needs.{needs}
 use Rattle.field_reads.proofs.field_in.Statement.{statement}
 use Rattle.field_reads.proofs.field_in.Tie as tie
-use Rattle.field_reads.proofs.field_in.Reads as reads
-use Rattle.field_reads.proofs.field_in.Lts as lts
-use Rattle.field_reads.proofs.field_of.Reads as field-of-reads
-use Rattle.field_reads.proofs.refused_field.Reads as refused-field-reads
-use Rattle.reads.proofs.seats.seat_of.Reads as seat-of-reads
-use Rattle.table.proofs.refuse.Reads as refuse-reads
 
 seat-of-requires : tie.Need-seat-of-requires
 seat-of-requires c κs = search needs

@@ -6,13 +6,6 @@ use mathlib.Core.Path.{refl, ap, _∙_}
 use borrow.Author.Needs.{needs}
 use Rattle.field_reads.proofs.field_of.Statement.{statement}
 use Rattle.field_reads.proofs.field_of.Tie as tie
-use Rattle.field_reads.proofs.field_of.Reads as reads
-use Rattle.field_reads.proofs.field_of.Lts as lts
-use Rattle.layouts.proofs.field_width.Reads as field-width-reads
-use Rattle.field_reads.proofs.field_bytes.Reads as field-bytes-reads
-use Rattle.field_reads.proofs.refused_field.Reads as refused-field-reads
-use Rattle.table.proofs.done.Reads as done-reads
-use Rattle.table.proofs.refuse.Reads as refuse-reads
 
 field-width-requires : tie.Need-field-width-requires
 field-width-requires c κs = search needs

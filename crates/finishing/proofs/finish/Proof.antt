@@ -12,13 +12,6 @@ use native.Mathlib.Omega.{arith}
 use borrow.Author.Needs.{needs}
 use Rattle.finishing.proofs.finish.Statement.{statement}
 use Rattle.finishing.proofs.finish.Tie as tie
-use Rattle.finishing.proofs.finish.Reads as reads
-use Rattle.finishing.proofs.finish.Lts as lts
-use Rattle.finishing.proofs.judge_finished.Reads as judge-finished-reads
-use Rattle.steps.proofs.judging.refused.Reads as refused-reads
-use Rattle.table.proofs.refuse.Reads as refuse-reads
-use Rattle.turns.proofs.finished.Reads as finished-reads
-use Rattle.turns.proofs.waits.Reads as waits-reads
 
 waits-requires : tie.Need-waits-requires
 waits-requires c κs = search needs

@@ -16,14 +16,6 @@ use native.Mathlib.Omega.{arith}
 use borrow.Author.Needs.{needs}
 use Rattle.finishing.proofs.judge_finished.Statement.{statement}
 use Rattle.finishing.proofs.judge_finished.Tie as tie
-use Rattle.finishing.proofs.judge_finished.Reads as reads
-use Rattle.finishing.proofs.judge_finished.Lts as lts
-use Rattle.reader.proofs.check.Reads as check-reads
-use Rattle.turns.proofs.records_end.Reads as records-end-reads
-use Rattle.wire.proofs.u32_at.Reads as u32-at-reads
-use Rattle.writer.proofs.checksum.seal.Reads as seal-reads
-use Rattle.writer.proofs.stores.put_u32.Reads as put-u32-reads
-use Rattle.writer.proofs.stores.put_u8.Reads as put-u8-reads
 
 sub-u32-at : tie.Need-sub-u32-at
 sub-u32-at c = search needs

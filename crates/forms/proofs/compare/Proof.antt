@@ -5,10 +5,6 @@ use Rattle.forms.proofs.Laws.{numberOf, rewritable, same-tells}
 use borrow.Author.Needs.{needs}
 use Rattle.forms.proofs.compare.Statement.{statement}
 use Rattle.forms.proofs.compare.Tie as tie
-use Rattle.forms.proofs.compare.Reads as reads
-use Rattle.forms.proofs.compare.Lts as lts
-use Rattle.check.proofs.same.Reads as same-reads
-use Rattle.forms.proofs.form_of.Reads as form-of-reads
 
 form-of-requires : tie.Need-form-of-requires
 form-of-requires c κs = search needs

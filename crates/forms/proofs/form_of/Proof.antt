@@ -6,10 +6,6 @@ use Rattle.forms.proofs.Laws.{made-answer, made-counts, made-form}
 use borrow.Author.Needs.{needs}
 use Rattle.forms.proofs.form_of.Statement.{statement}
 use Rattle.forms.proofs.form_of.Tie as tie
-use Rattle.forms.proofs.form_of.Reads as reads
-use Rattle.forms.proofs.form_of.Lts as lts
-use Rattle.io.proofs.large_buffer.Reads as large-buffer-reads
-use Rattle.rewriter.proofs.rewrite.Reads as rewrite-reads
 
 large-buffer-requires : tie.Need-large-buffer-requires
 large-buffer-requires c κs = search needs

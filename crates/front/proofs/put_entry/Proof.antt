@@ -2,9 +2,6 @@ use Rattle.table.proofs.Rules.{picks}
 use borrow.Author.Needs.{needs}
 use Rattle.front.proofs.put_entry.Statement.{statement}
 use Rattle.front.proofs.put_entry.Tie as tie
-use Rattle.front.proofs.put_entry.Reads as reads
-use Rattle.front.proofs.put_entry.Lts as lts
-use Rattle.front.proofs.put_place.Reads as put-place-reads
 
 put-place-requires : tie.Need-put-place-requires
 put-place-requires c κs = search needs

@@ -7,11 +7,6 @@ use Rattle.writer.proofs.StoreLaws.{chain-laid}
 use borrow.Author.Needs.{needs}
 use Rattle.front.proofs.put_place.Statement.{statement}
 use Rattle.front.proofs.put_place.Tie as tie
-use Rattle.front.proofs.put_place.Reads as reads
-use Rattle.front.proofs.put_place.Lts as lts
-use Rattle.writer.proofs.stores.put_u16.Reads as put-u16-reads
-use Rattle.writer.proofs.stores.put_u32.Reads as put-u32-reads
-use Rattle.writer.proofs.stores.put_u8.Reads as put-u8-reads
 
 put-u32-requires : tie.Need-put-u32-requires
 put-u32-requires c κs = search needs

@@ -9,12 +9,6 @@ use Rattle.front.proofs.FrontLaws.{controlPieces, length-entry, control
 use borrow.Author.Needs.{needs}
 use Rattle.front.proofs.write_control.Statement.{statement}
 use Rattle.front.proofs.write_control.Tie as tie
-use Rattle.front.proofs.write_control.Reads as reads
-use Rattle.front.proofs.write_control.Lts as lts
-use Rattle.front.proofs.put_entry.Reads as put-entry-reads
-use Rattle.front.proofs.put_place.Reads as put-place-reads
-use Rattle.writer.proofs.stores.copy_into.Reads as copy-into-reads
-use Rattle.writer.proofs.stores.fill_zero.Reads as fill-zero-reads
 
 add-hfi : tie.Need-add-hfi
 add-hfi c = search needs

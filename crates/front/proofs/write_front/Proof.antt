@@ -10,10 +10,6 @@ use Rattle.writer.proofs.StoreLaws.{lent}
 use borrow.Author.Needs.{needs}
 use Rattle.front.proofs.write_front.Statement.{statement}
 use Rattle.front.proofs.write_front.Tie as tie
-use Rattle.front.proofs.write_front.Reads as reads
-use Rattle.front.proofs.write_front.Lts as lts
-use Rattle.front.proofs.write_control.Reads as write-control-reads
-use Rattle.front.proofs.write_header.Reads as write-header-reads
 
 sub-write-header : tie.Need-sub-write-header
 sub-write-header c = search needs

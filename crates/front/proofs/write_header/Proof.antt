@@ -9,13 +9,6 @@ use Rattle.front.proofs.FrontLaws.{headerPieces, header-long, header-jo
 use borrow.Author.Needs.{needs}
 use Rattle.front.proofs.write_header.Statement.{statement}
 use Rattle.front.proofs.write_header.Tie as tie
-use Rattle.front.proofs.write_header.Reads as reads
-use Rattle.front.proofs.write_header.Lts as lts
-use Rattle.writer.proofs.records.put_slot.Reads as put-slot-reads
-use Rattle.writer.proofs.stores.copy_into.Reads as copy-into-reads
-use Rattle.writer.proofs.stores.fill_zero.Reads as fill-zero-reads
-use Rattle.writer.proofs.stores.put_u32.Reads as put-u32-reads
-use Rattle.writer.proofs.stores.put_u8.Reads as put-u8-reads
 
 slice-aggregate-copy-into : tie.Need-slice-aggregate-copy-into
 slice-aggregate-copy-into c = search needs

@@ -2,8 +2,6 @@ use Rattle.heap_records.specs.HeapRecords.{extendedSound}
 use Rattle.table.proofs.Rules.{picks}
 use Rattle.heap_records.proofs.extended_judge.Statement.{statement}
 use Rattle.heap_records.proofs.extended_judge.Tie as tie
-use Rattle.heap_records.proofs.extended_judge.Reads as reads
-use Rattle.heap_records.proofs.extended_judge.Lts as lts
 
 returns : tie.Need-returns
 unfolding Rattle.heap_records.specs.HeapRecords.extendedSound

@@ -2,8 +2,6 @@ use Rattle.heap_records.specs.HeapRecords.{infoSound}
 use Rattle.table.proofs.Rules.{picks}
 use Rattle.heap_records.proofs.info_judge.Statement.{statement}
 use Rattle.heap_records.proofs.info_judge.Tie as tie
-use Rattle.heap_records.proofs.info_judge.Reads as reads
-use Rattle.heap_records.proofs.info_judge.Lts as lts
 
 returns : tie.Need-returns
 unfolding Rattle.heap_records.specs.HeapRecords.infoSound

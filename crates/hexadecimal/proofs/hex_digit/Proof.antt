@@ -3,8 +3,6 @@ use Rattle.text.proofs.Rules.{picks}
 use borrow.Author.Needs.{needs}
 use Rattle.hexadecimal.proofs.hex_digit.Statement.{statement}
 use Rattle.hexadecimal.proofs.hex_digit.Tie as tie
-use Rattle.hexadecimal.proofs.hex_digit.Reads as reads
-use Rattle.hexadecimal.proofs.hex_digit.Lts as lts
 
 add-result : tie.Need-add-result
 add-result c = search needs

@@ -4,11 +4,6 @@ use Rattle.hexadecimal.specs.Hexadecimal.{hexOf, macOf}
 use borrow.Author.Needs.{needs}
 use Rattle.hexadecimal.proofs.mac.Statement.{statement}
 use Rattle.hexadecimal.proofs.mac.Tie as tie
-use Rattle.hexadecimal.proofs.mac.Reads as reads
-use Rattle.hexadecimal.proofs.mac.Lts as lts
-use Rattle.text.proofs.append.empty.Reads as empty-reads
-use Rattle.hexadecimal.proofs.with_hex_byte.Reads as with-hex-byte-reads
-use Rattle.hexadecimal.proofs.with_next.Reads as with-next-reads
 
 empty-requires : tie.Need-empty-requires
 empty-requires c κs = search needs

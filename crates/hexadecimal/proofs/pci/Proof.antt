@@ -5,11 +5,6 @@ use Rattle.hexadecimal.specs.Hexadecimal.{hexOf, pciOf}
 use borrow.Author.Needs.{needs}
 use Rattle.hexadecimal.proofs.pci.Statement.{statement}
 use Rattle.hexadecimal.proofs.pci.Tie as tie
-use Rattle.hexadecimal.proofs.pci.Reads as reads
-use Rattle.hexadecimal.proofs.pci.Lts as lts
-use Rattle.text.proofs.append.empty.Reads as empty-reads
-use Rattle.text.proofs.append.with_byte.Reads as with-byte-reads
-use Rattle.hexadecimal.proofs.with_hex.Reads as with-hex-reads
 
 empty-requires : tie.Need-empty-requires
 empty-requires c κs = search needs

@@ -1,10 +1,6 @@
 use borrow.Author.Needs.{needs}
 use Rattle.hexadecimal.proofs.with_next.Statement.{statement}
 use Rattle.hexadecimal.proofs.with_next.Tie as tie
-use Rattle.hexadecimal.proofs.with_next.Reads as reads
-use Rattle.hexadecimal.proofs.with_next.Lts as lts
-use Rattle.text.proofs.append.with_byte.Reads as with-byte-reads
-use Rattle.hexadecimal.proofs.with_hex_byte.Reads as with-hex-byte-reads
 
 with-byte-requires : tie.Need-with-byte-requires
 with-byte-requires c κs = search needs

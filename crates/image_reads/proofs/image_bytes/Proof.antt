@@ -6,9 +6,6 @@ use Rattle.table.specs.Layout.{baseOf}
 use borrow.Author.Needs.{needs}
 use Rattle.image_reads.proofs.image_bytes.Statement.{statement}
 use Rattle.image_reads.proofs.image_bytes.Tie as tie
-use Rattle.image_reads.proofs.image_bytes.Reads as reads
-use Rattle.image_reads.proofs.image_bytes.Lts as lts
-use Rattle.images.proofs.image_at.Reads as image-at-reads
 
 image-at-requires : tie.Need-image-at-requires
 image-at-requires c κs = search needs

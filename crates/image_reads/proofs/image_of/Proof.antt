@@ -2,11 +2,6 @@ use mathlib.Core.Path.{refl}
 use borrow.Author.Needs.{needs}
 use Rattle.image_reads.proofs.image_of.Statement.{statement}
 use Rattle.image_reads.proofs.image_of.Tie as tie
-use Rattle.image_reads.proofs.image_of.Reads as reads
-use Rattle.image_reads.proofs.image_of.Lts as lts
-use Rattle.image_reads.proofs.image_bytes.Reads as image-bytes-reads
-use Rattle.table.proofs.done.Reads as done-reads
-use Rattle.table.proofs.base_size.Reads as base-size-reads
 
 image-bytes-requires : tie.Need-image-bytes-requires
 image-bytes-requires c κs = search needs

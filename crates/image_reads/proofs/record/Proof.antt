@@ -7,11 +7,6 @@ use mathlib.Core.Path.{sym, ap, _∙_}
 use borrow.Author.Needs.{needs}
 use Rattle.image_reads.proofs.record.Statement.{statement}
 use Rattle.image_reads.proofs.record.Tie as tie
-use Rattle.image_reads.proofs.record.Reads as reads
-use Rattle.image_reads.proofs.record.Lts as lts
-use Rattle.reader.proofs.check.Reads as check-reads
-use Rattle.image_reads.proofs.record_in.Reads as record-in-reads
-use Rattle.image_reads.proofs.refused_image.Reads as refused-image-reads
 
 check-requires : tie.Need-check-requires
 check-requires c κs = search needs

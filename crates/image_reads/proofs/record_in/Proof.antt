@@ -4,12 +4,6 @@ use mathlib.Core.Path.{ap, _∙_}
 use borrow.Author.Needs.{needs}
 use Rattle.image_reads.proofs.record_in.Statement.{statement}
 use Rattle.image_reads.proofs.record_in.Tie as tie
-use Rattle.image_reads.proofs.record_in.Reads as reads
-use Rattle.image_reads.proofs.record_in.Lts as lts
-use Rattle.image_reads.proofs.image_of.Reads as image-of-reads
-use Rattle.image_reads.proofs.refused_image.Reads as refused-image-reads
-use Rattle.reads.proofs.seats.seat_of.Reads as seat-of-reads
-use Rattle.table.proofs.refuse.Reads as refuse-reads
 
 seat-of-requires : tie.Need-seat-of-requires
 seat-of-requires c κs = search needs

@@ -1,9 +1,6 @@
 use borrow.Author.Needs.{needs}
 use Rattle.indexes.proofs.index_fault.Statement.{statement}
 use Rattle.indexes.proofs.index_fault.Tie as tie
-use Rattle.indexes.proofs.index_fault.Reads as reads
-use Rattle.indexes.proofs.index_fault.Lts as lts
-use Rattle.indexes.proofs.valid_at.Reads as valid-at-reads
 
 valid-at-requires : tie.Need-valid-at-requires
 valid-at-requires c κs = search needs

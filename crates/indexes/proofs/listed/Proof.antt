@@ -6,8 +6,6 @@ use Rattle.table.proofs.Rules.{picks}
 use borrow.Author.Needs.{needs}
 use Rattle.indexes.proofs.listed.Statement.{statement}
 use Rattle.indexes.proofs.listed.Tie as tie
-use Rattle.indexes.proofs.listed.Reads as reads
-use Rattle.indexes.proofs.listed.Lts as lts
 
 returns : tie.Need-returns
 unfolding flagged

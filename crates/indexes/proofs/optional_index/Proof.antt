@@ -2,9 +2,6 @@ use Rattle.table.proofs.Rules.{picks}
 use borrow.Author.Needs.{needs}
 use Rattle.indexes.proofs.optional_index.Statement.{statement}
 use Rattle.indexes.proofs.optional_index.Tie as tie
-use Rattle.indexes.proofs.optional_index.Reads as reads
-use Rattle.indexes.proofs.optional_index.Lts as lts
-use Rattle.indexes.proofs.index_fault.Reads as index-fault-reads
 
 returns : tie.Need-returns
 returns c = search picks

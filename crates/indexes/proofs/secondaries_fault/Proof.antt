@@ -8,10 +8,6 @@ use mathlib.Core.Path.{_≡_, refl, sym, _∙_}
 use Rattle.table.proofs.Rules.{picks}
 use Rattle.indexes.proofs.secondaries_fault.Statement.{statement}
 use Rattle.indexes.proofs.secondaries_fault.Tie as tie
-use Rattle.indexes.proofs.secondaries_fault.Reads as reads
-use Rattle.indexes.proofs.secondaries_fault.Lts as lts
-use Rattle.indexes.proofs.index_fault.Reads as index-fault-reads
-use Rattle.wire.proofs.wide.Reads as wide-reads
 
 abbrev Inv-loop : tie.InvT-loop
 Inv-loop x t i₀ i = (i ≤ length x) × (every (validIn t 3) (drop i x) ≡ every (validIn t 3) x)
@@ -19,11 +15,8 @@ Inv-loop x t i₀ i = (i ≤ length x) × (every (validIn t 3) (drop i x) ≡ ev
 abbrev μ-loop : tie.MeasureT-loop
 μ-loop x t i₀ i = length x - i
 
--- helpers
 heard : (c : tie.After-index-fault Inv-loop μ-loop) → let t = c .before .before .before .before .before .before .before .args .t .now in let x = c .before .before .before .before .before .before .before .args .x .now in c .index-fault .result ≡ pick (validIn t 3 (getD x (c .before .before .before .before .loop .i) 0)) 0 13
 heard c = cc
-
--- end
 
 loop-holds : tie.Need-loop-holds Inv-loop μ-loop
 loop-holds c = (search picks, refl)

@@ -8,9 +8,6 @@ use Rattle.indexes.proofs.Laws.{valid-3, valid-4, valid-5, valid-6, lis
 use Rattle.table.proofs.Rules.{picks}
 use Rattle.indexes.proofs.valid_at.Statement.{statement}
 use Rattle.indexes.proofs.valid_at.Tie as tie
-use Rattle.indexes.proofs.valid_at.Reads as reads
-use Rattle.indexes.proofs.valid_at.Lts as lts
-use Rattle.indexes.proofs.valid_in.Reads as valid-in-reads
 
 valid-in-requires : tie.Need-valid-in-requires
 valid-in-requires c κs = (omega (arith, c .before .before .pre .lent), list-less (c .before .before .args .t .now) 80 32 3 (c .before .before .pre .hfi) (lit≤ tt))

@@ -2,12 +2,6 @@ use native.Mathlib.Omega.{arith}
 use borrow.Author.Needs.{needs}
 use Rattle.indexes.proofs.valid_in.Statement.{statement}
 use Rattle.indexes.proofs.valid_in.Tie as tie
-use Rattle.indexes.proofs.valid_in.Reads as reads
-use Rattle.indexes.proofs.valid_in.Lts as lts
-use Rattle.indexes.proofs.listed.Reads as listed-reads
-use Rattle.wire.proofs.u16_at.Reads as u16-at-reads
-use Rattle.wire.proofs.u32_at.Reads as u32-at-reads
-use Rattle.wire.proofs.wide.Reads as wide-reads
 
 u32-at-requires : tie.Need-u32-at-requires
 u32-at-requires c κs = search needs

@@ -2,12 +2,6 @@ use Rattle.lists.specs.Lists.{listFault}
 use borrow.Author.Needs.{needs}
 use Rattle.lists.proofs.list_fault.Statement.{statement}
 use Rattle.lists.proofs.list_fault.Tie as tie
-use Rattle.lists.proofs.list_fault.Reads as reads
-use Rattle.lists.proofs.list_fault.Lts as lts
-use Rattle.lists.proofs.list_from.Reads as list-from-reads
-use Rattle.wire.proofs.u16_at.Reads as u16-at-reads
-use Rattle.wire.proofs.u32_at.Reads as u32-at-reads
-use Rattle.wire.proofs.wide.Reads as wide-reads
 
 u32-at-requires : tie.Need-u32-at-requires
 u32-at-requires c κs = search needs

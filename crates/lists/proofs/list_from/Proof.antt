@@ -10,11 +10,6 @@ use Rattle.lists.proofs.Laws.{turn-stop, turn-more, turn-none, next-sta
 use Rattle.table.proofs.Rules.{picks}
 use Rattle.lists.proofs.list_from.Statement.{statement}
 use Rattle.lists.proofs.list_from.Tie as tie
-use Rattle.lists.proofs.list_from.Reads as reads
-use Rattle.lists.proofs.list_from.Lts as lts
-use Rattle.lists.proofs.record_fault.Reads as record-fault-reads
-use Rattle.table.proofs.done.Reads as done-reads
-use Rattle.table.proofs.refuse.Reads as refuse-reads
 
 abbrev Inv-loop : tie.InvT-loop
 Inv-loop t kind at step count heap from base₀ i₀ base i = (i ≤ count) × (base ≡ at + i * step) × (listFrom kind (region from (length heap)) t step (i + 1) base (count - i) ≡ listFrom kind (region from (length heap)) t step 1 at count)

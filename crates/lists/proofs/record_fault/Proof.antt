@@ -11,10 +11,6 @@ use Rattle.table.proofs.Rules.{picks}
 use borrow.Author.Needs.{needs}
 use Rattle.lists.proofs.record_fault.Statement.{statement}
 use Rattle.lists.proofs.record_fault.Tie as tie
-use Rattle.lists.proofs.record_fault.Reads as reads
-use Rattle.lists.proofs.record_fault.Lts as lts
-use Rattle.lists.proofs.used_fault.Reads as used-fault-reads
-use Rattle.table.proofs.flags_at.Reads as flags-at-reads
 
 flags-at-requires : tie.Need-flags-at-requires
 flags-at-requires c κs = search needs

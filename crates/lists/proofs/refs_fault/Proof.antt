@@ -11,10 +11,6 @@ use Rattle.lists.proofs.Laws.{over-stop, over-more, over-none, lists-at
 use Rattle.table.proofs.Rules.{picks}
 use Rattle.lists.proofs.refs_fault.Statement.{statement}
 use Rattle.lists.proofs.refs_fault.Tie as tie
-use Rattle.lists.proofs.refs_fault.Reads as reads
-use Rattle.lists.proofs.refs_fault.Lts as lts
-use Rattle.rules.proofs.ref_fault.Reads as ref-fault-reads
-use Rattle.table.proofs.reference_offsets.Reads as reference-offsets-reads
 
 abbrev Inv-loop : tie.InvT-loop
 Inv-loop t kind a position heap from rs n i₀ i = (i ≤ n) × (firstOver (refFault kind (region from (length heap)) t a position) (drop i (offsets (layoutOf kind .refs))) ≡ firstOver (refFault kind (region from (length heap)) t a position) (offsets (layoutOf kind .refs)))

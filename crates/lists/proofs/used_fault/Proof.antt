@@ -6,11 +6,6 @@ use Rattle.lists.proofs.Laws.{used-is}
 use borrow.Author.Needs.{needs}
 use Rattle.lists.proofs.used_fault.Statement.{statement}
 use Rattle.lists.proofs.used_fault.Tie as tie
-use Rattle.lists.proofs.used_fault.Reads as reads
-use Rattle.lists.proofs.used_fault.Lts as lts
-use Rattle.names.proofs.names_fault.Reads as names-fault-reads
-use Rattle.lists.proofs.refs_fault.Reads as refs-fault-reads
-use Rattle.records.proofs.right_fault.Reads as right-fault-reads
 
 right-fault-requires : tie.Need-right-fault-requires
 right-fault-requires c κs = search needs

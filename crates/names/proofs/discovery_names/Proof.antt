@@ -10,17 +10,9 @@ use Rattle.indexes.proofs.Laws.{discovery-names}
 use borrow.Author.Needs.{needs}
 use Rattle.names.proofs.discovery_names.Statement.{statement}
 use Rattle.names.proofs.discovery_names.Tie as tie
-use Rattle.names.proofs.discovery_names.Reads as reads
-use Rattle.names.proofs.discovery_names.Lts as lts
-use Rattle.indexes.proofs.index_fault.Reads as index-fault-reads
-use Rattle.indexes.proofs.optional_index.Reads as optional-index-reads
-use Rattle.wire.proofs.wide.Reads as wide-reads
 
--- helpers
 interface : (c : tie.After-index-fault) → let t = c .before .before .before .before .args .t .now in c .index-fault .result ≡ pick (validIn t 3 (getD t (c .before .before .before .before .args .a + 3) 0)) 0 13
 interface c = cc
-
--- end
 
 add-wide : tie.Need-add-wide
 add-wide c = search needs

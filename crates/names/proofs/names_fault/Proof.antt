@@ -3,10 +3,6 @@ use Rattle.indexes.proofs.Laws.{no-names}
 use Rattle.table.proofs.Rules.{picks}
 use Rattle.names.proofs.names_fault.Statement.{statement}
 use Rattle.names.proofs.names_fault.Tie as tie
-use Rattle.names.proofs.names_fault.Reads as reads
-use Rattle.names.proofs.names_fault.Lts as lts
-use Rattle.names.proofs.discovery_names.Reads as discovery-names-reads
-use Rattle.names.proofs.ssns_names.Reads as ssns-names-reads
 
 ssns-names-requires : tie.Need-ssns-names-requires
 unfolding layoutOf ssns

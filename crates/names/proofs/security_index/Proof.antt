@@ -8,11 +8,6 @@ use Rattle.indexes.proofs.Laws.{security-off, security-on}
 use borrow.Author.Needs.{needs}
 use Rattle.names.proofs.security_index.Statement.{statement}
 use Rattle.names.proofs.security_index.Tie as tie
-use Rattle.names.proofs.security_index.Reads as reads
-use Rattle.names.proofs.security_index.Lts as lts
-use Rattle.indexes.proofs.index_fault.Reads as index-fault-reads
-use Rattle.records.proofs.ssns_flags.Reads as ssns-flags-reads
-use Rattle.wire.proofs.wide.Reads as wide-reads
 
 ssns-flags-requires : tie.Need-ssns-flags-requires
 ssns-flags-requires c κs = search needs

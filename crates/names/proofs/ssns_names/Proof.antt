@@ -10,22 +10,12 @@ use Rattle.indexes.proofs.Laws.{security-thirteen, ssns-names}
 use borrow.Author.Needs.{needs}
 use Rattle.names.proofs.ssns_names.Statement.{statement}
 use Rattle.names.proofs.ssns_names.Tie as tie
-use Rattle.names.proofs.ssns_names.Reads as reads
-use Rattle.names.proofs.ssns_names.Lts as lts
-use Rattle.indexes.proofs.index_fault.Reads as index-fault-reads
-use Rattle.indexes.proofs.optional_index.Reads as optional-index-reads
-use Rattle.indexes.proofs.secondary_names.Reads as secondary-names-reads
-use Rattle.names.proofs.security_index.Reads as security-index-reads
-use Rattle.wire.proofs.wide.Reads as wide-reads
 
--- helpers
 discovered : (c : tie.After-optional-index) → let t = c .before .before .before .before .before .args .t .now in c .optional-index .result ≡ pick (zeroOr (validIn t 6) (getD t (c .before .before .before .before .before .args .a + 8) 0)) 0 13
 discovered c = cc
 
 primary : (c : tie.After-index-fault) → let t = c .before .before .before .before .before .before .before .before .before .before .before .args .t .now in c .index-fault .result ≡ pick (validIn t 3 (getD t (c .before .before .before .before .before .before .before .before .before .before .before .args .a + 46) 0)) 0 13
 primary c = cc
-
--- end
 
 add-wide : tie.Need-add-wide
 add-wide c = search needs

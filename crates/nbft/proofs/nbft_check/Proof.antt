@@ -5,10 +5,6 @@ use Rattle.packing.specs.Packed.{packed}
 use borrow.Author.Needs.{needs}
 use Rattle.nbft.proofs.nbft_check.Statement.{statement}
 use Rattle.nbft.proofs.nbft_check.Tie as tie
-use Rattle.nbft.proofs.nbft_check.Reads as reads
-use Rattle.nbft.proofs.nbft_check.Lts as lts
-use Rattle.packing.proofs.pack.Reads as pack-reads
-use Rattle.reader.proofs.check.Reads as check-reads
 
 check-requires : tie.Need-check-requires
 check-requires c κs = search needs

@@ -6,10 +6,6 @@ use mathlib.Core.Path.{ap, _∙_}
 use borrow.Author.Needs.{needs}
 use Rattle.nbft.proofs.nbft_rewrite.Statement.{statement}
 use Rattle.nbft.proofs.nbft_rewrite.Tie as tie
-use Rattle.nbft.proofs.nbft_rewrite.Reads as reads
-use Rattle.nbft.proofs.nbft_rewrite.Lts as lts
-use Rattle.packing.proofs.pack_rewritten.Reads as pack-rewritten-reads
-use Rattle.rewriter.proofs.rewrite.Reads as rewrite-reads
 
 rewrite-requires : tie.Need-rewrite-requires
 rewrite-requires c κs = search needs

@@ -2,8 +2,6 @@ use Rattle.needs.specs.Needs.{plainNeed}
 use Rattle.table.proofs.Rules.{picks}
 use Rattle.needs.proofs.host_need.Statement.{statement}
 use Rattle.needs.proofs.host_need.Tie as tie
-use Rattle.needs.proofs.host_need.Reads as reads
-use Rattle.needs.proofs.host_need.Lts as lts
 
 returns : tie.Need-returns
 unfolding Rattle.needs.specs.Needs.plainNeed

@@ -3,11 +3,6 @@ use Rattle.table.proofs.Rules.{picks}
 use borrow.Author.Needs.{needs}
 use Rattle.needs.proofs.plain_need.Statement.{statement}
 use Rattle.needs.proofs.plain_need.Tie as tie
-use Rattle.needs.proofs.plain_need.Reads as reads
-use Rattle.needs.proofs.plain_need.Lts as lts
-use Rattle.needs.proofs.discovery_need.Reads as discovery-need-reads
-use Rattle.needs.proofs.header_need.Reads as header-need-reads
-use Rattle.needs.proofs.host_need.Reads as host-need-reads
 
 header-need-requires : tie.Need-header-need-requires
 header-need-requires c κs = search needs

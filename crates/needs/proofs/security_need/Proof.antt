@@ -6,11 +6,6 @@ use Rattle.records.proofs.Laws.{security-secret}
 use borrow.Author.Needs.{needs}
 use Rattle.needs.proofs.security_need.Statement.{statement}
 use Rattle.needs.proofs.security_need.Tie as tie
-use Rattle.needs.proofs.security_need.Reads as reads
-use Rattle.needs.proofs.security_need.Lts as lts
-use Rattle.needs.proofs.security_judge.Reads as security-judge-reads
-use Rattle.records.proofs.security_flags.Reads as security-flags-reads
-use Rattle.wire.proofs.wide.Reads as wide-reads
 
 security-flags-requires : tie.Need-security-flags-requires
 security-flags-requires c κs = search needs

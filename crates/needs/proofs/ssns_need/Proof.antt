@@ -3,9 +3,6 @@ use Rattle.table.proofs.Rules.{picks}
 use borrow.Author.Needs.{needs}
 use Rattle.needs.proofs.ssns_need.Statement.{statement}
 use Rattle.needs.proofs.ssns_need.Tie as tie
-use Rattle.needs.proofs.ssns_need.Reads as reads
-use Rattle.needs.proofs.ssns_need.Lts as lts
-use Rattle.needs.proofs.when_set.Reads as when-set-reads
 
 when-set-requires : tie.Need-when-set-requires
 when-set-requires c κs = search needs

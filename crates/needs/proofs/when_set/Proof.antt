@@ -2,8 +2,6 @@ use Rattle.needs.specs.Needs.{whenSet}
 use Rattle.table.proofs.Rules.{picks}
 use Rattle.needs.proofs.when_set.Statement.{statement}
 use Rattle.needs.proofs.when_set.Tie as tie
-use Rattle.needs.proofs.when_set.Reads as reads
-use Rattle.needs.proofs.when_set.Lts as lts
 
 returns : tie.Need-returns
 unfolding Rattle.needs.specs.Needs.whenSet

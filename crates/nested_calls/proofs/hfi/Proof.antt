@@ -19,17 +19,6 @@ use native.Mathlib.Omega.{arith}
 use borrow.Author.Needs.{needs}
 use Rattle.nested_calls.proofs.hfi.Statement.{statement}
 use Rattle.nested_calls.proofs.hfi.Tie as tie
-use Rattle.nested_calls.proofs.hfi.Reads as reads
-use Rattle.nested_calls.proofs.hfi.Lts as lts
-use Rattle.filling.proofs.sizes.only_nested.Reads as only-nested-reads
-use Rattle.steps.proofs.judging.judged.Reads as judged-reads
-use Rattle.steps.proofs.judging.refused.Reads as refused-reads
-use Rattle.steps.proofs.laying.lay_told.Reads as lay-told-reads
-use Rattle.table.proofs.reference_offsets.Reads as reference-offsets-reads
-use Rattle.told.proofs.marks.mark_128.Reads as mark-128-reads
-use Rattle.told.proofs.marks.mark_32.Reads as mark-32-reads
-use Rattle.told.proofs.objects.fits.Reads as fits-reads
-use Rattle.told.proofs.objects.held.Reads as held-reads
 
 cast-mark-32 : tie.Need-cast-mark-32
 cast-mark-32 c = search needs

@@ -4,9 +4,6 @@ use Rattle.laws.specs.Fields.{imageIn}
 use borrow.Author.Needs.{needs}
 use Rattle.nested_calls.proofs.own_need.Statement.{statement}
 use Rattle.nested_calls.proofs.own_need.Tie as tie
-use Rattle.nested_calls.proofs.own_need.Reads as reads
-use Rattle.nested_calls.proofs.own_need.Lts as lts
-use Rattle.records.proofs.ssns_flags.Reads as ssns-flags-reads
 
 ssns-flags-requires : tie.Need-ssns-flags-requires
 ssns-flags-requires c κs = search needs

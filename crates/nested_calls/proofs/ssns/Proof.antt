@@ -20,21 +20,6 @@ use native.Mathlib.Omega.{arith}
 use borrow.Author.Needs.{needs}
 use Rattle.nested_calls.proofs.ssns.Statement.{statement}
 use Rattle.nested_calls.proofs.ssns.Tie as tie
-use Rattle.nested_calls.proofs.ssns.Reads as reads
-use Rattle.nested_calls.proofs.ssns.Lts as lts
-use Rattle.nested_calls.proofs.own_need.Reads as own-need-reads
-use Rattle.nested_calls.proofs.own_size.Reads as own-size-reads
-use Rattle.filling.proofs.sizes.both.Reads as both-reads
-use Rattle.filling.proofs.sizes.nested_sizes.Reads as nested-sizes-reads
-use Rattle.steps.proofs.judging.judged.Reads as judged-reads
-use Rattle.steps.proofs.judging.refused.Reads as refused-reads
-use Rattle.steps.proofs.laying.lay_told.Reads as lay-told-reads
-use Rattle.table.proofs.reference_offsets.Reads as reference-offsets-reads
-use Rattle.told.proofs.marks.mark_128.Reads as mark-128-reads
-use Rattle.told.proofs.marks.mark_18.Reads as mark-18-reads
-use Rattle.told.proofs.objects.fits.Reads as fits-reads
-use Rattle.told.proofs.objects.held.Reads as held-reads
-use Rattle.told.proofs.objects.kept.Reads as kept-reads
 
 module _ (c : tie.After-judged) where
   abbrev behind-service : Bool

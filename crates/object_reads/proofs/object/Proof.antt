@@ -3,10 +3,6 @@ use Rattle.table.specs.Reads.{readObject}
 use borrow.Author.Needs.{needs}
 use Rattle.object_reads.proofs.object.Statement.{statement}
 use Rattle.object_reads.proofs.object.Tie as tie
-use Rattle.object_reads.proofs.object.Reads as reads
-use Rattle.object_reads.proofs.object.Lts as lts
-use Rattle.object_reads.proofs.object_place.Reads as object-place-reads
-use Rattle.object_reads.proofs.part_of.Reads as part-of-reads
 
 object-place-requires : tie.Need-object-place-requires
 object-place-requires c κs = search needs

@@ -3,10 +3,6 @@ use Rattle.reads.specs.Objects.{objectIn}
 use borrow.Author.Needs.{needs}
 use Rattle.object_reads.proofs.object_in.Statement.{statement}
 use Rattle.object_reads.proofs.object_in.Tie as tie
-use Rattle.object_reads.proofs.object_in.Reads as reads
-use Rattle.object_reads.proofs.object_in.Lts as lts
-use Rattle.object_reads.proofs.part_of.Reads as part-of-reads
-use Rattle.object_reads.proofs.place_in.Reads as place-in-reads
 
 place-in-requires : tie.Need-place-in-requires
 place-in-requires c κs = search needs

@@ -7,11 +7,6 @@ use mathlib.Core.Path.{sym, ap, _∙_}
 use borrow.Author.Needs.{needs}
 use Rattle.object_reads.proofs.object_place.Statement.{statement}
 use Rattle.object_reads.proofs.object_place.Tie as tie
-use Rattle.object_reads.proofs.object_place.Reads as reads
-use Rattle.object_reads.proofs.object_place.Lts as lts
-use Rattle.reader.proofs.check.Reads as check-reads
-use Rattle.reads.proofs.objects.no_place.Reads as no-place-reads
-use Rattle.object_reads.proofs.place_in.Reads as place-in-reads
 
 check-requires : tie.Need-check-requires
 check-requires c κs = search needs

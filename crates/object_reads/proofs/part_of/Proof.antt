@@ -2,8 +2,6 @@ use native.Mathlib.Nat.{add-sub-cancel-left, add-sub-cancel}
 use borrow.Author.Needs.{needs}
 use Rattle.object_reads.proofs.part_of.Statement.{statement}
 use Rattle.object_reads.proofs.part_of.Tie as tie
-use Rattle.object_reads.proofs.part_of.Reads as reads
-use Rattle.object_reads.proofs.part_of.Lts as lts
 
 add-end : tie.Need-add-end
 add-end c = search needs

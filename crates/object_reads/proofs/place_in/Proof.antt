@@ -4,12 +4,6 @@ use mathlib.Core.Path.{ap, _∙_}
 use borrow.Author.Needs.{needs}
 use Rattle.object_reads.proofs.place_in.Statement.{statement}
 use Rattle.object_reads.proofs.place_in.Tie as tie
-use Rattle.object_reads.proofs.place_in.Reads as reads
-use Rattle.object_reads.proofs.place_in.Lts as lts
-use Rattle.reads.proofs.objects.no_place.Reads as no-place-reads
-use Rattle.object_reads.proofs.place_of.Reads as place-of-reads
-use Rattle.reads.proofs.seats.seat_of.Reads as seat-of-reads
-use Rattle.table.proofs.refuse.Reads as refuse-reads
 
 seat-of-requires : tie.Need-seat-of-requires
 seat-of-requires c κs = search needs

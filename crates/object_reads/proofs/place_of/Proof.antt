@@ -3,12 +3,6 @@ use mathlib.Core.Path.{sym, ap, _∙_}
 use borrow.Author.Needs.{needs}
 use Rattle.object_reads.proofs.place_of.Statement.{statement}
 use Rattle.object_reads.proofs.place_of.Tie as tie
-use Rattle.object_reads.proofs.place_of.Reads as reads
-use Rattle.object_reads.proofs.place_of.Lts as lts
-use Rattle.layouts.proofs.has_object.Reads as has-object-reads
-use Rattle.reads.proofs.objects.no_place.Reads as no-place-reads
-use Rattle.reads.proofs.objects.object_of.Reads as object-of-reads
-use Rattle.table.proofs.refuse.Reads as refuse-reads
 
 has-object-requires : tie.Need-has-object-requires
 has-object-requires c κs = search needs

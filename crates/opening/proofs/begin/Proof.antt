@@ -13,15 +13,6 @@ use native.Mathlib.Omega.{arith}
 use borrow.Author.Needs.{needs}
 use Rattle.opening.proofs.begin.Statement.{statement}
 use Rattle.opening.proofs.begin.Tie as tie
-use Rattle.opening.proofs.begin.Reads as reads
-use Rattle.opening.proofs.begin.Lts as lts
-use Rattle.opening.proofs.begun_state.Reads as begun-state-reads
-use Rattle.opening.proofs.is_empty.Reads as is-empty-reads
-use Rattle.opening.proofs.lay_opened.Reads as lay-opened-reads
-use Rattle.room.proofs.room_fault.Reads as room-fault-reads
-use Rattle.steps.proofs.judging.refused.Reads as refused-reads
-use Rattle.table.proofs.refuse.Reads as refuse-reads
-use Rattle.turns.proofs.records_end.Reads as records-end-reads
 
 is-empty-requires : tie.Need-is-empty-requires
 is-empty-requires c κs = search needs

@@ -3,8 +3,6 @@ use borrow.Author.Tests.{eq-eqb, ne-eqb}
 use mathlib.Core.Path.{refl}
 use Rattle.opening.proofs.is_empty.Statement.{statement}
 use Rattle.opening.proofs.is_empty.Tie as tie
-use Rattle.opening.proofs.is_empty.Reads as reads
-use Rattle.opening.proofs.is_empty.Lts as lts
 
 returns : tie.Need-returns
 returns c = rw (ne-eqb (c .before .before .args .s .turn) 0 (c .if1 .taken)) refl

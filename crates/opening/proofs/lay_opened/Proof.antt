@@ -10,11 +10,6 @@ use native.Mathlib.Omega.{arith}
 use borrow.Author.Needs.{needs}
 use Rattle.opening.proofs.lay_opened.Statement.{statement}
 use Rattle.opening.proofs.lay_opened.Tie as tie
-use Rattle.opening.proofs.lay_opened.Reads as reads
-use Rattle.opening.proofs.lay_opened.Lts as lts
-use Rattle.front.proofs.write_front.Reads as write-front-reads
-use Rattle.writer.proofs.stores.copy_into.Reads as copy-into-reads
-use Rattle.writer.proofs.stores.fill_zero.Reads as fill-zero-reads
 
 slice-aggregate-write-front : tie.Need-slice-aggregate-write-front
 slice-aggregate-write-front c = search needs

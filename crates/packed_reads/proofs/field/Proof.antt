@@ -5,11 +5,6 @@ use mathlib.Core.Path.{ap, _∙_}
 use borrow.Author.Needs.{needs}
 use Rattle.packed_reads.proofs.field.Statement.{statement}
 use Rattle.packed_reads.proofs.field.Tie as tie
-use Rattle.packed_reads.proofs.field.Reads as reads
-use Rattle.packed_reads.proofs.field.Lts as lts
-use Rattle.packing.proofs.pack_field.Reads as pack-field-reads
-use Rattle.packing.proofs.store.Reads as store-reads
-use Rattle.field_reads.proofs.field.Reads as field-reads
 
 field-requires : tie.Need-field-requires
 field-requires c κs = search needs

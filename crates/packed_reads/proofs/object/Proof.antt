@@ -5,10 +5,6 @@ use mathlib.Core.Path.{ap, _∙_}
 use borrow.Author.Needs.{needs}
 use Rattle.packed_reads.proofs.object.Statement.{statement}
 use Rattle.packed_reads.proofs.object.Tie as tie
-use Rattle.packed_reads.proofs.object.Reads as reads
-use Rattle.packed_reads.proofs.object.Lts as lts
-use Rattle.packing.proofs.pack_place.Reads as pack-place-reads
-use Rattle.object_reads.proofs.object_place.Reads as object-place-reads
 
 object-place-requires : tie.Need-object-place-requires
 object-place-requires c κs = search needs

@@ -5,9 +5,6 @@ use mathlib.Core.Path.{ap}
 use borrow.Author.Needs.{needs}
 use Rattle.packed_reads.proofs.object_start.Statement.{statement}
 use Rattle.packed_reads.proofs.object_start.Tie as tie
-use Rattle.packed_reads.proofs.object_start.Reads as reads
-use Rattle.packed_reads.proofs.object_start.Lts as lts
-use Rattle.object_reads.proofs.object_place.Reads as object-place-reads
 
 object-place-requires : tie.Need-object-place-requires
 object-place-requires c κs = search needs

@@ -3,10 +3,6 @@ use native.Mathlib.Omega.{arith}
 use borrow.Author.Needs.{needs}
 use Rattle.packing.proofs.pack_field.Statement.{statement}
 use Rattle.packing.proofs.pack_field.Tie as tie
-use Rattle.packing.proofs.pack_field.Reads as reads
-use Rattle.packing.proofs.pack_field.Lts as lts
-use Rattle.packing.proofs.bit.Reads as bit-reads
-use Rattle.packing.proofs.pack.Reads as pack-reads
 
 pack-requires : tie.Need-pack-requires
 pack-requires c κs = search needs

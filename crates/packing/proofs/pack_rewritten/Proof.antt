@@ -3,9 +3,6 @@ use native.Mathlib.Omega.{arith}
 use borrow.Author.Needs.{needs}
 use Rattle.packing.proofs.pack_rewritten.Statement.{statement}
 use Rattle.packing.proofs.pack_rewritten.Tie as tie
-use Rattle.packing.proofs.pack_rewritten.Reads as reads
-use Rattle.packing.proofs.pack_rewritten.Lts as lts
-use Rattle.packing.proofs.pack.Reads as pack-reads
 
 pack-requires : tie.Need-pack-requires
 pack-requires c κs = search needs

@@ -2,8 +2,6 @@ use borrow.Author.Tests.{eq-eqb, ne-eqb}
 use mathlib.Core.Path.{refl}
 use Rattle.packing.proofs.store.Statement.{statement}
 use Rattle.packing.proofs.store.Tie as tie
-use Rattle.packing.proofs.store.Reads as reads
-use Rattle.packing.proofs.store.Lts as lts
 
 returns : tie.Need-returns
 returns c = rw (eq-eqb (c .before .args .number) 0 (c .if1 .taken)) refl

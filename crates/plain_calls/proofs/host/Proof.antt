@@ -18,15 +18,6 @@ use native.Mathlib.Omega.{arith}
 use borrow.Author.Needs.{needs}
 use Rattle.plain_calls.proofs.host.Statement.{statement}
 use Rattle.plain_calls.proofs.host.Tie as tie
-use Rattle.plain_calls.proofs.host.Reads as reads
-use Rattle.plain_calls.proofs.host.Lts as lts
-use Rattle.filling.proofs.sizes.plain_sizes.Reads as plain-sizes-reads
-use Rattle.steps.proofs.judging.judged.Reads as judged-reads
-use Rattle.steps.proofs.judging.refused.Reads as refused-reads
-use Rattle.steps.proofs.laying.lay_told.Reads as lay-told-reads
-use Rattle.table.proofs.reference_offsets.Reads as reference-offsets-reads
-use Rattle.told.proofs.marks.mark_32.Reads as mark-32-reads
-use Rattle.told.proofs.objects.fits.Reads as fits-reads
 
 cast-mark-32 : tie.Need-cast-mark-32
 cast-mark-32 c = search needs

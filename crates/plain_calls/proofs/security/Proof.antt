@@ -17,18 +17,6 @@ use native.Mathlib.Omega.{arith}
 use borrow.Author.Needs.{needs}
 use Rattle.plain_calls.proofs.security.Statement.{statement}
 use Rattle.plain_calls.proofs.security.Tie as tie
-use Rattle.plain_calls.proofs.security.Reads as reads
-use Rattle.plain_calls.proofs.security.Lts as lts
-use Rattle.filling.proofs.sizes.both.Reads as both-reads
-use Rattle.filling.proofs.sizes.plain_sizes.Reads as plain-sizes-reads
-use Rattle.needs.proofs.security_need.Reads as security-need-reads
-use Rattle.steps.proofs.judging.judged.Reads as judged-reads
-use Rattle.steps.proofs.judging.refused.Reads as refused-reads
-use Rattle.steps.proofs.laying.lay_told.Reads as lay-told-reads
-use Rattle.table.proofs.reference_offsets.Reads as reference-offsets-reads
-use Rattle.told.proofs.marks.mark_64.Reads as mark-64-reads
-use Rattle.told.proofs.objects.fits.Reads as fits-reads
-use Rattle.told.proofs.objects.kept.Reads as kept-reads
 
 -- what was answered, by the objects
 module _ (c : tie.After-judged) where

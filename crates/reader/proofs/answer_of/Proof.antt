@@ -2,10 +2,6 @@ use Rattle.table.proofs.Rules.{picks}
 use borrow.Author.Needs.{needs}
 use Rattle.reader.proofs.answer_of.Statement.{statement}
 use Rattle.reader.proofs.answer_of.Tie as tie
-use Rattle.reader.proofs.answer_of.Reads as reads
-use Rattle.reader.proofs.answer_of.Lts as lts
-use Rattle.table.proofs.done.Reads as done-reads
-use Rattle.table.proofs.refuse.Reads as refuse-reads
 
 done-requires : tie.Need-done-requires
 done-requires c κs = search needs

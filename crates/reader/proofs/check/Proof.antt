@@ -4,10 +4,6 @@ use Rattle.reader.proofs.Laws.{answer-stop, answer-more, check-is}
 use borrow.Author.Needs.{needs}
 use Rattle.reader.proofs.check.Statement.{statement}
 use Rattle.reader.proofs.check.Tie as tie
-use Rattle.reader.proofs.check.Reads as reads
-use Rattle.reader.proofs.check.Lts as lts
-use Rattle.frame.proofs.frame_fault.Reads as frame-fault-reads
-use Rattle.reader.proofs.records_fault.Reads as records-fault-reads
 
 frame-fault-requires : tie.Need-frame-fault-requires
 frame-fault-requires c κs = search needs

@@ -3,8 +3,6 @@ use native.Mathlib.Omega.{arith}
 use borrow.Author.Needs.{needs}
 use Rattle.reader.proofs.heap_of.Statement.{statement}
 use Rattle.reader.proofs.heap_of.Tie as tie
-use Rattle.reader.proofs.heap_of.Reads as reads
-use Rattle.reader.proofs.heap_of.Lts as lts
 
 slice-aggregate-result : tie.Need-slice-aggregate-result
 slice-aggregate-result c = search needs

@@ -7,12 +7,6 @@ use Rattle.reader.proofs.Laws.{host-off, host-on}
 use borrow.Author.Needs.{needs}
 use Rattle.reader.proofs.host_fault.Statement.{statement}
 use Rattle.reader.proofs.host_fault.Tie as tie
-use Rattle.reader.proofs.host_fault.Reads as reads
-use Rattle.reader.proofs.host_fault.Lts as lts
-use Rattle.reader.proofs.answer_of.Reads as answer-of-reads
-use Rattle.lists.proofs.used_fault.Reads as used-fault-reads
-use Rattle.table.proofs.refuse.Reads as refuse-reads
-use Rattle.wire.proofs.u32_at.Reads as u32-at-reads
 
 u32-at-requires : tie.Need-u32-at-requires
 u32-at-requires c κs = search needs

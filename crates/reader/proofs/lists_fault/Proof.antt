@@ -8,10 +8,6 @@ use Rattle.reader.proofs.Laws.{answer-stop, answer-more, body-is}
 use borrow.Author.Needs.{needs}
 use Rattle.reader.proofs.lists_fault.Statement.{statement}
 use Rattle.reader.proofs.lists_fault.Tie as tie
-use Rattle.reader.proofs.lists_fault.Reads as reads
-use Rattle.reader.proofs.lists_fault.Lts as lts
-use Rattle.lists.proofs.list_fault.Reads as list-fault-reads
-use Rattle.table.proofs.done.Reads as done-reads
 
 list-fault-requires : tie.Need-list-fault-requires
 unfolding layoutOf hfi

@@ -10,12 +10,6 @@ use Rattle.reader.proofs.Laws.{answer-stop, answer-more, parts-are, hea
 use borrow.Author.Needs.{needs}
 use Rattle.reader.proofs.parts_fault.Statement.{statement}
 use Rattle.reader.proofs.parts_fault.Tie as tie
-use Rattle.reader.proofs.parts_fault.Reads as reads
-use Rattle.reader.proofs.parts_fault.Lts as lts
-use Rattle.reader.proofs.answer_of.Reads as answer-of-reads
-use Rattle.reader.proofs.host_fault.Reads as host-fault-reads
-use Rattle.reader.proofs.lists_fault.Reads as lists-fault-reads
-use Rattle.lists.proofs.refs_fault.Reads as refs-fault-reads
 
 refs-fault-requires : tie.Need-refs-fault-requires
 unfolding layoutOf header

@@ -6,11 +6,6 @@ use Rattle.reader.proofs.Laws.{heap-length, is-heap}
 use borrow.Author.Needs.{needs}
 use Rattle.reader.proofs.records_fault.Statement.{statement}
 use Rattle.reader.proofs.records_fault.Tie as tie
-use Rattle.reader.proofs.records_fault.Reads as reads
-use Rattle.reader.proofs.records_fault.Lts as lts
-use Rattle.head.proofs.region_at.Reads as region-at-reads
-use Rattle.reader.proofs.heap_of.Reads as heap-of-reads
-use Rattle.reader.proofs.parts_fault.Reads as parts-fault-reads
 
 region-at-requires : tie.Need-region-at-requires
 region-at-requires c κs = search needs

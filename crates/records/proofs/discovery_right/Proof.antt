@@ -3,10 +3,6 @@ use Rattle.records.proofs.Laws.{discovery-right}
 use borrow.Author.Needs.{needs}
 use Rattle.records.proofs.discovery_right.Statement.{statement}
 use Rattle.records.proofs.discovery_right.Tie as tie
-use Rattle.records.proofs.discovery_right.Reads as reads
-use Rattle.records.proofs.discovery_right.Lts as lts
-use Rattle.records.proofs.discovery_judge.Reads as discovery-judge-reads
-use Rattle.wire.proofs.wide.Reads as wide-reads
 
 shared-slice-read-discovery-judge : tie.Need-shared-slice-read-discovery-judge
 shared-slice-read-discovery-judge c = search needs

@@ -3,10 +3,6 @@ use Rattle.records.proofs.Laws.{hfi-right}
 use borrow.Author.Needs.{needs}
 use Rattle.records.proofs.hfi_right.Statement.{statement}
 use Rattle.records.proofs.hfi_right.Tie as tie
-use Rattle.records.proofs.hfi_right.Reads as reads
-use Rattle.records.proofs.hfi_right.Lts as lts
-use Rattle.records.proofs.hfi_judge.Reads as hfi-judge-reads
-use Rattle.wire.proofs.wide.Reads as wide-reads
 
 shared-slice-read-hfi-judge : tie.Need-shared-slice-read-hfi-judge
 shared-slice-read-hfi-judge c = search needs

@@ -2,8 +2,6 @@ use Rattle.records.specs.Records.{hostRight}
 use Rattle.table.proofs.Rules.{picks}
 use Rattle.records.proofs.host_judge.Statement.{statement}
 use Rattle.records.proofs.host_judge.Tie as tie
-use Rattle.records.proofs.host_judge.Reads as reads
-use Rattle.records.proofs.host_judge.Lts as lts
 
 returns : tie.Need-returns
 unfolding hostRight

@@ -3,10 +3,6 @@ use Rattle.records.proofs.Laws.{host-right}
 use borrow.Author.Needs.{needs}
 use Rattle.records.proofs.host_right.Statement.{statement}
 use Rattle.records.proofs.host_right.Tie as tie
-use Rattle.records.proofs.host_right.Reads as reads
-use Rattle.records.proofs.host_right.Lts as lts
-use Rattle.records.proofs.host_judge.Reads as host-judge-reads
-use Rattle.wire.proofs.wide.Reads as wide-reads
 
 shared-slice-read-host-judge : tie.Need-shared-slice-read-host-judge
 shared-slice-read-host-judge c = search needs

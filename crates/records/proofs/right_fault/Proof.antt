@@ -3,13 +3,6 @@ use native.Mathlib.Omega.{arith}
 use Rattle.table.specs.FixedLayouts.{layoutOf, host, hfi, ssns, security, discovery}
 use Rattle.records.proofs.right_fault.Statement.{statement}
 use Rattle.records.proofs.right_fault.Tie as tie
-use Rattle.records.proofs.right_fault.Reads as reads
-use Rattle.records.proofs.right_fault.Lts as lts
-use Rattle.records.proofs.discovery_right.Reads as discovery-right-reads
-use Rattle.records.proofs.hfi_right.Reads as hfi-right-reads
-use Rattle.records.proofs.host_right.Reads as host-right-reads
-use Rattle.records.proofs.security_right.Reads as security-right-reads
-use Rattle.records.proofs.ssns_right.Reads as ssns-right-reads
 
 host-right-requires : tie.Need-host-right-requires
 unfolding layoutOf host

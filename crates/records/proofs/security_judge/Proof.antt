@@ -2,8 +2,6 @@ use Rattle.records.specs.Records.{securityRight}
 use Rattle.table.proofs.Rules.{picks}
 use Rattle.records.proofs.security_judge.Statement.{statement}
 use Rattle.records.proofs.security_judge.Tie as tie
-use Rattle.records.proofs.security_judge.Reads as reads
-use Rattle.records.proofs.security_judge.Lts as lts
 
 returns : tie.Need-returns
 unfolding Rattle.records.specs.Records.securityRight

@@ -3,11 +3,6 @@ use Rattle.records.proofs.Laws.{security-right}
 use borrow.Author.Needs.{needs}
 use Rattle.records.proofs.security_right.Statement.{statement}
 use Rattle.records.proofs.security_right.Tie as tie
-use Rattle.records.proofs.security_right.Reads as reads
-use Rattle.records.proofs.security_right.Lts as lts
-use Rattle.records.proofs.security_flags.Reads as security-flags-reads
-use Rattle.records.proofs.security_judge.Reads as security-judge-reads
-use Rattle.wire.proofs.wide.Reads as wide-reads
 
 shared-slice-read-security-judge : tie.Need-shared-slice-read-security-judge
 shared-slice-read-security-judge c = search needs

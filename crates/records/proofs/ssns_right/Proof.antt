@@ -3,11 +3,6 @@ use Rattle.records.proofs.Laws.{ssns-right}
 use borrow.Author.Needs.{needs}
 use Rattle.records.proofs.ssns_right.Statement.{statement}
 use Rattle.records.proofs.ssns_right.Tie as tie
-use Rattle.records.proofs.ssns_right.Reads as reads
-use Rattle.records.proofs.ssns_right.Lts as lts
-use Rattle.records.proofs.ssns_flags.Reads as ssns-flags-reads
-use Rattle.records.proofs.ssns_judge.Reads as ssns-judge-reads
-use Rattle.wire.proofs.u16_at.Reads as u16-at-reads
 
 shared-slice-read-ssns-judge : tie.Need-shared-slice-read-ssns-judge
 shared-slice-read-ssns-judge c = search needs

@@ -4,10 +4,6 @@ use Rattle.references.proofs.Laws.{ref-rule}
 use borrow.Author.Needs.{needs}
 use Rattle.references.proofs.plain_fault.Statement.{statement}
 use Rattle.references.proofs.plain_fault.Tie as tie
-use Rattle.references.proofs.plain_fault.Reads as reads
-use Rattle.references.proofs.plain_fault.Lts as lts
-use Rattle.references.proofs.ref_at.Reads as ref-at-reads
-use Rattle.references.proofs.ref_number.Reads as ref-number-reads
 
 ref-at-requires : tie.Need-ref-at-requires
 ref-at-requires c κs = search needs

@@ -1,11 +1,6 @@
 use borrow.Author.Needs.{needs}
 use Rattle.references.proofs.ref_at.Statement.{statement}
 use Rattle.references.proofs.ref_at.Tie as tie
-use Rattle.references.proofs.ref_at.Reads as reads
-use Rattle.references.proofs.ref_at.Lts as lts
-use Rattle.references.proofs.ref_of.Reads as ref-of-reads
-use Rattle.wire.proofs.u16_at.Reads as u16-at-reads
-use Rattle.wire.proofs.u32_at.Reads as u32-at-reads
 
 u32-at-requires : tie.Need-u32-at-requires
 u32-at-requires c κs = search needs

@@ -3,10 +3,6 @@ use Rattle.table.proofs.Rules.{picks}
 use borrow.Author.Needs.{needs}
 use Rattle.references.proofs.ref_number.Statement.{statement}
 use Rattle.references.proofs.ref_number.Tie as tie
-use Rattle.references.proofs.ref_number.Reads as reads
-use Rattle.references.proofs.ref_number.Lts as lts
-use Rattle.references.proofs.optional_number.Reads as optional-number-reads
-use Rattle.references.proofs.required_number.Reads as required-number-reads
 
 enum-told : tie.Need-enum-told
 enum-told c = search needs

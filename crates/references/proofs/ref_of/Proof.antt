@@ -5,8 +5,6 @@ use Rattle.table.proofs.Rules.{picks}
 use borrow.Author.Needs.{needs}
 use Rattle.references.proofs.ref_of.Statement.{statement}
 use Rattle.references.proofs.ref_of.Tie as tie
-use Rattle.references.proofs.ref_of.Reads as reads
-use Rattle.references.proofs.ref_of.Lts as lts
 
 returns : tie.Need-returns
 unfolding Rattle.references.specs.References.refOf

@@ -17,13 +17,6 @@ use mathlib.Core.Path.{_≡_, refl, sym, ap, ap₂, _∙_}
 use Rattle.table.proofs.Rules.{picks}
 use Rattle.relaid_lists.proofs.lay_list.Statement.{statement}
 use Rattle.relaid_lists.proofs.lay_list.Tie as tie
-use Rattle.relaid_lists.proofs.lay_list.Reads as reads
-use Rattle.relaid_lists.proofs.lay_list.Lts as lts
-use Rattle.relaid.proofs.records.lay_entry.Reads as lay-entry-reads
-use Rattle.table.proofs.base_size.Reads as base-size-reads
-use Rattle.wire.proofs.u16_at.Reads as u16-at-reads
-use Rattle.wire.proofs.u32_at.Reads as u32-at-reads
-use Rattle.wire.proofs.wide.Reads as wide-reads
 
 abbrev Inv-loop : tie.InvT-loop
 Inv-loop out₀ d u t kind c n step base a₀ at₀ h₀ i₀ out a at h i = (i ≤ n) × (a ≡ num t c 4 + i * num t (c + 4) 2) × (a ≤ 4294967296 + 65536 * i) × (at + (getD t (c + 7) 0 - i) * baseOf (layoutOf kind) ≤ h) × (h + sizeList (readList (layoutOf kind) t a (num t (c + 4) 2) (getD t (c + 7) 0 - i)) ≡ u + sizeList (listIn (layoutOf kind) t c)) × (length out ≡ length out₀) × (laid out at (recsList h (readList (layoutOf kind) t a (num t (c + 4) 2) (getD t (c + 7) 0 - i))) h (heapList h (readList (layoutOf kind) t a (num t (c + 4) 2) (getD t (c + 7) 0 - i))) ≡ laid out₀ d (recsList u (listIn (layoutOf kind) t c)) u (heapList u (listIn (layoutOf kind) t c)))

@@ -8,10 +8,6 @@ use Prim.Native.Nat.{_+_, _*_}
 use borrow.Author.Needs.{needs}
 use Rattle.relaid_lists.proofs.lay_lists.Statement.{statement}
 use Rattle.relaid_lists.proofs.lay_lists.Tie as tie
-use Rattle.relaid_lists.proofs.lay_lists.Reads as reads
-use Rattle.relaid_lists.proofs.lay_lists.Lts as lts
-use Rattle.relaid_lists.proofs.lay_list.Reads as lay-list-reads
-use Rattle.wire.proofs.wide.Reads as wide-reads
 
 shared-slice-read-wide : tie.Need-shared-slice-read-wide
 shared-slice-read-wide c = omega (arith, laid (c .before .before .before .args .t .now) (c .before .before .before .pre .0) .lent)

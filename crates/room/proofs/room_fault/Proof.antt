@@ -3,10 +3,6 @@ use Rattle.table.proofs.Rules.{picks}
 use borrow.Author.Needs.{needs}
 use Rattle.room.proofs.room_fault.Statement.{statement}
 use Rattle.room.proofs.room_fault.Tie as tie
-use Rattle.room.proofs.room_fault.Reads as reads
-use Rattle.room.proofs.room_fault.Lts as lts
-use Rattle.table.proofs.done.Reads as done-reads
-use Rattle.table.proofs.refuse.Reads as refuse-reads
 
 refuse-requires : tie.Need-refuse-requires
 refuse-requires c κs = search needs

@@ -15,13 +15,7 @@ use Rattle.rules.proofs.HeapLaws.{extended-off, extended-no, extended-y
 use borrow.Author.Needs.{needs}
 use Rattle.rules.proofs.extended_ref.Statement.{statement}
 use Rattle.rules.proofs.extended_ref.Tie as tie
-use Rattle.rules.proofs.extended_ref.Reads as reads
-use Rattle.rules.proofs.extended_ref.Lts as lts
-use Rattle.heap_records.proofs.extended_fault.Reads as extended-fault-reads
-use Rattle.records.proofs.ssns_flags.Reads as ssns-flags-reads
-use Rattle.references.proofs.ref_at.Reads as ref-at-reads
 
--- helpers
 there : (c : tie.After-known-told) → let s = c .before .before .before .before .before .before .before .before in
     (reaches (region (s .args .from) (length (s .args .heap .now))) (num (s .args .t .now) (s .args .a + 60) 4) (num (s .args .t .now) (s .args .a + 60 + 4) 2) ≡ true)
     × (c .before .r .given .0 .0 ≡ num (s .args .t .now) (s .args .a + 60) 4) × (c .before .r .given .0 .1 .0 ≡ num (s .args .t .now) (s .args .a + 60 + 4) 2)
@@ -29,8 +23,6 @@ there c = ref-part (region (c .before .before .before .before .before .before .b
 
 inside : (c : tie.After-known-told) → let s = c .before .before .before .before .before .before .before .before in Inside (s .args .from) (length (s .args .heap .now)) (c .before .r .given .0 .0) (c .before .r .given .0 .1 .0)
 inside c = rw (there c .1, there c .2) (reached (c .before .before .before .before .before .before .before .before .args .from) (length (c .before .before .before .before .before .before .before .before .args .heap .now)) (num (c .before .before .before .before .before .before .before .before .args .t .now) (c .before .before .before .before .before .before .before .before .args .a + 60) 4) (num (c .before .before .before .before .before .before .before .before .args .t .now) (c .before .before .before .before .before .before .before .before .args .a + 60 + 4) 2) (there c .0))
-
--- end
 
 ssns-flags-requires : tie.Need-ssns-flags-requires
 ssns-flags-requires c κs = search needs

@@ -5,9 +5,6 @@ use Rattle.rules.proofs.HeapLaws.{hfi-other}
 use borrow.Author.Needs.{needs}
 use Rattle.rules.proofs.hfi_ref.Statement.{statement}
 use Rattle.rules.proofs.hfi_ref.Tie as tie
-use Rattle.rules.proofs.hfi_ref.Reads as reads
-use Rattle.rules.proofs.hfi_ref.Lts as lts
-use Rattle.rules.proofs.info_ref.Reads as info-ref-reads
 
 info-ref-requires : tie.Need-info-ref-requires
 info-ref-requires c κs = search needs

@@ -6,13 +6,6 @@ use Rattle.table.proofs.Rules.{picks}
 use borrow.Author.Needs.{needs}
 use Rattle.rules.proofs.ref_fault.Statement.{statement}
 use Rattle.rules.proofs.ref_fault.Tie as tie
-use Rattle.rules.proofs.ref_fault.Reads as reads
-use Rattle.rules.proofs.ref_fault.Lts as lts
-use Rattle.rules.proofs.hfi_ref.Reads as hfi-ref-reads
-use Rattle.rules.proofs.ssns_ref.Reads as ssns-ref-reads
-use Rattle.needs.proofs.plain_need.Reads as plain-need-reads
-use Rattle.needs.proofs.security_need.Reads as security-need-reads
-use Rattle.references.proofs.plain_fault.Reads as plain-fault-reads
 
 hfi-ref-requires : tie.Need-hfi-ref-requires
 unfolding layoutOf hfi

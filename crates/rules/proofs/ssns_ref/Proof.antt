@@ -5,12 +5,6 @@ use Rattle.rules.proofs.HeapLaws.{ssns-plain}
 use borrow.Author.Needs.{needs}
 use Rattle.rules.proofs.ssns_ref.Statement.{statement}
 use Rattle.rules.proofs.ssns_ref.Tie as tie
-use Rattle.rules.proofs.ssns_ref.Reads as reads
-use Rattle.rules.proofs.ssns_ref.Lts as lts
-use Rattle.rules.proofs.extended_ref.Reads as extended-ref-reads
-use Rattle.needs.proofs.ssns_need.Reads as ssns-need-reads
-use Rattle.records.proofs.ssns_flags.Reads as ssns-flags-reads
-use Rattle.references.proofs.plain_fault.Reads as plain-fault-reads
 
 extended-ref-requires : tie.Need-extended-ref-requires
 extended-ref-requires c κs = search needs

@@ -9,12 +9,6 @@ use Rattle.sealing.proofs.SumLaws.{part-front, accepted-sum}
 use borrow.Author.Needs.{needs}
 use Rattle.sealing.proofs.form_sum.Statement.{statement}
 use Rattle.sealing.proofs.form_sum.Tie as tie
-use Rattle.sealing.proofs.form_sum.Reads as reads
-use Rattle.sealing.proofs.form_sum.Lts as lts
-use Rattle.sealing.proofs.sum_but.Reads as sum-but-reads
-use Rattle.std.proofs.num.wrapping_sub_u8.Reads as wrapping-sub-u8-reads
-use Rattle.wire.proofs.sum8.Reads as sum8-reads
-use Rattle.wire.proofs.u32_at.Reads as u32-at-reads
 
 u32-at-requires : tie.Need-u32-at-requires
 u32-at-requires c κs = let s = c .before .before in omega (arith, laid (s .args .t .now) (s .pre .0) .lent)

@@ -9,12 +9,6 @@ use Rattle.table.specs.Bytes.{splice, total}
 use borrow.Author.Needs.{needs}
 use Rattle.sealing.proofs.seal.Statement.{statement}
 use Rattle.sealing.proofs.seal.Tie as tie
-use Rattle.sealing.proofs.seal.Reads as reads
-use Rattle.sealing.proofs.seal.Lts as lts
-use Rattle.sealing.proofs.form_sum.Reads as form-sum-reads
-use Rattle.wire.proofs.wide.Reads as wide-reads
-use Rattle.writer.proofs.stores.low.Reads as low-reads
-use Rattle.writer.proofs.stores.put_u8.Reads as put-u8-reads
 
 sub-form-sum : tie.Need-sub-form-sum
 sub-form-sum c = search needs

@@ -10,10 +10,6 @@ use Rattle.sealing.proofs.SumLaws.{total-parts}
 use borrow.Author.Needs.{needs}
 use Rattle.sealing.proofs.sum_but.Statement.{statement}
 use Rattle.sealing.proofs.sum_but.Tie as tie
-use Rattle.sealing.proofs.sum_but.Reads as reads
-use Rattle.sealing.proofs.sum_but.Lts as lts
-use Rattle.std.proofs.num.wrapping_add_u8.Reads as wrapping-add-u8-reads
-use Rattle.wire.proofs.sum8.Reads as sum8-reads
 
 add-end : tie.Need-add-end
 add-end c = search needs

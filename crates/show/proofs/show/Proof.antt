@@ -4,12 +4,6 @@ use mathlib.Core.Path.{sym, ap, _∙_}
 use borrow.Author.Needs.{needs}
 use Rattle.show.proofs.show.Statement.{statement}
 use Rattle.show.proofs.show.Tie as tie
-use Rattle.show.proofs.show.Reads as reads
-use Rattle.show.proofs.show.Lts as lts
-use Rattle.reader.proofs.check.Reads as check-reads
-use Rattle.show.proofs.json.print_json.Reads as print-json-reads
-use Rattle.show.proofs.people.print_people.Reads as print-people-reads
-use Rattle.tool.proofs.print_answer.Reads as print-answer-reads
 
 check-requires : tie.Need-check-requires
 check-requires c κs = search needs

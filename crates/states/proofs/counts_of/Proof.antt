@@ -4,8 +4,6 @@ use mathlib.Core.Path.{_≡_}
 use borrow.Author.Needs.{needs}
 use Rattle.states.proofs.counts_of.Statement.{statement}
 use Rattle.states.proofs.counts_of.Tie as tie
-use Rattle.states.proofs.counts_of.Reads as reads
-use Rattle.states.proofs.counts_of.Lts as lts
 
 array-read-t5 : tie.Need-array-read-t5
 array-read-t5 c = search needs

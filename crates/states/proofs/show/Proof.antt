@@ -7,11 +7,6 @@ use mathlib.Core.Path.{ap, _∙_}
 use borrow.Author.Needs.{needs}
 use Rattle.states.proofs.show.Statement.{statement}
 use Rattle.states.proofs.show.Tie as tie
-use Rattle.states.proofs.show.Reads as reads
-use Rattle.states.proofs.show.Lts as lts
-use Rattle.states.proofs.state_bytes.Reads as state-bytes-reads
-use Rattle.packing.proofs.pack.Reads as pack-reads
-use Rattle.packing.proofs.store.Reads as store-reads
 
 state-bytes-requires : tie.Need-state-bytes-requires
 state-bytes-requires c κs = search needs

@@ -3,9 +3,6 @@ use mathlib.Core.Path.{refl}
 use borrow.Author.Needs.{needs}
 use Rattle.states.proofs.state_bytes.Statement.{statement}
 use Rattle.states.proofs.state_bytes.Tie as tie
-use Rattle.states.proofs.state_bytes.Reads as reads
-use Rattle.states.proofs.state_bytes.Lts as lts
-use Rattle.writer.proofs.stores.low.Reads as low-reads
 
 cast-turn : tie.Need-cast-turn
 cast-turn c = search needs

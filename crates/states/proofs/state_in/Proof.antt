@@ -3,10 +3,6 @@ use native.Mathlib.Omega.{arith}
 use borrow.Author.Needs.{needs}
 use Rattle.states.proofs.state_in.Statement.{statement}
 use Rattle.states.proofs.state_in.Tie as tie
-use Rattle.states.proofs.state_in.Reads as reads
-use Rattle.states.proofs.state_in.Lts as lts
-use Rattle.wire.proofs.u16_at.Reads as u16-at-reads
-use Rattle.wire.proofs.u32_at.Reads as u32-at-reads
 
 u16-at-requires : tie.Need-u16-at-requires
 u16-at-requires c κs = search needs

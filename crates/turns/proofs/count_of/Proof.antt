@@ -6,8 +6,6 @@ use Rattle.table.specs.FixedLayouts.{hfi, ssns, security, discovery}
 use borrow.Author.Needs.{needs}
 use Rattle.turns.proofs.count_of.Statement.{statement}
 use Rattle.turns.proofs.count_of.Tie as tie
-use Rattle.turns.proofs.count_of.Reads as reads
-use Rattle.turns.proofs.count_of.Lts as lts
 
 cast-result : tie.Need-cast-result
 cast-result c = search needs

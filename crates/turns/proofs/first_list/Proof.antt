@@ -2,8 +2,6 @@ use Rattle.table.specs.FixedLayouts.{hfi, ssns, security, discovery}
 use Rattle.table.proofs.Rules.{picks}
 use Rattle.turns.proofs.first_list.Statement.{statement}
 use Rattle.turns.proofs.first_list.Tie as tie
-use Rattle.turns.proofs.first_list.Reads as reads
-use Rattle.turns.proofs.first_list.Lts as lts
 
 returns : tie.Need-returns
 unfolding hfi ssns security discovery

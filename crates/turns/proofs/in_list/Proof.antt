@@ -6,9 +6,6 @@ use native.Mathlib.Omega.{arith}
 use borrow.Author.Needs.{needs}
 use Rattle.turns.proofs.in_list.Statement.{statement}
 use Rattle.turns.proofs.in_list.Tie as tie
-use Rattle.turns.proofs.in_list.Reads as reads
-use Rattle.turns.proofs.in_list.Lts as lts
-use Rattle.turns.proofs.count_of.Reads as count-of-reads
 
 cast-p : tie.Need-cast-p
 cast-p c = search needs

@@ -4,9 +4,6 @@ use native.Mathlib.Omega.{arith}
 use borrow.Author.Needs.{needs}
 use Rattle.turns.proofs.in_place.Statement.{statement}
 use Rattle.turns.proofs.in_place.Tie as tie
-use Rattle.turns.proofs.in_place.Reads as reads
-use Rattle.turns.proofs.in_place.Lts as lts
-use Rattle.turns.proofs.in_list.Reads as in-list-reads
 
 returns : tie.Need-returns
 returns c = rw (c .before .if1 .taken) (refl, λ e. omega (arith, eqb-true (c .before .before .args .s .position) 0 e))

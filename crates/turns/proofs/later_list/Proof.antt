@@ -5,9 +5,6 @@ use Rattle.table.specs.FixedLayouts.{hfi, ssns, security, discovery}
 use borrow.Author.Needs.{needs}
 use Rattle.turns.proofs.later_list.Statement.{statement}
 use Rattle.turns.proofs.later_list.Tie as tie
-use Rattle.turns.proofs.later_list.Reads as reads
-use Rattle.turns.proofs.later_list.Lts as lts
-use Rattle.turns.proofs.first_list.Reads as first-list-reads
 
 first-list-requires : tie.Need-first-list-requires
 first-list-requires c κs = search needs

@@ -4,8 +4,6 @@ use Rattle.table.specs.FixedLayouts.{hfi, ssns, security, discovery}
 use borrow.Author.Needs.{needs}
 use Rattle.turns.proofs.list_start.Statement.{statement}
 use Rattle.turns.proofs.list_start.Tie as tie
-use Rattle.turns.proofs.list_start.Reads as reads
-use Rattle.turns.proofs.list_start.Lts as lts
 
 add-hfi : tie.Need-add-hfi
 add-hfi c = search needs

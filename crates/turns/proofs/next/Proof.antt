@@ -10,11 +10,6 @@ use native.Mathlib.Omega.{arith}
 use borrow.Author.Needs.{needs}
 use Rattle.turns.proofs.next.Statement.{statement}
 use Rattle.turns.proofs.next.Tie as tie
-use Rattle.turns.proofs.next.Reads as reads
-use Rattle.turns.proofs.next.Lts as lts
-use Rattle.turns.proofs.count_of.Reads as count-of-reads
-use Rattle.turns.proofs.later_list.Reads as later-list-reads
-use Rattle.turns.proofs.moved_to.Reads as moved-to-reads
 
 add-used : tie.Need-add-used
 add-used c = search needs

@@ -7,9 +7,6 @@ use native.Mathlib.Omega.{arith}
 use borrow.Author.Needs.{needs}
 use Rattle.turns.proofs.place_of.Statement.{statement}
 use Rattle.turns.proofs.place_of.Tie as tie
-use Rattle.turns.proofs.place_of.Reads as reads
-use Rattle.turns.proofs.place_of.Lts as lts
-use Rattle.turns.proofs.list_start.Reads as list-start-reads
 
 returns : tie.Need-returns
 unfolding layoutOf

@@ -4,8 +4,6 @@ use Rattle.table.specs.FixedLayouts.{hfi, ssns, security, discovery}
 use borrow.Author.Needs.{needs}
 use Rattle.turns.proofs.records_end.Statement.{statement}
 use Rattle.turns.proofs.records_end.Tie as tie
-use Rattle.turns.proofs.records_end.Reads as reads
-use Rattle.turns.proofs.records_end.Lts as lts
 
 add-result : tie.Need-add-result
 add-result c = search needs

@@ -9,10 +9,6 @@ use native.Mathlib.Omega.{arith}
 use borrow.Author.Needs.{needs}
 use Rattle.turns.proofs.waits.Statement.{statement}
 use Rattle.turns.proofs.waits.Tie as tie
-use Rattle.turns.proofs.waits.Reads as reads
-use Rattle.turns.proofs.waits.Lts as lts
-use Rattle.turns.proofs.in_place.Reads as in-place-reads
-use Rattle.turns.proofs.records_end.Reads as records-end-reads
 
 returns : tie.Need-returns
 unfolding waits

@@ -3,11 +3,6 @@ use lib.ListN.{length}
 use Rattle.table.proofs.Rules.{picks}
 use Rattle.values.proofs.print_digits_of.Statement.{statement}
 use Rattle.values.proofs.print_digits_of.Tie as tie
-use Rattle.values.proofs.print_digits_of.Reads as reads
-use Rattle.values.proofs.print_digits_of.Lts as lts
-use Rattle.text.proofs.append.empty.Reads as empty-reads
-use Rattle.hexadecimal.proofs.with_hex_byte.Reads as with-hex-byte-reads
-use Rattle.tool.proofs.print.Reads as print-reads
 
 abbrev Inv-loop : tie.InvT-loop
 Inv-loop x i₀ i = 0 ≤ i

@@ -3,12 +3,6 @@ use lib.ListN.{length}
 use Rattle.table.proofs.Rules.{picks}
 use Rattle.values.proofs.print_interfaces.Statement.{statement}
 use Rattle.values.proofs.print_interfaces.Tie as tie
-use Rattle.values.proofs.print_interfaces.Reads as reads
-use Rattle.values.proofs.print_interfaces.Lts as lts
-use Rattle.values.proofs.wide.Reads as wide-reads
-use Rattle.text.proofs.decimal.Reads as decimal-reads
-use Rattle.tool.proofs.print.Reads as print-reads
-use Rattle.tool.proofs.print_bytes.Reads as print-bytes-reads
 
 abbrev Inv-loop : tie.InvT-loop
 Inv-loop first others json i₀ t6 t7 i = 0 ≤ i

@@ -3,10 +3,6 @@ use lib.ListN.{length}
 use Rattle.table.proofs.Rules.{picks}
 use Rattle.values.proofs.print_json_escaped.Statement.{statement}
 use Rattle.values.proofs.print_json_escaped.Tie as tie
-use Rattle.values.proofs.print_json_escaped.Reads as reads
-use Rattle.values.proofs.print_json_escaped.Lts as lts
-use Rattle.hexadecimal.proofs.json_escaped.Reads as json-escaped-reads
-use Rattle.tool.proofs.print.Reads as print-reads
 
 abbrev Inv-loop : tie.InvT-loop
 Inv-loop x i₀ i = 0 ≤ i

@@ -2,9 +2,6 @@ use Prim.Native.Nat.{_≤_, _-_}
 use Rattle.table.proofs.Rules.{picks}
 use Rattle.values.proofs.print_repeated.Statement.{statement}
 use Rattle.values.proofs.print_repeated.Tie as tie
-use Rattle.values.proofs.print_repeated.Reads as reads
-use Rattle.values.proofs.print_repeated.Lts as lts
-use Rattle.tool.proofs.print_bytes.Reads as print-bytes-reads
 
 abbrev Inv-loop : tie.InvT-loop
 Inv-loop mark from to i₀ i = 0 ≤ i

@@ -3,9 +3,6 @@ use lib.ListN.{length}
 use Rattle.table.proofs.Rules.{picks}
 use Rattle.values.proofs.shown_width.Statement.{statement}
 use Rattle.values.proofs.shown_width.Tie as tie
-use Rattle.values.proofs.shown_width.Reads as reads
-use Rattle.values.proofs.shown_width.Lts as lts
-use Rattle.values.proofs.wider.Reads as wider-reads
 
 abbrev Inv-loop : tie.InvT-loop
 Inv-loop x width₀ i₀ width i = width ≤ 104

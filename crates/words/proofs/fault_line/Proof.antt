@@ -7,12 +7,6 @@ use lib.ListN.{take}
 use borrow.Author.Needs.{needs}
 use Rattle.words.proofs.fault_line.Statement.{statement}
 use Rattle.words.proofs.fault_line.Tie as tie
-use Rattle.words.proofs.fault_line.Reads as reads
-use Rattle.words.proofs.fault_line.Lts as lts
-use Rattle.text.proofs.append.empty.Reads as empty-reads
-use Rattle.text.proofs.append.with_byte.Reads as with-byte-reads
-use Rattle.words.proofs.with_meaning.Reads as with-meaning-reads
-use Rattle.words.proofs.with_place.Reads as with-place-reads
 
 empty-requires : tie.Need-empty-requires
 empty-requires c κs = search needs

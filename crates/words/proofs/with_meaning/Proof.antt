@@ -4,9 +4,6 @@ use Rattle.text.proofs.Rules.{picks}
 use borrow.Author.Needs.{needs}
 use Rattle.words.proofs.with_meaning.Statement.{statement}
 use Rattle.words.proofs.with_meaning.Tie as tie
-use Rattle.words.proofs.with_meaning.Reads as reads
-use Rattle.words.proofs.with_meaning.Lts as lts
-use Rattle.text.proofs.append.with_bytes.Reads as with-bytes-reads
 
 slice-aggregate-with-bytes : tie.Need-slice-aggregate-with-bytes
 slice-aggregate-with-bytes c = search needs

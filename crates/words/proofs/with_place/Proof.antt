@@ -8,12 +8,6 @@ use lib.ListN.{take}
 use borrow.Author.Needs.{needs}
 use Rattle.words.proofs.with_place.Statement.{statement}
 use Rattle.words.proofs.with_place.Tie as tie
-use Rattle.words.proofs.with_place.Reads as reads
-use Rattle.words.proofs.with_place.Lts as lts
-use Rattle.text.proofs.append.with_byte.Reads as with-byte-reads
-use Rattle.text.proofs.append.with_bytes.Reads as with-bytes-reads
-use Rattle.text.proofs.decimals.with_number.Reads as with-number-reads
-use Rattle.words.proofs.with_kind.Reads as with-kind-reads
 
 slice-aggregate-with-bytes : tie.Need-slice-aggregate-with-bytes
 slice-aggregate-with-bytes c = search needs

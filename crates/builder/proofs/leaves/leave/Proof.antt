@@ -9,13 +9,6 @@ use native.Mathlib.Omega.{arith}
 use borrow.Author.Needs.{needs}
 use Rattle.builder.proofs.leaves.leave.Statement.{statement}
 use Rattle.builder.proofs.leaves.leave.Tie as tie
-use Rattle.builder.proofs.leaves.leave.Reads as reads
-use Rattle.builder.proofs.leaves.leave.Lts as lts
-use Rattle.steps.proofs.judging.refused.Reads as refused-reads
-use Rattle.table.proofs.done.Reads as done-reads
-use Rattle.table.proofs.refuse.Reads as refuse-reads
-use Rattle.turns.proofs.next.Reads as next-reads
-use Rattle.turns.proofs.waits.Reads as waits-reads
 
 waits-requires : tie.Need-waits-requires
 waits-requires c κs = search needs

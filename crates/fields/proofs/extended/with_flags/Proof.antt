@@ -3,10 +3,6 @@ use mathlib.Core.Path.{ap, _∙_}
 use borrow.Author.Needs.{needs}
 use Rattle.fields.proofs.extended.with_flags.Statement.{statement}
 use Rattle.fields.proofs.extended.with_flags.Tie as tie
-use Rattle.fields.proofs.extended.with_flags.Reads as reads
-use Rattle.fields.proofs.extended.with_flags.Lts as lts
-use Rattle.fields.proofs.part.four.Reads as four-reads
-use Rattle.fields.proofs.part.put_18.Reads as put-18-reads
 
 four-requires : tie.Need-four-requires
 four-requires c κs = search needs

@@ -3,10 +3,6 @@ use mathlib.Core.Path.{ap, _∙_}
 use borrow.Author.Needs.{needs}
 use Rattle.fields.proofs.ssns.with_nsid.Statement.{statement}
 use Rattle.fields.proofs.ssns.with_nsid.Tie as tie
-use Rattle.fields.proofs.ssns.with_nsid.Reads as reads
-use Rattle.fields.proofs.ssns.with_nsid.Lts as lts
-use Rattle.fields.proofs.part.four.Reads as four-reads
-use Rattle.fields.proofs.part.put_128.Reads as put-128-reads
 
 four-requires : tie.Need-four-requires
 four-requires c κs = search needs

@@ -4,11 +4,6 @@ use lib.ListN.{take}
 use borrow.Author.Needs.{needs}
 use Rattle.hexadecimal.proofs.escapes.by_number.Statement.{statement}
 use Rattle.hexadecimal.proofs.escapes.by_number.Tie as tie
-use Rattle.hexadecimal.proofs.escapes.by_number.Reads as reads
-use Rattle.hexadecimal.proofs.escapes.by_number.Lts as lts
-use Rattle.text.proofs.append.empty.Reads as empty-reads
-use Rattle.text.proofs.append.with_bytes.Reads as with-bytes-reads
-use Rattle.hexadecimal.proofs.with_hex_byte.Reads as with-hex-byte-reads
 
 empty-requires : tie.Need-empty-requires
 empty-requires c κs = search needs

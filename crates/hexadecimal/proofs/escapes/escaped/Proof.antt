@@ -6,12 +6,6 @@ use lib.ListN.{take}
 use borrow.Author.Needs.{needs}
 use Rattle.hexadecimal.proofs.escapes.escaped.Statement.{statement}
 use Rattle.hexadecimal.proofs.escapes.escaped.Tie as tie
-use Rattle.hexadecimal.proofs.escapes.escaped.Reads as reads
-use Rattle.hexadecimal.proofs.escapes.escaped.Lts as lts
-use Rattle.text.proofs.append.empty.Reads as empty-reads
-use Rattle.text.proofs.append.with_byte.Reads as with-byte-reads
-use Rattle.hexadecimal.proofs.escapes.by_number.Reads as by-number-reads
-use Rattle.hexadecimal.proofs.escapes.is_printable.Reads as is-printable-reads
 
 is-printable-requires : tie.Need-is-printable-requires
 is-printable-requires c κs = search needs

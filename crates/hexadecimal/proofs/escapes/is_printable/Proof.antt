@@ -3,8 +3,6 @@ use borrow.Author.Tests.{le-leb, lt-leb}
 use mathlib.Core.Path.{refl}
 use Rattle.hexadecimal.proofs.escapes.is_printable.Statement.{statement}
 use Rattle.hexadecimal.proofs.escapes.is_printable.Tie as tie
-use Rattle.hexadecimal.proofs.escapes.is_printable.Reads as reads
-use Rattle.hexadecimal.proofs.escapes.is_printable.Lts as lts
 
 returns : tie.Need-returns
 unfolding printable

@@ -7,13 +7,6 @@ use lib.ListN.{take}
 use borrow.Author.Needs.{needs}
 use Rattle.hexadecimal.proofs.escapes.json_escaped.Statement.{statement}
 use Rattle.hexadecimal.proofs.escapes.json_escaped.Tie as tie
-use Rattle.hexadecimal.proofs.escapes.json_escaped.Reads as reads
-use Rattle.hexadecimal.proofs.escapes.json_escaped.Lts as lts
-use Rattle.text.proofs.append.empty.Reads as empty-reads
-use Rattle.text.proofs.append.with_byte.Reads as with-byte-reads
-use Rattle.text.proofs.append.with_bytes.Reads as with-bytes-reads
-use Rattle.hexadecimal.proofs.escapes.is_printable.Reads as is-printable-reads
-use Rattle.hexadecimal.proofs.with_hex_byte.Reads as with-hex-byte-reads
 
 is-printable-requires : tie.Need-is-printable-requires
 is-printable-requires c κs = search needs

@@ -13,10 +13,6 @@ use Rattle.images.proofs.Laws.{masked-byte, over-more, over-padded, par
 use Rattle.table.proofs.Rules.{picks}
 use Rattle.images.proofs.images.field_at.Statement.{statement}
 use Rattle.images.proofs.images.field_at.Tie as tie
-use Rattle.images.proofs.images.field_at.Reads as reads
-use Rattle.images.proofs.images.field_at.Lts as lts
-use Rattle.images.proofs.masks.counts_more.Reads as counts-more-reads
-use Rattle.images.proofs.masks.masks_of.Reads as masks-of-reads
 
 abbrev Inv-loop : tie.InvT-loop
 Inv-loop t kind a off width out₀ masks i₀ out i = (i ≤ width) × (out ≡ over (replicate 16 0) (part (imageIn (layoutOf kind) t a) off width) i)

@@ -7,9 +7,6 @@ use Rattle.images.proofs.Laws.{splice-padded}
 use borrow.Author.Needs.{needs}
 use Rattle.images.proofs.images.image_at.Statement.{statement}
 use Rattle.images.proofs.images.image_at.Tie as tie
-use Rattle.images.proofs.images.image_at.Reads as reads
-use Rattle.images.proofs.images.image_at.Lts as lts
-use Rattle.images.proofs.images.put_image.Reads as put-image-reads
 
 slice-aggregate-put-image : tie.Need-slice-aggregate-put-image
 slice-aggregate-put-image c = search needs

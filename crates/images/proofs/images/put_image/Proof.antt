@@ -14,11 +14,6 @@ use Rattle.images.proofs.Laws.{masked-byte}
 use Rattle.table.proofs.Rules.{picks}
 use Rattle.images.proofs.images.put_image.Statement.{statement}
 use Rattle.images.proofs.images.put_image.Tie as tie
-use Rattle.images.proofs.images.put_image.Reads as reads
-use Rattle.images.proofs.images.put_image.Lts as lts
-use Rattle.images.proofs.masks.counts_more.Reads as counts-more-reads
-use Rattle.images.proofs.masks.masks_of.Reads as masks-of-reads
-use Rattle.table.proofs.base_size.Reads as base-size-reads
 
 abbrev Inv-loop : tie.InvT-loop
 Inv-loop out₀ d t kind a masks n i₀ out i = (i ≤ n) × (out ≡ paste out₀ d (imageIn (layoutOf kind) t a) i) × (length out ≡ length out₀)

@@ -7,8 +7,6 @@ use Rattle.table.proofs.Rules.{picks}
 use borrow.Author.Needs.{needs}
 use Rattle.images.proofs.masks.counts_more.Statement.{statement}
 use Rattle.images.proofs.masks.counts_more.Tie as tie
-use Rattle.images.proofs.masks.counts_more.Reads as reads
-use Rattle.images.proofs.masks.counts_more.Lts as lts
 
 add-result : tie.Need-add-result
 add-result c = search needs

@@ -4,8 +4,6 @@ use mathlib.Core.Path.{refl}
 use Rattle.table.proofs.Rules.{picks}
 use Rattle.images.proofs.masks.masks_of.Statement.{statement}
 use Rattle.images.proofs.masks.masks_of.Tie as tie
-use Rattle.images.proofs.masks.masks_of.Reads as reads
-use Rattle.images.proofs.masks.masks_of.Lts as lts
 
 returns : tie.Need-returns
 unfolding masksFor layoutOf header

@@ -5,11 +5,6 @@ use Rattle.table.proofs.Rules.{picks}
 use borrow.Author.Needs.{needs}
 use Rattle.layouts.proofs.objects.has_object.Statement.{statement}
 use Rattle.layouts.proofs.objects.has_object.Tie as tie
-use Rattle.layouts.proofs.objects.has_object.Reads as reads
-use Rattle.layouts.proofs.objects.has_object.Lts as lts
-use Rattle.layouts.proofs.objects.discovery_object.Reads as discovery-object-reads
-use Rattle.layouts.proofs.objects.security_object.Reads as security-object-reads
-use Rattle.layouts.proofs.objects.ssns_object.Reads as ssns-object-reads
 
 ssns-object-requires : tie.Need-ssns-object-requires
 ssns-object-requires c κs = search needs

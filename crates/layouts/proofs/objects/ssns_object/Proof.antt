@@ -3,8 +3,6 @@ use mathlib.Core.Path.{refl}
 use Rattle.table.proofs.Rules.{picks}
 use Rattle.layouts.proofs.objects.ssns_object.Statement.{statement}
 use Rattle.layouts.proofs.objects.ssns_object.Tie as tie
-use Rattle.layouts.proofs.objects.ssns_object.Reads as reads
-use Rattle.layouts.proofs.objects.ssns_object.Lts as lts
 
 returns : tie.Need-returns
 unfolding ssns

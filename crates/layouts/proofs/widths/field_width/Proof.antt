@@ -3,17 +3,6 @@ use Rattle.table.proofs.Rules.{picks}
 use borrow.Author.Needs.{needs}
 use Rattle.layouts.proofs.widths.field_width.Statement.{statement}
 use Rattle.layouts.proofs.widths.field_width.Tie as tie
-use Rattle.layouts.proofs.widths.field_width.Reads as reads
-use Rattle.layouts.proofs.widths.field_width.Lts as lts
-use Rattle.layouts.proofs.widths.control_width.Reads as control-width-reads
-use Rattle.layouts.proofs.widths.discovery_width.Reads as discovery-width-reads
-use Rattle.layouts.proofs.widths.extended_width.Reads as extended-width-reads
-use Rattle.layouts.proofs.widths.header_width.Reads as header-width-reads
-use Rattle.layouts.proofs.widths.hfi_width.Reads as hfi-width-reads
-use Rattle.layouts.proofs.widths.host_width.Reads as host-width-reads
-use Rattle.layouts.proofs.widths.info_width.Reads as info-width-reads
-use Rattle.layouts.proofs.widths.security_width.Reads as security-width-reads
-use Rattle.layouts.proofs.widths.ssns_width.Reads as ssns-width-reads
 
 header-width-requires : tie.Need-header-width-requires
 header-width-requires c κs = search needs

@@ -8,12 +8,6 @@ use Prim.Native.Nat.{ℕ}
 use borrow.Author.Needs.{needs}
 use Rattle.nbft.proofs.building.nbft_begin.Statement.{statement}
 use Rattle.nbft.proofs.building.nbft_begin.Tie as tie
-use Rattle.nbft.proofs.building.nbft_begin.Reads as reads
-use Rattle.nbft.proofs.building.nbft_begin.Lts as lts
-use Rattle.opening.proofs.begin.Reads as begin-reads
-use Rattle.states.proofs.counts_of.Reads as counts-of-reads
-use Rattle.states.proofs.show.Reads as show-reads
-use Rattle.states.proofs.state_of.Reads as state-of-reads
 
 state-of-requires : tie.Need-state-of-requires
 state-of-requires c κs = search needs

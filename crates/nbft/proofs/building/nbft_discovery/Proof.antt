@@ -5,11 +5,6 @@ use Rattle.table.specs.declared.State.{State}
 use borrow.Author.Needs.{needs}
 use Rattle.nbft.proofs.building.nbft_discovery.Statement.{statement}
 use Rattle.nbft.proofs.building.nbft_discovery.Tie as tie
-use Rattle.nbft.proofs.building.nbft_discovery.Reads as reads
-use Rattle.nbft.proofs.building.nbft_discovery.Lts as lts
-use Rattle.plain_calls.proofs.discovery.Reads as discovery-reads
-use Rattle.states.proofs.show.Reads as show-reads
-use Rattle.states.proofs.state_of.Reads as state-of-reads
 
 state-of-requires : tie.Need-state-of-requires
 state-of-requires c κs = search needs

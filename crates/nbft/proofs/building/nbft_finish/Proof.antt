@@ -6,11 +6,6 @@ use native.Mathlib.Omega.{arith}
 use borrow.Author.Needs.{needs}
 use Rattle.nbft.proofs.building.nbft_finish.Statement.{statement}
 use Rattle.nbft.proofs.building.nbft_finish.Tie as tie
-use Rattle.nbft.proofs.building.nbft_finish.Reads as reads
-use Rattle.nbft.proofs.building.nbft_finish.Lts as lts
-use Rattle.finishing.proofs.finish.Reads as finish-reads
-use Rattle.states.proofs.show.Reads as show-reads
-use Rattle.states.proofs.state_of.Reads as state-of-reads
 
 state-of-requires : tie.Need-state-of-requires
 state-of-requires c κs = search needs

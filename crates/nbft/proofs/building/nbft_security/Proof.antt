@@ -5,11 +5,6 @@ use Rattle.table.specs.declared.State.{State}
 use borrow.Author.Needs.{needs}
 use Rattle.nbft.proofs.building.nbft_security.Statement.{statement}
 use Rattle.nbft.proofs.building.nbft_security.Tie as tie
-use Rattle.nbft.proofs.building.nbft_security.Reads as reads
-use Rattle.nbft.proofs.building.nbft_security.Lts as lts
-use Rattle.plain_calls.proofs.security.Reads as security-reads
-use Rattle.states.proofs.show.Reads as show-reads
-use Rattle.states.proofs.state_of.Reads as state-of-reads
 
 state-of-requires : tie.Need-state-of-requires
 state-of-requires c κs = search needs

@@ -2,9 +2,6 @@ use mathlib.Core.Path.{refl, sym}
 use borrow.Author.Needs.{needs}
 use Rattle.parts.proofs.references.counts.Statement.{statement}
 use Rattle.parts.proofs.references.counts.Tie as tie
-use Rattle.parts.proofs.references.counts.Reads as reads
-use Rattle.parts.proofs.references.counts.Lts as lts
-use Rattle.needs.proofs.security_need.Reads as security-need-reads
 
 security-need-requires : tie.Need-security-need-requires
 security-need-requires c κs = search needs

@@ -11,11 +11,6 @@ use Rattle.parts.proofs.PartLaws.{offset-is, own-size}
 use borrow.Author.Needs.{needs}
 use Rattle.parts.proofs.references.held_span.Statement.{statement}
 use Rattle.parts.proofs.references.held_span.Tie as tie
-use Rattle.parts.proofs.references.held_span.Reads as reads
-use Rattle.parts.proofs.references.held_span.Lts as lts
-use Rattle.parts.proofs.references.object_len.Reads as object-len-reads
-use Rattle.table.proofs.base_size.Reads as base-size-reads
-use Rattle.table.proofs.reference_offsets.Reads as reference-offsets-reads
 
 reference-offsets-requires : tie.Need-reference-offsets-requires
 reference-offsets-requires c κs = search needs

@@ -1,8 +1,6 @@
 use Rattle.table.proofs.Rules.{picks}
 use Rattle.parts.proofs.references.inner_kind.Statement.{statement}
 use Rattle.parts.proofs.references.inner_kind.Tie as tie
-use Rattle.parts.proofs.references.inner_kind.Reads as reads
-use Rattle.parts.proofs.references.inner_kind.Lts as lts
 
 returns : tie.Need-returns
 returns c = search picks

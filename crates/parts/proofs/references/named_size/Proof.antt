@@ -8,10 +8,6 @@ use mathlib.Core.Path.{_≡_, ap, _∙_}
 use Rattle.table.proofs.Rules.{picks}
 use Rattle.parts.proofs.references.named_size.Statement.{statement}
 use Rattle.parts.proofs.references.named_size.Tie as tie
-use Rattle.parts.proofs.references.named_size.Reads as reads
-use Rattle.parts.proofs.references.named_size.Lts as lts
-use Rattle.parts.proofs.references.span_at.Reads as span-at-reads
-use Rattle.table.proofs.reference_offsets.Reads as reference-offsets-reads
 
 abbrev Inv-loop : tie.InvT-loop
 Inv-loop t kind a refs n total₀ i₀ total i = (i ≤ n) × (total + spansOver t kind a (drop i (refsOf kind)) ≡ spansOver t kind a (refsOf kind)) × (total ≤ 131072 * i)

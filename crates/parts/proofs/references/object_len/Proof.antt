@@ -10,10 +10,6 @@ use Rattle.reads.proofs.ObjectLaws.{plain-fits}
 use Rattle.parts.proofs.PartLaws.{place-len, never-ignored, security-len}
 use Rattle.parts.proofs.references.object_len.Statement.{statement}
 use Rattle.parts.proofs.references.object_len.Tie as tie
-use Rattle.parts.proofs.references.object_len.Reads as reads
-use Rattle.parts.proofs.references.object_len.Lts as lts
-use Rattle.parts.proofs.references.counts.Reads as counts-reads
-use Rattle.wire.proofs.u16_at.Reads as u16-at-reads
 
 add-u16-at : tie.Need-add-u16-at
 add-u16-at c = let s = c .before .before in omega (arith, plain-fits (s .args .kind) (s .args .p) (s .pre .1), s .pre .0)

@@ -4,9 +4,6 @@ use lib.Dec.{lit≤}
 use borrow.Author.Needs.{needs}
 use Rattle.parts.proofs.references.record_span.Statement.{statement}
 use Rattle.parts.proofs.references.record_span.Tie as tie
-use Rattle.parts.proofs.references.record_span.Reads as reads
-use Rattle.parts.proofs.references.record_span.Lts as lts
-use Rattle.parts.proofs.references.held_span.Reads as held-span-reads
 
 enum-told : tie.Need-enum-told
 enum-told c = search needs

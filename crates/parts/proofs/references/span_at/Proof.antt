@@ -8,13 +8,6 @@ use Rattle.parts.proofs.PartLaws.{plain-part, nest-part, one-object}
 use borrow.Author.Needs.{needs}
 use Rattle.parts.proofs.references.span_at.Statement.{statement}
 use Rattle.parts.proofs.references.span_at.Tie as tie
-use Rattle.parts.proofs.references.span_at.Reads as reads
-use Rattle.parts.proofs.references.span_at.Lts as lts
-use Rattle.layouts.proofs.has_object.Reads as has-object-reads
-use Rattle.parts.proofs.references.inner_kind.Reads as inner-kind-reads
-use Rattle.parts.proofs.references.object_len.Reads as object-len-reads
-use Rattle.parts.proofs.references.record_span.Reads as record-span-reads
-use Rattle.reads.proofs.seats.heap_record.Reads as heap-record-reads
 
 has-object-requires : tie.Need-has-object-requires
 has-object-requires c κs = search needs

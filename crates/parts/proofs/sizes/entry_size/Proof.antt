@@ -6,10 +6,6 @@ use mathlib.Core.Path.{sym, ap, _∙_}
 use borrow.Author.Needs.{needs}
 use Rattle.parts.proofs.sizes.entry_size.Statement.{statement}
 use Rattle.parts.proofs.sizes.entry_size.Tie as tie
-use Rattle.parts.proofs.sizes.entry_size.Reads as reads
-use Rattle.parts.proofs.sizes.entry_size.Lts as lts
-use Rattle.parts.proofs.references.named_size.Reads as named-size-reads
-use Rattle.parts.proofs.sizes.is_used.Reads as is-used-reads
 
 is-used-requires : tie.Need-is-used-requires
 is-used-requires c κs = search needs

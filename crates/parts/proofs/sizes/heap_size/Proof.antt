@@ -9,12 +9,6 @@ use native.Mathlib.Omega.{arith}
 use borrow.Author.Needs.{needs}
 use Rattle.parts.proofs.sizes.heap_size.Statement.{statement}
 use Rattle.parts.proofs.sizes.heap_size.Tie as tie
-use Rattle.parts.proofs.sizes.heap_size.Reads as reads
-use Rattle.parts.proofs.sizes.heap_size.Lts as lts
-use Rattle.parts.proofs.references.named_size.Reads as named-size-reads
-use Rattle.parts.proofs.sizes.entry_size.Reads as entry-size-reads
-use Rattle.parts.proofs.sizes.list_size.Reads as list-size-reads
-use Rattle.wire.proofs.u32_at.Reads as u32-at-reads
 
 named-size-requires : tie.Need-named-size-requires
 named-size-requires c κs = (c .before .pre, header-seated (c .before .args .t .now) (c .before .pre))

@@ -6,9 +6,6 @@ use native.Mathlib.Omega.{arith}
 use borrow.Author.Needs.{needs}
 use Rattle.parts.proofs.sizes.is_used.Statement.{statement}
 use Rattle.parts.proofs.sizes.is_used.Tie as tie
-use Rattle.parts.proofs.sizes.is_used.Reads as reads
-use Rattle.parts.proofs.sizes.is_used.Lts as lts
-use Rattle.table.proofs.flags_at.Reads as flags-at-reads
 
 flags-at-requires : tie.Need-flags-at-requires
 flags-at-requires c κs = search needs

@@ -14,12 +14,6 @@ use mathlib.Core.Path.{_≡_, ap, _∙_}
 use Rattle.table.proofs.Rules.{picks}
 use Rattle.parts.proofs.sizes.list_size.Statement.{statement}
 use Rattle.parts.proofs.sizes.list_size.Tie as tie
-use Rattle.parts.proofs.sizes.list_size.Reads as reads
-use Rattle.parts.proofs.sizes.list_size.Lts as lts
-use Rattle.parts.proofs.sizes.entry_size.Reads as entry-size-reads
-use Rattle.wire.proofs.u16_at.Reads as u16-at-reads
-use Rattle.wire.proofs.u32_at.Reads as u32-at-reads
-use Rattle.wire.proofs.wide.Reads as wide-reads
 
 abbrev Inv-loop : tie.InvT-loop
 Inv-loop t kind c n step a₀ sum₀ i₀ a sum i = (i ≤ n) × (a ≡ num t c 4 + i * num t (c + 4) 2) × (sum + sizeList (readList (layoutOf kind) t a (num t (c + 4) 2) (getD t (c + 7) 0 - i)) ≡ sizeList (listIn (layoutOf kind) t c)) × (sum ≤ 786432 * i) × (a ≤ 4294967296 + 65536 * i)

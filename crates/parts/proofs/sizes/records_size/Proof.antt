@@ -4,9 +4,6 @@ use native.Mathlib.Omega.{arith}
 use borrow.Author.Needs.{needs}
 use Rattle.parts.proofs.sizes.records_size.Statement.{statement}
 use Rattle.parts.proofs.sizes.records_size.Tie as tie
-use Rattle.parts.proofs.sizes.records_size.Reads as reads
-use Rattle.parts.proofs.sizes.records_size.Lts as lts
-use Rattle.wire.proofs.wide.Reads as wide-reads
 
 shared-slice-read-wide : tie.Need-shared-slice-read-wide
 shared-slice-read-wide c = omega (arith, laid (c .before .before .args .t .now) (c .before .before .pre) .lent)

@@ -3,11 +3,6 @@ use mathlib.Core.Path.{ap, _∙_}
 use borrow.Author.Needs.{needs}
 use Rattle.reads.proofs.objects.named_place.Statement.{statement}
 use Rattle.reads.proofs.objects.named_place.Tie as tie
-use Rattle.reads.proofs.objects.named_place.Reads as reads
-use Rattle.reads.proofs.objects.named_place.Lts as lts
-use Rattle.reads.proofs.objects.no_place.Reads as no-place-reads
-use Rattle.reads.proofs.objects.ref_place.Reads as ref-place-reads
-use Rattle.table.proofs.done.Reads as done-reads
 
 enum-told : tie.Need-enum-told
 enum-told c = search needs

@@ -10,12 +10,6 @@ use mathlib.Core.Path.{ap, _∙_}
 use borrow.Author.Needs.{needs}
 use Rattle.reads.proofs.objects.object_need.Statement.{statement}
 use Rattle.reads.proofs.objects.object_need.Tie as tie
-use Rattle.reads.proofs.objects.object_need.Reads as reads
-use Rattle.reads.proofs.objects.object_need.Lts as lts
-use Rattle.needs.proofs.plain_need.Reads as plain-need-reads
-use Rattle.needs.proofs.security_need.Reads as security-need-reads
-use Rattle.needs.proofs.ssns_need.Reads as ssns-need-reads
-use Rattle.records.proofs.ssns_flags.Reads as ssns-flags-reads
 
 ssns-flags-requires : tie.Need-ssns-flags-requires
 unfolding layoutOf ssns

@@ -10,12 +10,6 @@ use mathlib.Core.Path.{ap, _∙_}
 use borrow.Author.Needs.{needs}
 use Rattle.reads.proofs.objects.object_of.Statement.{statement}
 use Rattle.reads.proofs.objects.object_of.Tie as tie
-use Rattle.reads.proofs.objects.object_of.Reads as reads
-use Rattle.reads.proofs.objects.object_of.Lts as lts
-use Rattle.reads.proofs.objects.named_place.Reads as named-place-reads
-use Rattle.reads.proofs.objects.no_place.Reads as no-place-reads
-use Rattle.reads.proofs.objects.object_need.Reads as object-need-reads
-use Rattle.table.proofs.done.Reads as done-reads
 
 add-named-place : tie.Need-add-named-place
 add-named-place c = let a = c .before .before .args in omega (arith, plain-fits (a .kind) (a .off) (c .before .before .pre .1), c .before .before .pre .0)

@@ -4,12 +4,6 @@ use mathlib.Core.Path.{refl, ap, _∙_}
 use borrow.Author.Needs.{needs}
 use Rattle.reads.proofs.objects.ref_place.Statement.{statement}
 use Rattle.reads.proofs.objects.ref_place.Tie as tie
-use Rattle.reads.proofs.objects.ref_place.Reads as reads
-use Rattle.reads.proofs.objects.ref_place.Lts as lts
-use Rattle.reads.proofs.objects.no_place.Reads as no-place-reads
-use Rattle.table.proofs.done.Reads as done-reads
-use Rattle.wire.proofs.u16_at.Reads as u16-at-reads
-use Rattle.wire.proofs.u32_at.Reads as u32-at-reads
 
 add-u16-at : tie.Need-add-u16-at
 add-u16-at c = search needs

@@ -3,10 +3,6 @@ use Rattle.table.proofs.Rules.{picks}
 use borrow.Author.Needs.{needs}
 use Rattle.reads.proofs.seats.extended_at.Statement.{statement}
 use Rattle.reads.proofs.seats.extended_at.Tie as tie
-use Rattle.reads.proofs.seats.extended_at.Reads as reads
-use Rattle.reads.proofs.seats.extended_at.Lts as lts
-use Rattle.reads.proofs.seats.heap_seat.Reads as heap-seat-reads
-use Rattle.records.proofs.ssns_flags.Reads as ssns-flags-reads
 
 ssns-flags-requires : tie.Need-ssns-flags-requires
 ssns-flags-requires c κs = search needs

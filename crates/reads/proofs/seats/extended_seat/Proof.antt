@@ -4,9 +4,6 @@ use native.Mathlib.Omega.{arith}
 use borrow.Author.Needs.{needs}
 use Rattle.reads.proofs.seats.extended_seat.Statement.{statement}
 use Rattle.reads.proofs.seats.extended_seat.Tie as tie
-use Rattle.reads.proofs.seats.extended_seat.Reads as reads
-use Rattle.reads.proofs.seats.extended_seat.Lts as lts
-use Rattle.reads.proofs.seats.extended_at.Reads as extended-at-reads
 
 enum-told : tie.Need-enum-told
 enum-told c = search needs

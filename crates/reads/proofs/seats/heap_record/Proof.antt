@@ -5,10 +5,6 @@ use Rattle.table.proofs.Rules.{picks}
 use borrow.Author.Needs.{needs}
 use Rattle.reads.proofs.seats.heap_record.Statement.{statement}
 use Rattle.reads.proofs.seats.heap_record.Tie as tie
-use Rattle.reads.proofs.seats.heap_record.Reads as reads
-use Rattle.reads.proofs.seats.heap_record.Lts as lts
-use Rattle.reads.proofs.seats.extended_at.Reads as extended-at-reads
-use Rattle.reads.proofs.seats.heap_seat.Reads as heap-seat-reads
 
 add-heap-seat : tie.Need-add-heap-seat
 add-heap-seat c = search needs

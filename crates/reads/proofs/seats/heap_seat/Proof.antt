@@ -3,10 +3,6 @@ use Rattle.table.proofs.Rules.{picks}
 use borrow.Author.Needs.{needs}
 use Rattle.reads.proofs.seats.heap_seat.Statement.{statement}
 use Rattle.reads.proofs.seats.heap_seat.Tie as tie
-use Rattle.reads.proofs.seats.heap_seat.Reads as reads
-use Rattle.reads.proofs.seats.heap_seat.Lts as lts
-use Rattle.wire.proofs.u16_at.Reads as u16-at-reads
-use Rattle.wire.proofs.u32_at.Reads as u32-at-reads
 
 add-u16-at : tie.Need-add-u16-at
 add-u16-at c = search needs

@@ -4,9 +4,6 @@ use native.Mathlib.Omega.{arith}
 use borrow.Author.Needs.{needs}
 use Rattle.reads.proofs.seats.info_seat.Statement.{statement}
 use Rattle.reads.proofs.seats.info_seat.Tie as tie
-use Rattle.reads.proofs.seats.info_seat.Reads as reads
-use Rattle.reads.proofs.seats.info_seat.Lts as lts
-use Rattle.reads.proofs.seats.heap_seat.Reads as heap-seat-reads
 
 enum-told : tie.Need-enum-told
 enum-told c = search needs

@@ -9,12 +9,6 @@ use mathlib.Core.Path.{sym}
 use borrow.Author.Needs.{needs}
 use Rattle.reads.proofs.seats.list_seat.Statement.{statement}
 use Rattle.reads.proofs.seats.list_seat.Tie as tie
-use Rattle.reads.proofs.seats.list_seat.Reads as reads
-use Rattle.reads.proofs.seats.list_seat.Lts as lts
-use Rattle.table.proofs.flags_at.Reads as flags-at-reads
-use Rattle.wire.proofs.u16_at.Reads as u16-at-reads
-use Rattle.wire.proofs.u32_at.Reads as u32-at-reads
-use Rattle.wire.proofs.wide.Reads as wide-reads
 
 returns : tie.Need-returns
 returns c = let a = c .before .before .args in (sym (list-none (a .kind) (a .t .now) (a .c) (a .n) (c .if1 .taken)), search needs)

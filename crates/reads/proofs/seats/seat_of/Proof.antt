@@ -9,13 +9,6 @@ use Rattle.table.proofs.Rules.{picks}
 use borrow.Author.Needs.{needs}
 use Rattle.reads.proofs.seats.seat_of.Statement.{statement}
 use Rattle.reads.proofs.seats.seat_of.Tie as tie
-use Rattle.reads.proofs.seats.seat_of.Reads as reads
-use Rattle.reads.proofs.seats.seat_of.Lts as lts
-use Rattle.reads.proofs.seats.extended_seat.Reads as extended-seat-reads
-use Rattle.reads.proofs.seats.info_seat.Reads as info-seat-reads
-use Rattle.reads.proofs.seats.list_seat.Reads as list-seat-reads
-use Rattle.reads.proofs.seats.single_seat.Reads as single-seat-reads
-use Rattle.wire.proofs.u32_at.Reads as u32-at-reads
 
 single-seat-requires : tie.Need-single-seat-requires
 single-seat-requires c κs = search needs

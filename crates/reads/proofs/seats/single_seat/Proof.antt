@@ -2,8 +2,6 @@ use Rattle.reads.specs.Seats.{singleAt}
 use Rattle.table.proofs.Rules.{picks}
 use Rattle.reads.proofs.seats.single_seat.Statement.{statement}
 use Rattle.reads.proofs.seats.single_seat.Tie as tie
-use Rattle.reads.proofs.seats.single_seat.Reads as reads
-use Rattle.reads.proofs.seats.single_seat.Lts as lts
 
 returns : tie.Need-returns
 unfolding singleAt

@@ -6,9 +6,6 @@ use mathlib.Core.Path.{ap, _∙_}
 use borrow.Author.Needs.{needs}
 use Rattle.relaid.proofs.objects.copy_part.Statement.{statement}
 use Rattle.relaid.proofs.objects.copy_part.Tie as tie
-use Rattle.relaid.proofs.objects.copy_part.Reads as reads
-use Rattle.relaid.proofs.objects.copy_part.Lts as lts
-use Rattle.writer.proofs.stores.copy_into.Reads as copy-into-reads
 
 add-end : tie.Need-add-end
 add-end c = search needs

@@ -15,13 +15,6 @@ use Rattle.parts.specs.Parts.{refsOf, partAt, recordPart, bytesAt}
 use borrow.Author.Needs.{needs}
 use Rattle.relaid.proofs.objects.lay_held.Statement.{statement}
 use Rattle.relaid.proofs.objects.lay_held.Tie as tie
-use Rattle.relaid.proofs.objects.lay_held.Reads as reads
-use Rattle.relaid.proofs.objects.lay_held.Lts as lts
-use Rattle.relaid.proofs.objects.put_record.Reads as put-record-reads
-use Rattle.relaid.proofs.objects.lay_object.Reads as lay-object-reads
-use Rattle.table.proofs.base_size.Reads as base-size-reads
-use Rattle.table.proofs.reference_offsets.Reads as reference-offsets-reads
-use Rattle.writer.proofs.records.put_slot.Reads as put-slot-reads
 
 base-size-requires : tie.Need-base-size-requires
 base-size-requires c κs = search needs

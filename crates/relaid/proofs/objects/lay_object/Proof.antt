@@ -13,12 +13,6 @@ use Rattle.parts.specs.Parts.{partAt}
 use borrow.Author.Needs.{needs}
 use Rattle.relaid.proofs.objects.lay_object.Statement.{statement}
 use Rattle.relaid.proofs.objects.lay_object.Tie as tie
-use Rattle.relaid.proofs.objects.lay_object.Reads as reads
-use Rattle.relaid.proofs.objects.lay_object.Lts as lts
-use Rattle.parts.proofs.references.object_len.Reads as object-len-reads
-use Rattle.relaid.proofs.objects.copy_part.Reads as copy-part-reads
-use Rattle.wire.proofs.u32_at.Reads as u32-at-reads
-use Rattle.writer.proofs.records.put_slot.Reads as put-slot-reads
 
 object-len-requires : tie.Need-object-len-requires
 object-len-requires c κs = search needs

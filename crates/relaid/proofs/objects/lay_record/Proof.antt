@@ -7,10 +7,6 @@ use Rattle.parts.specs.Parts.{recordPart, recordBytes}
 use borrow.Author.Needs.{needs}
 use Rattle.relaid.proofs.objects.lay_record.Statement.{statement}
 use Rattle.relaid.proofs.objects.lay_record.Tie as tie
-use Rattle.relaid.proofs.objects.lay_record.Reads as reads
-use Rattle.relaid.proofs.objects.lay_record.Lts as lts
-use Rattle.relaid.proofs.objects.lay_held.Reads as lay-held-reads
-use Rattle.writer.proofs.records.put_slot.Reads as put-slot-reads
 
 enum-told : tie.Need-enum-told
 enum-told c = search needs

@@ -11,13 +11,6 @@ use Rattle.parts.specs.Parts.{Part, recordPart, recordBytes}
 use borrow.Author.Needs.{needs}
 use Rattle.relaid.proofs.objects.lay_reference.Statement.{statement}
 use Rattle.relaid.proofs.objects.lay_reference.Tie as tie
-use Rattle.relaid.proofs.objects.lay_reference.Reads as reads
-use Rattle.relaid.proofs.objects.lay_reference.Lts as lts
-use Rattle.layouts.proofs.has_object.Reads as has-object-reads
-use Rattle.parts.proofs.references.inner_kind.Reads as inner-kind-reads
-use Rattle.reads.proofs.seats.heap_record.Reads as heap-record-reads
-use Rattle.relaid.proofs.objects.lay_object.Reads as lay-object-reads
-use Rattle.relaid.proofs.objects.lay_record.Reads as lay-record-reads
 
 has-object-requires : tie.Need-has-object-requires
 has-object-requires c κs = search needs

@@ -11,10 +11,6 @@ use Rattle.writer.proofs.StoreLaws.{lent}
 use borrow.Author.Needs.{needs}
 use Rattle.relaid.proofs.objects.put_record.Statement.{statement}
 use Rattle.relaid.proofs.objects.put_record.Tie as tie
-use Rattle.relaid.proofs.objects.put_record.Reads as reads
-use Rattle.relaid.proofs.objects.put_record.Lts as lts
-use Rattle.images.proofs.put_image.Reads as put-image-reads
-use Rattle.table.proofs.base_size.Reads as base-size-reads
 
 base-size-requires : tie.Need-base-size-requires
 base-size-requires c κs = search needs

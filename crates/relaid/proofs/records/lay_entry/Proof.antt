@@ -12,12 +12,6 @@ use mathlib.Core.Path.{sym, ap, _∙_}
 use borrow.Author.Needs.{needs}
 use Rattle.relaid.proofs.records.lay_entry.Statement.{statement}
 use Rattle.relaid.proofs.records.lay_entry.Tie as tie
-use Rattle.relaid.proofs.records.lay_entry.Reads as reads
-use Rattle.relaid.proofs.records.lay_entry.Lts as lts
-use Rattle.parts.proofs.sizes.is_used.Reads as is-used-reads
-use Rattle.relaid.proofs.records.lay_used.Reads as lay-used-reads
-use Rattle.table.proofs.base_size.Reads as base-size-reads
-use Rattle.writer.proofs.stores.fill_zero.Reads as fill-zero-reads
 
 is-used-requires : tie.Need-is-used-requires
 is-used-requires c κs = search needs

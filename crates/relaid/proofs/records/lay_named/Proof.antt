@@ -12,10 +12,6 @@ use Rattle.parts.specs.Parts.{refsOf, partAt, bytesAt, spansOver, storesOver, o
 use Rattle.table.proofs.Rules.{picks}
 use Rattle.relaid.proofs.records.lay_named.Statement.{statement}
 use Rattle.relaid.proofs.records.lay_named.Tie as tie
-use Rattle.relaid.proofs.records.lay_named.Reads as reads
-use Rattle.relaid.proofs.records.lay_named.Lts as lts
-use Rattle.relaid.proofs.objects.lay_reference.Reads as lay-reference-reads
-use Rattle.table.proofs.reference_offsets.Reads as reference-offsets-reads
 
 abbrev Inv-loop : tie.InvT-loop
 Inv-loop out₀ d u t kind a refs n h₀ i₀ out h i = (i ≤ n) × (h + spansOver t kind a (drop i (refsOf kind)) ≡ u + spansOver t kind a (refsOf kind)) × (u ≤ h) × (length out ≡ length out₀) × (splice (applyAt out d (storesOver t kind a h (drop i (refsOf kind)))) h (objectsOver t kind a h (drop i (refsOf kind))) ≡ splice (applyAt out₀ d (storesOver t kind a u (refsOf kind))) u (objectsOver t kind a u (refsOf kind)))

@@ -11,10 +11,6 @@ use Rattle.relaid.proofs.LaidLaws.{record-laid}
 use borrow.Author.Needs.{needs}
 use Rattle.relaid.proofs.records.lay_used.Statement.{statement}
 use Rattle.relaid.proofs.records.lay_used.Tie as tie
-use Rattle.relaid.proofs.records.lay_used.Reads as reads
-use Rattle.relaid.proofs.records.lay_used.Lts as lts
-use Rattle.relaid.proofs.objects.put_record.Reads as put-record-reads
-use Rattle.relaid.proofs.records.lay_named.Reads as lay-named-reads
 
 put-record-requires : tie.Need-put-record-requires
 put-record-requires c κs = search needs

@@ -8,18 +8,10 @@ use Rattle.laws.specs.ListWalk.{base-small}
 use Rattle.parts.specs.Parts.{slotsIn}
 use Rattle.reader.proofs.AcceptedLaws.{laid}
 use Rattle.reads.proofs.SeatLaws.{header-seated, host-entered}
-use Rattle.relaid.specs.Laid.{laid as both}
 use Rattle.rewriter.proofs.FormLaws.{form-length, heap-length, front-late, form-laid}
 use borrow.Author.Needs.{needs}
 use Rattle.rewriter.proofs.rewriting.lay_form.Statement.{statement}
 use Rattle.rewriter.proofs.rewriting.lay_form.Tie as tie
-use Rattle.rewriter.proofs.rewriting.lay_form.Reads as reads
-use Rattle.rewriter.proofs.rewriting.lay_form.Lts as lts
-use Rattle.relaid.proofs.records.lay_entry.Reads as lay-entry-reads
-use Rattle.relaid_lists.proofs.lay_lists.Reads as lay-lists-reads
-use Rattle.relaid.proofs.records.lay_named.Reads as lay-named-reads
-use Rattle.rewriter.proofs.rewriting.lay_front.Reads as lay-front-reads
-use Rattle.wire.proofs.u32_at.Reads as u32-at-reads
 
 sub-h : tie.Need-sub-h
 sub-h c = let s = c .before .before in let a = s .args in let t = a .t .now in let ok = s .pre .0 .0 in let en = s .pre .0 .1 in let ek = s .pre .0 .2 in let fl = form-length t (λ i. omega (arith, c .shared-slice-known .given i)) ok in let hl = heap-length t (λ i. omega (arith, c .shared-slice-known .given i)) ok in omega (arith, en, ek, fl)

@@ -23,16 +23,6 @@ use Rattle.rewriter.proofs.AnswerLaws.{answer-is, read-refused, read-pa
 use borrow.Author.Needs.{needs}
 use Rattle.rewriter.proofs.rewriting.rewrite.Statement.{statement}
 use Rattle.rewriter.proofs.rewriting.rewrite.Tie as tie
-use Rattle.rewriter.proofs.rewriting.rewrite.Reads as reads
-use Rattle.rewriter.proofs.rewriting.rewrite.Lts as lts
-use Rattle.parts.proofs.references.object_len.Reads as object-len-reads
-use Rattle.parts.proofs.sizes.heap_size.Reads as heap-size-reads
-use Rattle.parts.proofs.sizes.records_size.Reads as records-size-reads
-use Rattle.reader.proofs.check.Reads as check-reads
-use Rattle.rewriter.proofs.rewriting.lay_form.Reads as lay-form-reads
-use Rattle.rewriter.proofs.rewriting.refused.Reads as refused-reads
-use Rattle.room.proofs.room_fault.Reads as room-fault-reads
-use Rattle.sealing.proofs.seal.Reads as seal-reads
 
 check-requires : tie.Need-check-requires
 check-requires c κs = search needs

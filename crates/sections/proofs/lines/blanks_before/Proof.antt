@@ -3,9 +3,6 @@ use lib.ListN.{length}
 use Rattle.table.proofs.Rules.{picks}
 use Rattle.sections.proofs.lines.blanks_before.Statement.{statement}
 use Rattle.sections.proofs.lines.blanks_before.Tie as tie
-use Rattle.sections.proofs.lines.blanks_before.Reads as reads
-use Rattle.sections.proofs.lines.blanks_before.Lts as lts
-use Rattle.sections.proofs.lines.is_blank.Reads as is-blank-reads
 
 abbrev Inv-loop : tie.InvT-loop
 Inv-loop text i₀ i = i ≤ length text

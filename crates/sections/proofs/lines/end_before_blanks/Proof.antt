@@ -3,9 +3,6 @@ use lib.ListN.{length}
 use Rattle.table.proofs.Rules.{picks}
 use Rattle.sections.proofs.lines.end_before_blanks.Statement.{statement}
 use Rattle.sections.proofs.lines.end_before_blanks.Tie as tie
-use Rattle.sections.proofs.lines.end_before_blanks.Reads as reads
-use Rattle.sections.proofs.lines.end_before_blanks.Lts as lts
-use Rattle.sections.proofs.lines.is_blank.Reads as is-blank-reads
 
 abbrev Inv-loop : tie.InvT-loop
 Inv-loop text n₀ n = n ≤ length text

@@ -3,12 +3,6 @@ use lib.ListN.{length}
 use Rattle.table.proofs.Rules.{picks}
 use Rattle.sections.proofs.lines.nth_section.Statement.{statement}
 use Rattle.sections.proofs.lines.nth_section.Tie as tie
-use Rattle.sections.proofs.lines.nth_section.Reads as reads
-use Rattle.sections.proofs.lines.nth_section.Lts as lts
-use Rattle.sections.proofs.lines.section_of.Reads as section-of-reads
-use Rattle.sections.proofs.lines.trimmed.Reads as trimmed-reads
-use Rattle.sections.proofs.lines.with_section.Reads as with-section-reads
-use Rattle.spelling.proofs.parts.mark_from.Reads as mark-from-reads
 
 abbrev Inv-loop : tie.InvT-loop
 Inv-loop text kind n found₀ line₀ from₀ found line from = (found .count ≤ line) × (line ≤ from) × (from ≤ length text)

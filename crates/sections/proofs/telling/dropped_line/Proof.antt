@@ -2,9 +2,6 @@ use Prim.Native.Nat.{_≤_, _-_}
 use Rattle.table.proofs.Rules.{picks}
 use Rattle.sections.proofs.telling.dropped_line.Statement.{statement}
 use Rattle.sections.proofs.telling.dropped_line.Tie as tie
-use Rattle.sections.proofs.telling.dropped_line.Reads as reads
-use Rattle.sections.proofs.telling.dropped_line.Lts as lts
-use Rattle.sections.proofs.telling.is_dropped.Reads as is-dropped-reads
 
 abbrev Inv-loop : tie.InvT-loop
 Inv-loop kind lines fields at₀ at = at ≤ 256

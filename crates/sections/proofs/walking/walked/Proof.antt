@@ -6,13 +6,6 @@ use mathlib.Core.Path.{_≡_}
 use Rattle.table.proofs.Rules.{picks}
 use Rattle.sections.proofs.walking.walked.Statement.{statement}
 use Rattle.sections.proofs.walking.walked.Tie as tie
-use Rattle.sections.proofs.walking.walked.Reads as reads
-use Rattle.sections.proofs.walking.walked.Lts as lts
-use Rattle.sections.proofs.lines.trimmed.Reads as trimmed-reads
-use Rattle.sections.proofs.walking.at_line.Reads as at-line-reads
-use Rattle.sections.proofs.walking.start.Reads as start-reads
-use Rattle.sections.proofs.walking.with_line.Reads as with-line-reads
-use Rattle.spelling.proofs.parts.mark_from.Reads as mark-from-reads
 
 abbrev Inv-loop : tie.InvT-loop
 Inv-loop text c room₀ out₀ n w₀ line₀ from₀ room out w line from = (line ≤ from) × (from ≤ n) × (n ≡ length text) × (n ≤ 18446744073709551615) × (length room ≡ length room₀) × (length out ≡ length out₀)

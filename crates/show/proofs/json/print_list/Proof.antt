@@ -2,11 +2,6 @@ use Prim.Native.Nat.{_≤_, _-_}
 use Rattle.table.proofs.Rules.{picks}
 use Rattle.show.proofs.json.print_list.Statement.{statement}
 use Rattle.show.proofs.json.print_list.Tie as tie
-use Rattle.show.proofs.json.print_list.Reads as reads
-use Rattle.show.proofs.json.print_list.Lts as lts
-use Rattle.show.proofs.json.print_position.Reads as print-position-reads
-use Rattle.show.proofs.records.count_of.Reads as count-of-reads
-use Rattle.tool.proofs.print_bytes.Reads as print-bytes-reads
 
 abbrev Inv-loop : tie.InvT-loop
 Inv-loop t name kind count i₀ t6 t7 t8 i = 0 ≤ i

@@ -2,11 +2,6 @@ use Prim.Native.Nat.{_≤_, _-_}
 use Rattle.table.proofs.Rules.{picks}
 use Rattle.show.proofs.json.print_members.Statement.{statement}
 use Rattle.show.proofs.json.print_members.Tie as tie
-use Rattle.show.proofs.json.print_members.Reads as reads
-use Rattle.show.proofs.json.print_members.Lts as lts
-use Rattle.columns.proofs.column_count.Reads as column-count-reads
-use Rattle.show.proofs.json.print_member.Reads as print-member-reads
-use Rattle.tool.proofs.print_bytes.Reads as print-bytes-reads
 
 abbrev Inv-loop : tie.InvT-loop
 Inv-loop t kind position n i₀ t6 i = 0 ≤ i

@@ -2,11 +2,6 @@ use Prim.Native.Nat.{_≤_, _-_}
 use Rattle.table.proofs.Rules.{picks}
 use Rattle.show.proofs.people.print_list.Statement.{statement}
 use Rattle.show.proofs.people.print_list.Tie as tie
-use Rattle.show.proofs.people.print_list.Reads as reads
-use Rattle.show.proofs.people.print_list.Lts as lts
-use Rattle.show.proofs.people.print_heading.Reads as print-heading-reads
-use Rattle.show.proofs.people.print_position.Reads as print-position-reads
-use Rattle.show.proofs.records.count_of.Reads as count-of-reads
 
 abbrev Inv-loop : tie.InvT-loop
 Inv-loop t heading kind count i₀ i = 0 ≤ i

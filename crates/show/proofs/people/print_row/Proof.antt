@@ -2,12 +2,6 @@ use Prim.Native.Nat.{_≤_, _-_}
 use Rattle.table.proofs.Rules.{picks}
 use Rattle.show.proofs.people.print_row.Statement.{statement}
 use Rattle.show.proofs.people.print_row.Tie as tie
-use Rattle.show.proofs.people.print_row.Reads as reads
-use Rattle.show.proofs.people.print_row.Lts as lts
-use Rattle.show.proofs.cells.print_cell.Reads as print-cell-reads
-use Rattle.columns.proofs.column_at.Reads as column-at-reads
-use Rattle.columns.proofs.column_count.Reads as column-count-reads
-use Rattle.tool.proofs.print_bytes.Reads as print-bytes-reads
 
 abbrev Inv-loop : tie.InvT-loop
 Inv-loop t kind position n i₀ t6 t7 i = 0 ≤ i

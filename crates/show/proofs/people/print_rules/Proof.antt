@@ -2,12 +2,6 @@ use Prim.Native.Nat.{_≤_, _-_}
 use Rattle.table.proofs.Rules.{picks}
 use Rattle.show.proofs.people.print_rules.Statement.{statement}
 use Rattle.show.proofs.people.print_rules.Tie as tie
-use Rattle.show.proofs.people.print_rules.Reads as reads
-use Rattle.show.proofs.people.print_rules.Lts as lts
-use Rattle.columns.proofs.column_at.Reads as column-at-reads
-use Rattle.columns.proofs.column_count.Reads as column-count-reads
-use Rattle.values.proofs.print_rule.Reads as print-rule-reads
-use Rattle.tool.proofs.print_bytes.Reads as print-bytes-reads
 
 abbrev Inv-loop : tie.InvT-loop
 Inv-loop kind n i₀ t5 t6 i = 0 ≤ i

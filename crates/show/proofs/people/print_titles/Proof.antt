@@ -2,11 +2,6 @@ use Prim.Native.Nat.{_≤_, _-_}
 use Rattle.table.proofs.Rules.{picks}
 use Rattle.show.proofs.people.print_titles.Statement.{statement}
 use Rattle.show.proofs.people.print_titles.Tie as tie
-use Rattle.show.proofs.people.print_titles.Reads as reads
-use Rattle.show.proofs.people.print_titles.Lts as lts
-use Rattle.columns.proofs.column_count.Reads as column-count-reads
-use Rattle.show.proofs.people.print_title.Reads as print-title-reads
-use Rattle.tool.proofs.print_bytes.Reads as print-bytes-reads
 
 abbrev Inv-loop : tie.InvT-loop
 Inv-loop kind n i₀ t4 t5 i = 0 ≤ i

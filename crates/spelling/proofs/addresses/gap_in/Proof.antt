@@ -4,9 +4,6 @@ use mathlib.Core.Path.{_≡_}
 use Rattle.table.proofs.Rules.{picks}
 use Rattle.spelling.proofs.addresses.gap_in.Statement.{statement}
 use Rattle.spelling.proofs.addresses.gap_in.Tie as tie
-use Rattle.spelling.proofs.addresses.gap_in.Reads as reads
-use Rattle.spelling.proofs.addresses.gap_in.Lts as lts
-use Rattle.spelling.proofs.addresses.colons_at.Reads as colons-at-reads
 
 abbrev Inv-loop : tie.InvT-loop
 Inv-loop text n i₀ i = (n ≡ length text) × (i ≤ length text)

@@ -3,12 +3,6 @@ use lib.ListN.{length}
 use Rattle.table.proofs.Rules.{picks}
 use Rattle.spelling.proofs.numbers.number_of.Statement.{statement}
 use Rattle.spelling.proofs.numbers.number_of.Tie as tie
-use Rattle.spelling.proofs.numbers.number_of.Reads as reads
-use Rattle.spelling.proofs.numbers.number_of.Lts as lts
-use Rattle.spelling.proofs.numbers.base.Reads as base-reads
-use Rattle.spelling.proofs.numbers.digit.Reads as digit-reads
-use Rattle.spelling.proofs.numbers.longer.Reads as longer-reads
-use Rattle.spelling.proofs.numbers.no_number.Reads as no-number-reads
 
 abbrev Inv-loop : tie.InvT-loop
 Inv-loop text hexadecimal value₀ i₀ value i = value ≤ 4294967295

@@ -5,8 +5,6 @@ use mathlib.Core.Path.{_≡_}
 use Rattle.table.proofs.Rules.{picks}
 use Rattle.spelling.proofs.numbers.spread.Statement.{statement}
 use Rattle.spelling.proofs.numbers.spread.Tie as tie
-use Rattle.spelling.proofs.numbers.spread.Reads as reads
-use Rattle.spelling.proofs.numbers.spread.Lts as lts
 
 abbrev Inv-loop : tie.InvT-loop
 Inv-loop value into₀ n rest₀ i₀ into rest i = (n ≡ length into₀) × (length into ≡ length into₀)

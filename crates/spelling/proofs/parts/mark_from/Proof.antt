@@ -3,8 +3,6 @@ use lib.ListN.{length}
 use Rattle.table.proofs.Rules.{picks}
 use Rattle.spelling.proofs.parts.mark_from.Statement.{statement}
 use Rattle.spelling.proofs.parts.mark_from.Tie as tie
-use Rattle.spelling.proofs.parts.mark_from.Reads as reads
-use Rattle.spelling.proofs.parts.mark_from.Lts as lts
 
 abbrev Inv-loop : tie.InvT-loop
 Inv-loop text from mark i₀ i = (from ≤ i) × (i ≤ length text)

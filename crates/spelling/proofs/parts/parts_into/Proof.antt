@@ -4,11 +4,6 @@ use mathlib.Core.Path.{_≡_}
 use Rattle.table.proofs.Rules.{picks}
 use Rattle.spelling.proofs.parts.parts_into.Statement.{statement}
 use Rattle.spelling.proofs.parts.parts_into.Tie as tie
-use Rattle.spelling.proofs.parts.parts_into.Reads as reads
-use Rattle.spelling.proofs.parts.parts_into.Lts as lts
-use Rattle.spelling.proofs.parts.mark_from.Reads as mark-from-reads
-use Rattle.spelling.proofs.parts.part_into.Reads as part-into-reads
-use Rattle.spelling.proofs.refused.Reads as refused-reads
 
 abbrev Inv-loop : tie.InvT-loop
 Inv-loop text how into₀ mark len₀ from₀ into len from = (length into ≡ length into₀) × (len ≤ length into₀) × (from ≤ length text)

@@ -3,9 +3,6 @@ use Rattle.table.proofs.Rules.{picks}
 use borrow.Author.Needs.{needs}
 use Rattle.spelling.proofs.parts.put_pair.Statement.{statement}
 use Rattle.spelling.proofs.parts.put_pair.Tie as tie
-use Rattle.spelling.proofs.parts.put_pair.Reads as reads
-use Rattle.spelling.proofs.parts.put_pair.Lts as lts
-use Rattle.spelling.proofs.refused.Reads as refused-reads
 
 refused-requires : tie.Need-refused-requires
 refused-requires c κs = search needs

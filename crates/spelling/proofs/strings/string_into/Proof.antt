@@ -5,10 +5,6 @@ use mathlib.Core.Path.{_≡_}
 use Rattle.table.proofs.Rules.{picks}
 use Rattle.spelling.proofs.strings.string_into.Statement.{statement}
 use Rattle.spelling.proofs.strings.string_into.Tie as tie
-use Rattle.spelling.proofs.strings.string_into.Reads as reads
-use Rattle.spelling.proofs.strings.string_into.Lts as lts
-use Rattle.spelling.proofs.refused.Reads as refused-reads
-use Rattle.spelling.proofs.strings.next_byte.Reads as next-byte-reads
 
 abbrev Inv-loop : tie.InvT-loop
 Inv-loop text digits into₀ most len₀ at₀ into len at = (most ≡ length into₀) × (length into ≡ length into₀) × (len ≤ most) × (at ≤ length text)

@@ -12,12 +12,6 @@ use native.Mathlib.Omega.{arith}
 use borrow.Author.Needs.{needs}
 use Rattle.steps.proofs.judging.judged.Statement.{statement}
 use Rattle.steps.proofs.judging.judged.Tie as tie
-use Rattle.steps.proofs.judging.judged.Reads as reads
-use Rattle.steps.proofs.judging.judged.Lts as lts
-use Rattle.records.proofs.right_fault.Reads as right-fault-reads
-use Rattle.table.proofs.done.Reads as done-reads
-use Rattle.table.proofs.refuse.Reads as refuse-reads
-use Rattle.turns.proofs.waits.Reads as waits-reads
 
 cast-position : tie.Need-cast-position
 cast-position c = search needs

@@ -8,9 +8,6 @@ use native.Mathlib.Omega.{arith}
 use borrow.Author.Needs.{needs}
 use Rattle.steps.proofs.laying.lay_pieces.Statement.{statement}
 use Rattle.steps.proofs.laying.lay_pieces.Tie as tie
-use Rattle.steps.proofs.laying.lay_pieces.Reads as reads
-use Rattle.steps.proofs.laying.lay_pieces.Lts as lts
-use Rattle.writer.proofs.stores.copy_into.Reads as copy-into-reads
 
 copy-into-requires : tie.Need-copy-into-requires
 copy-into-requires c κs = let n = six-long (c .before .before .before .before .before .before .before .before .args .p1 .now) (c .before .before .before .before .before .before .before .before .args .p2 .now) (c .before .before .before .before .before .before .before .before .args .p3 .now) (c .before .before .before .before .before .before .before .before .args .p4 .now) (c .before .before .before .before .before .before .before .before .args .p5 .now) (c .before .before .before .before .before .before .before .before .args .p6 .now) in omega (arith, n, c .before .before .before .before .before .before .before .before .pre)

@@ -17,13 +17,6 @@ use native.Mathlib.Omega.{arith}
 use borrow.Author.Needs.{needs}
 use Rattle.steps.proofs.laying.lay_told.Statement.{statement}
 use Rattle.steps.proofs.laying.lay_told.Tie as tie
-use Rattle.steps.proofs.laying.lay_told.Reads as reads
-use Rattle.steps.proofs.laying.lay_told.Lts as lts
-use Rattle.steps.proofs.judging.refused.Reads as refused-reads
-use Rattle.steps.proofs.laying.lay_pieces.Reads as lay-pieces-reads
-use Rattle.steps.proofs.laying.put_told.Reads as put-told-reads
-use Rattle.turns.proofs.next.Reads as next-reads
-use Rattle.room.proofs.room_fault.Reads as room-fault-reads
 
 add-room-fault : tie.Need-add-room-fault
 add-room-fault c = let v = used-bounds (c .before .before .before .before .before .before .before .before .before .args .s) (c .before .before .before .before .before .before .before .before .before .args .kind) (c .before .before .before .before .before .before .before .before .before .pre .0 .2) in omega (arith, v, c .before .before .before .before .before .before .before .before .before .pre .1 .2)

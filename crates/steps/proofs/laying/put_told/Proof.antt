@@ -15,12 +15,6 @@ use native.Mathlib.Omega.{arith}
 use borrow.Author.Needs.{needs}
 use Rattle.steps.proofs.laying.put_told.Statement.{statement}
 use Rattle.steps.proofs.laying.put_told.Tie as tie
-use Rattle.steps.proofs.laying.put_told.Reads as reads
-use Rattle.steps.proofs.laying.put_told.Lts as lts
-use Rattle.images.proofs.image_at.Reads as image-at-reads
-use Rattle.table.proofs.base_size.Reads as base-size-reads
-use Rattle.turns.proofs.place_of.Reads as place-of-reads
-use Rattle.writer.proofs.records.write_record.Reads as write-record-reads
 
 image-at-requires : tie.Need-image-at-requires
 image-at-requires c κs = search needs

@@ -3,8 +3,6 @@ use mathlib.Core.Path.{refl}
 use Rattle.table.proofs.Rules.{picks}
 use Rattle.table.proofs.kinds.base_size.Statement.{statement}
 use Rattle.table.proofs.kinds.base_size.Tie as tie
-use Rattle.table.proofs.kinds.base_size.Reads as reads
-use Rattle.table.proofs.kinds.base_size.Lts as lts
 
 returns : tie.Need-returns
 unfolding layoutOf header control host hfi ssns security discovery info extended noKind

@@ -5,9 +5,6 @@ use Rattle.table.proofs.Rules.{picks}
 use borrow.Author.Needs.{needs}
 use Rattle.table.proofs.kinds.reference_offsets.Statement.{statement}
 use Rattle.table.proofs.kinds.reference_offsets.Tie as tie
-use Rattle.table.proofs.kinds.reference_offsets.Reads as reads
-use Rattle.table.proofs.kinds.reference_offsets.Lts as lts
-use Rattle.table.proofs.kinds.offsets_of.Reads as offsets-of-reads
 
 offsets-of-requires : tie.Need-offsets-of-requires
 offsets-of-requires c κs = search needs

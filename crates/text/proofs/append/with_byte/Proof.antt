@@ -9,8 +9,6 @@ use lib.ListN.{length, set, length-set}
 use lib.Seq.{take-suc-set, length-take-le}
 use Rattle.text.proofs.append.with_byte.Statement.{statement}
 use Rattle.text.proofs.append.with_byte.Tie as tie
-use Rattle.text.proofs.append.with_byte.Reads as reads
-use Rattle.text.proofs.append.with_byte.Lts as lts
 
 element-write-longer : tie.Need-element-write-longer
 element-write-longer c = search needs

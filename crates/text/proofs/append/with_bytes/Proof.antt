@@ -10,9 +10,6 @@ use Rattle.io.specs.Counts.{Counts}
 use Rattle.text.proofs.Rules.{picks}
 use Rattle.text.proofs.append.with_bytes.Statement.{statement}
 use Rattle.text.proofs.append.with_bytes.Tie as tie
-use Rattle.text.proofs.append.with_bytes.Reads as reads
-use Rattle.text.proofs.append.with_bytes.Lts as lts
-use Rattle.text.proofs.append.with_byte.Reads as with-byte-reads
 
 abbrev Inv-loop : tie.InvT-loop
 Inv-loop s longer₀ i₀ longer i = (longer .len ≡ longer₀ .len + i) × (i ≤ length s) × Counts (longer .len) (longer .bytes) × (take (longer .len) (longer .bytes) ≡ take (longer₀ .len) (longer₀ .bytes) ++ take i s)

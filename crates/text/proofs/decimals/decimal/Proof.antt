@@ -4,10 +4,6 @@ use Rattle.text.specs.Numerals.{numeral}
 use borrow.Author.Needs.{needs}
 use Rattle.text.proofs.decimals.decimal.Statement.{statement}
 use Rattle.text.proofs.decimals.decimal.Tie as tie
-use Rattle.text.proofs.decimals.decimal.Reads as reads
-use Rattle.text.proofs.decimals.decimal.Lts as lts
-use Rattle.text.proofs.append.empty.Reads as empty-reads
-use Rattle.text.proofs.decimals.with_number.Reads as with-number-reads
 
 empty-requires : tie.Need-empty-requires
 empty-requires c κs = search needs

@@ -6,11 +6,6 @@ use lib.ListN.{take}
 use borrow.Author.Needs.{needs}
 use Rattle.text.proofs.decimals.numbers_line.Statement.{statement}
 use Rattle.text.proofs.decimals.numbers_line.Tie as tie
-use Rattle.text.proofs.decimals.numbers_line.Reads as reads
-use Rattle.text.proofs.decimals.numbers_line.Lts as lts
-use Rattle.text.proofs.append.empty.Reads as empty-reads
-use Rattle.text.proofs.append.with_byte.Reads as with-byte-reads
-use Rattle.text.proofs.decimals.with_number.Reads as with-number-reads
 
 empty-requires : tie.Need-empty-requires
 empty-requires c κs = search needs

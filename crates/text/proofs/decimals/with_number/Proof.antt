@@ -7,10 +7,6 @@ use Rattle.text.specs.Numerals.{digitsOf, numeral}
 use borrow.Author.Needs.{needs}
 use Rattle.text.proofs.decimals.with_number.Statement.{statement}
 use Rattle.text.proofs.decimals.with_number.Tie as tie
-use Rattle.text.proofs.decimals.with_number.Reads as reads
-use Rattle.text.proofs.decimals.with_number.Lts as lts
-use Rattle.text.proofs.append.with_byte.Reads as with-byte-reads
-use Rattle.text.proofs.decimals.with_digits.Reads as with-digits-reads
 
 with-digits-requires : tie.Need-with-digits-requires
 with-digits-requires c κs = search needs

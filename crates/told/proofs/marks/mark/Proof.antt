@@ -4,11 +4,6 @@ use Rattle.told.specs.Marks.{marked}
 use borrow.Author.Needs.{needs}
 use Rattle.told.proofs.marks.mark.Statement.{statement}
 use Rattle.told.proofs.marks.mark.Tie as tie
-use Rattle.told.proofs.marks.mark.Reads as reads
-use Rattle.told.proofs.marks.mark.Lts as lts
-use Rattle.table.proofs.flags_at.Reads as flags-at-reads
-use Rattle.told.proofs.marks.set_valid.Reads as set-valid-reads
-use Rattle.told.proofs.marks.stamp.Reads as stamp-reads
 
 stamp-requires : tie.Need-stamp-requires
 stamp-requires c κs = search needs

@@ -2,9 +2,6 @@ use native.Mathlib.Omega.{arith}
 use borrow.Author.Needs.{needs}
 use Rattle.told.proofs.marks.set_valid.Statement.{statement}
 use Rattle.told.proofs.marks.set_valid.Tie as tie
-use Rattle.told.proofs.marks.set_valid.Reads as reads
-use Rattle.told.proofs.marks.set_valid.Lts as lts
-use Rattle.writer.proofs.stores.put_u8.Reads as put-u8-reads
 
 slice-read-flags : tie.Need-slice-read-flags
 slice-read-flags c = search needs

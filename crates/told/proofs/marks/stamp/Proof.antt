@@ -12,12 +12,6 @@ use native.Mathlib.Omega.{arith}
 use borrow.Author.Needs.{needs}
 use Rattle.told.proofs.marks.stamp.Statement.{statement}
 use Rattle.told.proofs.marks.stamp.Tie as tie
-use Rattle.told.proofs.marks.stamp.Reads as reads
-use Rattle.told.proofs.marks.stamp.Lts as lts
-use Rattle.writer.proofs.stores.copy_into.Reads as copy-into-reads
-use Rattle.writer.proofs.stores.low.Reads as low-reads
-use Rattle.writer.proofs.stores.put_u16.Reads as put-u16-reads
-use Rattle.writer.proofs.stores.put_u8.Reads as put-u8-reads
 
 put-u8-requires : tie.Need-put-u8-requires
 unfolding layoutOf host

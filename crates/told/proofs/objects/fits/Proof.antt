@@ -3,8 +3,6 @@ use mathlib.Core.Path.{refl}
 use borrow.Author.Needs.{needs}
 use Rattle.told.proofs.objects.fits.Statement.{statement}
 use Rattle.told.proofs.objects.fits.Tie as tie
-use Rattle.told.proofs.objects.fits.Reads as reads
-use Rattle.told.proofs.objects.fits.Lts as lts
 
 enum-told : tie.Need-enum-told
 enum-told c = search needs

@@ -12,11 +12,6 @@ use native.Mathlib.Omega.{arith}
 use borrow.Author.Needs.{needs}
 use Rattle.told.proofs.objects.held.Statement.{statement}
 use Rattle.told.proofs.objects.held.Tie as tie
-use Rattle.told.proofs.objects.held.Reads as reads
-use Rattle.told.proofs.objects.held.Lts as lts
-use Rattle.images.proofs.image_at.Reads as image-at-reads
-use Rattle.table.proofs.reference_offsets.Reads as reference-offsets-reads
-use Rattle.writer.proofs.records.put_slot.Reads as put-slot-reads
 
 image-at-requires : tie.Need-image-at-requires
 image-at-requires c κs = search needs

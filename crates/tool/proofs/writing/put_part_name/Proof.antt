@@ -3,9 +3,6 @@ use Rattle.tool.proofs.NameLaws.{joined, joined-counts}
 use borrow.Author.Needs.{needs}
 use Rattle.tool.proofs.writing.put_part_name.Statement.{statement}
 use Rattle.tool.proofs.writing.put_part_name.Tie as tie
-use Rattle.tool.proofs.writing.put_part_name.Reads as reads
-use Rattle.tool.proofs.writing.put_part_name.Lts as lts
-use Rattle.bytes.proofs.copy.Reads as copy-reads
 
 add-end : tie.Need-add-end
 add-end c = search needs

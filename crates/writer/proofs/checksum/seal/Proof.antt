@@ -7,12 +7,6 @@ use mathlib.Core.Path.{ap, _∙_}
 use borrow.Author.Needs.{needs}
 use Rattle.writer.proofs.checksum.seal.Statement.{statement}
 use Rattle.writer.proofs.checksum.seal.Tie as tie
-use Rattle.writer.proofs.checksum.seal.Reads as reads
-use Rattle.writer.proofs.checksum.seal.Lts as lts
-use Rattle.wire.proofs.sum8.Reads as sum8-reads
-use Rattle.wire.proofs.wide.Reads as wide-reads
-use Rattle.writer.proofs.stores.low.Reads as low-reads
-use Rattle.writer.proofs.stores.put_u8.Reads as put-u8-reads
 
 sub-sum8 : tie.Need-sub-sum8
 sub-sum8 c = search needs

@@ -11,9 +11,6 @@ use Rattle.writer.proofs.RecordLaws.{stores-turn}
 use Rattle.table.proofs.Rules.{picks}
 use Rattle.writer.proofs.records.put_refs.Statement.{statement}
 use Rattle.writer.proofs.records.put_refs.Tie as tie
-use Rattle.writer.proofs.records.put_refs.Reads as reads
-use Rattle.writer.proofs.records.put_refs.Lts as lts
-use Rattle.writer.proofs.records.put_slot.Reads as put-slot-reads
 
 abbrev Inv-loop : tie.InvT-loop
 Inv-loop part₀ h t z n u₀ i₀ part u i = (i ≤ n) × (u ≤ 131072 + 131072 * i) × (length part ≡ length part₀) × (apply part (storesFrom (t .at) (z .len) (z .span) u i (n - i)) ≡ apply part₀ (storesFrom (t .at) (z .len) (z .span) h 0 n))

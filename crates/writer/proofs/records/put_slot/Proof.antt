@@ -2,9 +2,6 @@ use Rattle.table.proofs.Rules.{picks}
 use borrow.Author.Needs.{needs}
 use Rattle.writer.proofs.records.put_slot.Statement.{statement}
 use Rattle.writer.proofs.records.put_slot.Tie as tie
-use Rattle.writer.proofs.records.put_slot.Reads as reads
-use Rattle.writer.proofs.records.put_slot.Lts as lts
-use Rattle.writer.proofs.stores.put_ref.Reads as put-ref-reads
 
 put-ref-requires : tie.Need-put-ref-requires
 put-ref-requires c κs = search needs

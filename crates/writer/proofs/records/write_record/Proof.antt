@@ -2,10 +2,6 @@ use Rattle.writer.proofs.RecordLaws.{splice-all}
 use borrow.Author.Needs.{needs}
 use Rattle.writer.proofs.records.write_record.Statement.{statement}
 use Rattle.writer.proofs.records.write_record.Tie as tie
-use Rattle.writer.proofs.records.write_record.Reads as reads
-use Rattle.writer.proofs.records.write_record.Lts as lts
-use Rattle.writer.proofs.stores.copy_into.Reads as copy-into-reads
-use Rattle.writer.proofs.records.put_refs.Reads as put-refs-reads
 
 copy-into-requires : tie.Need-copy-into-requires
 copy-into-requires c κs = search needs

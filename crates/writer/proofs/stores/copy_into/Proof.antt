@@ -7,8 +7,6 @@ use mathlib.Core.Path.{_≡_, refl}
 use Rattle.table.proofs.Rules.{picks}
 use Rattle.writer.proofs.stores.copy_into.Statement.{statement}
 use Rattle.writer.proofs.stores.copy_into.Tie as tie
-use Rattle.writer.proofs.stores.copy_into.Reads as reads
-use Rattle.writer.proofs.stores.copy_into.Lts as lts
 
 abbrev Inv-loop : tie.InvT-loop
 Inv-loop out₀ at src i₀ out i = (i ≤ length src) × (out ≡ paste out₀ at src i) × (length out ≡ length out₀)

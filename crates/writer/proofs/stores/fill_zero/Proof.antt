@@ -8,8 +8,6 @@ use mathlib.Core.Path.{_≡_, refl}
 use Rattle.table.proofs.Rules.{picks}
 use Rattle.writer.proofs.stores.fill_zero.Statement.{statement}
 use Rattle.writer.proofs.stores.fill_zero.Tie as tie
-use Rattle.writer.proofs.stores.fill_zero.Reads as reads
-use Rattle.writer.proofs.stores.fill_zero.Lts as lts
 
 abbrev Inv-loop : tie.InvT-loop
 Inv-loop out₀ at n i₀ out i = (i ≤ n) × (out ≡ paste out₀ at (replicate n 0) i) × (length out ≡ length out₀)

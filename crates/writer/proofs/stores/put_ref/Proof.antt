@@ -4,10 +4,6 @@ use Rattle.writer.proofs.StoreLaws.{splice-join}
 use borrow.Author.Needs.{needs}
 use Rattle.writer.proofs.stores.put_ref.Statement.{statement}
 use Rattle.writer.proofs.stores.put_ref.Tie as tie
-use Rattle.writer.proofs.stores.put_ref.Reads as reads
-use Rattle.writer.proofs.stores.put_ref.Lts as lts
-use Rattle.writer.proofs.stores.put_u16.Reads as put-u16-reads
-use Rattle.writer.proofs.stores.put_u32.Reads as put-u32-reads
 
 put-u32-requires : tie.Need-put-u32-requires
 put-u32-requires c κs = search needs

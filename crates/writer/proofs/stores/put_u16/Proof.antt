@@ -4,9 +4,6 @@ use Rattle.table.proofs.Rules.{picks}
 use borrow.Author.Needs.{needs}
 use Rattle.writer.proofs.stores.put_u16.Statement.{statement}
 use Rattle.writer.proofs.stores.put_u16.Tie as tie
-use Rattle.writer.proofs.stores.put_u16.Reads as reads
-use Rattle.writer.proofs.stores.put_u16.Lts as lts
-use Rattle.writer.proofs.stores.low.Reads as low-reads
 
 low-requires : tie.Need-low-requires
 low-requires c κs = search needs

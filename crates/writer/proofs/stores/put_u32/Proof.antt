@@ -5,9 +5,6 @@ use Rattle.writer.proofs.StoreLaws.{splice-join}
 use borrow.Author.Needs.{needs}
 use Rattle.writer.proofs.stores.put_u32.Statement.{statement}
 use Rattle.writer.proofs.stores.put_u32.Tie as tie
-use Rattle.writer.proofs.stores.put_u32.Reads as reads
-use Rattle.writer.proofs.stores.put_u32.Lts as lts
-use Rattle.writer.proofs.stores.put_u16.Reads as put-u16-reads
 
 put-u16-requires : tie.Need-put-u16-requires
 put-u16-requires c κs = search needs

@@ -3,8 +3,6 @@ use native.Mathlib.Omega.{arith}
 use borrow.Author.Needs.{needs}
 use Rattle.writer.proofs.stores.put_u8.Statement.{statement}
 use Rattle.writer.proofs.stores.put_u8.Tie as tie
-use Rattle.writer.proofs.stores.put_u8.Reads as reads
-use Rattle.writer.proofs.stores.put_u8.Lts as lts
 
 slice-write-b : tie.Need-slice-write-b
 slice-write-b c = search needs
