@@ -65,6 +65,14 @@ halves true true false k i rs = (λ e. absurd (omega arith), λ n. refl)
 halves true false f k i rs = (λ e. absurd (omega arith), λ n. refl)
 halves false p f k i rs = (λ e. absurd (omega arith), λ n. refl)
 
+-- as the code has it: references by tables, objects in pieces
+pub told-slots : (l : Layout) (s : State) (buf img : List ℕ) (ss : Slots (l .refs)) (ps ns ws : List ℕ) (m n : ℕ) (h : List ℕ) → Told ss ps ns ws 0 → many ss ≡ m → n ≡ sizeOf ss
+    → h ≡ heapOf (s .used) ss → told l s buf n (apply img (storesFrom ps ns ws (s .used) 0 m)) h ≡ told l s buf (sizeOf ss) (patched (s .used) img ss) (heapOf (s .used) ss)
+told-slots l s buf img ss ps ns ws m n h t c e f =
+    ap₂ (λ (i : ℕ) (y : List ℕ). told l s buf i (apply img (storesFrom ps ns ws (s .used) 0 m)) y) e f
+    ∙ ap (λ (r : List ℕ). told l s buf (sizeOf ss) r (heapOf (s .used) ss))
+    (ap (λ (i : ℕ). apply img (storesFrom ps ns ws (s .used) 0 i)) (sym c) ∙ written ss ps ns ws img (s .used) t)
+
 module _ (l : Layout) (s : State) (buf x b : List ℕ) (objects : Slots (l .refs)) (fine : Bool) (a : Answer) (eb : b ≡ marked (l .shape) (s .position) x)
     (ea : a ≡ firstFail (judgeTests l s (imageIn l b 0) fine)) (free : Free (l .refs)) where
   abbrev img : List ℕ
@@ -98,20 +106,18 @@ module _ (l : Layout) (s : State) (buf x b : List ℕ) (objects : Slots (l .refs
         let e : fillAnswer l s (length buf) img kept ≡ a = answers ∙ h .1 (λ q. z (ap (λ (y : Answer). y .number) answer-is ∙ q)) ∙ sym answer-is in
         (rw (e, ne-eqb (a .number) 0 z) refl, rw (e, ne-eqb (a .number) 0 z) refl)
 
-    fill-passed : a .number ≡ 0 → fill l s buf x objects ≡ told l s buf (sizeOf kept) (patched (s .used) img kept) (heapOf (s .used) kept)
+    -- room and bytes are left to do
+    pub fill-passed : a .number ≡ 0 → fill l s buf x objects ≡ told l s buf (sizeOf kept) (patched (s .used) img kept) (heapOf (s .used) kept)
     unfolding fill told placed rests
     fill-passed z =
         let h = halves (waits s (l .kind)) (pairsRight (l .shape) img) fine (l .kind) (s .position) rests in
         let e : fillAnswer l s (length buf) img kept ≡ firstFail rests = answers ∙ h .0 (sym (ap (λ (y : Answer). y .number) answer-is) ∙ z) in
         ap (λ (y : Answer). outcome y s (next s (sizeOf kept)) buf (placed buf (placeOf s l) (s .used) img kept)) e
 
-    -- as the code has it: references by tables, objects in pieces
     pub fill-done : a .number ≡ 0 → (ps ns ws : List ℕ) (m n : ℕ) (h : List ℕ) → Told kept ps ns ws 0 → many kept ≡ m → n ≡ sizeOf kept → h ≡ heapOf (s .used) kept
         → told l s buf n (apply (imageIn l b 0) (storesFrom ps ns ws (s .used) 0 m)) h ≡ fill l s buf x objects
     fill-done z ps ns ws m n h t c e f =
-        ap₂ (λ (i : ℕ) (y : List ℕ). told l s buf i (apply y (storesFrom ps ns ws (s .used) 0 m)) h) e img-is
-        ∙ ap₂ (λ (r y : List ℕ). told l s buf (sizeOf kept) r y) (ap (λ (i : ℕ). apply img (storesFrom ps ns ws (s .used) 0 i)) (sym c) ∙ written kept ps ns ws img (s .used) t) f
-        ∙ sym (fill-passed z)
+        ap (λ (y : List ℕ). told l s buf n (apply y (storesFrom ps ns ws (s .used) 0 m)) h) img-is ∙ told-slots l s buf img kept ps ns ws m n h t c e f ∙ sym (fill-passed z)
 
 -- ---- the table of offsets
 

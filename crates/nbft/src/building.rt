@@ -108,19 +108,29 @@ pub extern "C" fn nbft_security(
     state: &mut [u8; 16],
     out: &mut [u8],
     told: &[u8; 64],
-    o1: &[u8],
-    o2: &[u8],
-    o3: &[u8],
-    o4: &[u8],
-    o5: &[u8],
-    o6: &[u8],
+    algorithms: &[u8],
+    protocols: &[u8],
+    ciphers: &[u8],
+    groups: &[u8],
+    hashes: &[u8],
+    keypath: &[u8],
 ) -> u32
-    ensures { λ r. ⌜ Shown (tellSecurity (stateOf (now (state .entry))) (now (out .entry)) (now (told .entry)) (now (o1 .entry)) (now (o2 .entry)) (now (o3 .entry)) (now (o4 .entry)) (now (o5 .entry)) (now (o6 .entry))) (now (state .entry)) r (now (state .exit)) (now (out .exit)) ⌝ }
+    ensures { λ r. ⌜ Shown (tellSecurity (stateOf (now (state .entry))) (now (out .entry)) (now (told .entry)) (now (algorithms .entry)) (now (protocols .entry)) (now (ciphers .entry)) (now (groups .entry)) (now (hashes .entry)) (now (keypath .entry))) (now (state .entry)) r (now (state .exit)) (now (out .exit)) ⌝ }
 {
     let before = *state;
     let bytes = *told;
     let x = Security { bytes: bytes };
-    let step = builder::security(out, state_of(before), x, o1, o2, o3, o4, o5, o6);
+    let step = builder::security(
+        out,
+        state_of(before),
+        x,
+        algorithms,
+        protocols,
+        ciphers,
+        groups,
+        hashes,
+        keypath,
+    );
     show(state, step)
 }
 

@@ -16,7 +16,7 @@ use Rattle.table.specs.Layout.{Slots, nest, none, nil, bytes, gone, rec, offset
 use Rattle.table.specs.FixedLayouts.{layoutOf, whenSet, hfi, ssns, info, extended}
 use Rattle.table.specs.Objects.{under, sizeOf, heapOf, patched, stores, refFor}
 use Rattle.table.specs.Rules.{firstFail}
-use Rattle.table.specs.Builder.{toldImage, toldSlots}
+use Rattle.table.specs.Builder.{Outcome, waits, toldImage, toldSlots}
 use Rattle.laws.specs.Fields.{imageIn, length-imageIn}
 use Rattle.laws.specs.Refusals.{lists-free}
 use Rattle.writer.specs.Stores.{storesFrom, refNum}
@@ -28,9 +28,10 @@ use Rattle.steps.proofs.LayLaws.{take-padded}
 use Rattle.told.specs.Marks.{marked}
 use Rattle.told.proofs.Laws.{image-is}
 use Rattle.steps.specs.Steps.{told, judgeTests}
+use Rattle.steps.proofs.JudgeLaws.{judge-passed}
 use Rattle.filling.specs.Calls.{hfiTold, tellHfi, pathTold, ssnsTold, tellSsns}
-use Rattle.nested_calls.specs.Nested.{ownNeed}
-use Rattle.filling.proofs.FillLaws.{Fine, length-at, three, allFine, fill-refused, fill-done, offset-at}
+use Rattle.nested_calls.specs.Nested.{ownNeed, ssnsSlots, laidSsns}
+use Rattle.filling.proofs.FillLaws.{Fine, length-at, three, allFine, fill-refused, fill-passed, fill-done, told-slots, fine-short, two-true, offset-at}
 
 -- ---- an HFI
 
@@ -78,11 +79,96 @@ module _ (s : State) (buf x b i c name : List ℕ) (a : Answer) (eb : b ≡ mark
       (offset-at ps (16 ∷ []) m 0 e (omega arith), length-at ns _ 0 en, lit< tt, length-at ws _ 0 ew ∙ omega arith, tt) (sym k) (omega arith)
       (ap (λ (y : List ℕ). y ++ (name ++ [])) w ∙ sym (append-nil (splice img₇ 104 (refFor (s .used + 128) name) ++ (name ++ []))))
 
--- ---- an SSNS record
+-- ---- an SSNS record, in b, and its extended info, in c
 
-module _ (s : State) (buf x b address service others nqn e c path : List ℕ) (need : Need) (a : Answer) (eb : b ≡ marked (layoutOf 4 .shape) (s .position) x)
-    (ec : c ≡ marked (layoutOf 9 .shape) (s .position) e) (eq : need ≡ ownNeed (imageIn ssns b 0))
-    (ea : a ≡ firstFail (judgeTests (layoutOf 4) s (imageIn (layoutOf 4) b 0) (Fine Required address && (Fine Required service && (Fine Optional others && (Fine Required nqn && Fine need path))))))
+module _ (s : State) (buf b c address service others nqn path : List ℕ) where
+  abbrev img : List ℕ
+  img = imageIn ssns b 0
+
+  abbrev inner : List ℕ
+  inner = imageIn extended c 0
+
+  -- flag 4
+  abbrev off : Bool
+  off = eqb (bits 3 2 4 4 img) 0
+
+  length-inner : length inner ≡ 18
+  unfolding extended
+  length-inner = length-imageIn extended c 0
+
+  abbrev front : ℕ
+  front = length address + length service + length others + length nqn
+
+  pub ssns-laid : (need : Need) (ps ns ws : List ℕ) (k m : ℕ) (own v : List ℕ) → need ≡ ownNeed img → m ≡ under need 0 18 → own ≡ under need [] path
+      → v ≡ take m (padded 128 (splice (imageIn (layoutOf 9) c 0) 12 (refNum (s .used + front + m) (length own))))
+      → take k ps ≡ offsets (layoutOf 4 .refs) → k ≡ length (offsets (layoutOf 4 .refs))
+      → ns ≡ length address ∷ length service ∷ length others ∷ length nqn ∷ m ∷ 0 ∷ [] → ws ≡ length address ∷ length service ∷ length others ∷ length nqn ∷ (m + length own) ∷ 0 ∷ []
+      → told (layoutOf 4) s buf (front + m + length own) (apply (imageIn (layoutOf 4) b 0) (storesFrom ps ns ws (s .used) 0 k)) (concat (address ∷ service ∷ others ∷ nqn ∷ v ∷ own ∷ []))
+      ≡ laidSsns s buf b c address service others nqn path
+  unfolding laidSsns ssnsSlots layoutOf ssns extended pathTold sizeOf heapOf patched stores ownNeed
+  ssns-laid need ps ns ws k m own v e₄ em eo ev el ek en ew =
+      let t = facts off refl in
+      told-slots ssns s buf img (under₄ off) ps ns ws k (front + m + length own) (concat (address ∷ service ∷ others ∷ nqn ∷ v ∷ own ∷ [])) (t .0) (t .1) (t .2) (t .3)
+    where
+      at : (i : ℕ) → i < k → getD ps i 0 ≡ getD (10 ∷ 16 ∷ 48 ∷ 54 ∷ 60 ∷ []) i 0
+      at i j = offset-at ps (10 ∷ 16 ∷ 48 ∷ 54 ∷ 60 ∷ []) k i el j
+
+      -- the four objects before the extended info
+      lead : Slots (nest 60 (whenSet 3 2 4 4) (extended .shape) (extended .refs) none) → Slots (ssns .refs)
+      lead ss = bytes address (bytes service (bytes others (bytes nqn ss)))
+
+      led : (ss : Slots (nest 60 (whenSet 3 2 4 4) (extended .shape) (extended .refs) none)) → Told ss ps ns ws 4 → Told (lead ss) ps ns ws 0
+      led ss t = (
+        at 0 (omega arith),
+        length-at ns _ 0 en,
+        length-at ws _ 0 ew,
+        (
+          at 1 (omega arith),
+          length-at ns _ 1 en,
+          length-at ws _ 1 ew,
+          (at 2 (omega arith), length-at ns _ 2 en, length-at ws _ 2 ew, (at 3 (omega arith), length-at ns _ 3 en, length-at ws _ 3 ew, t)),
+        ),
+      )
+
+      -- what is told where flag 4 is f
+      under₄ : Bool → Slots (ssns .refs)
+      under₄ f = lead (under (pick f Ignored Required) (gone nil) (rec inner (pathTold path) nil))
+
+      facts : (f : Bool) → off ≡ f → Told (under₄ f) ps ns ws 0 × (many (under₄ f) ≡ k) × (front + m + length own ≡ sizeOf (under₄ f))
+          × (concat (address ∷ service ∷ others ∷ nqn ∷ v ∷ own ∷ []) ≡ heapOf (s .used) (under₄ f))
+      facts true q =
+          let n₀ : need ≡ Ignored = e₄ ∙ ap (λ (g : Bool). pick g Ignored Optional) q in
+          let m₀ : m ≡ 0 = em ∙ ap (λ (n : Need). under n 0 18) n₀ in
+          let o₀ : own ≡ [] = eo ∙ ap (λ (n : Need). under n [] path) n₀ in
+          let v₀ : v ≡ [] = ev ∙ ap (λ (i : ℕ). take i (padded 128 (splice inner 12 (refNum (s .used + front + m) (length own))))) m₀ in
+          let l₀ : length own ≡ 0 = ap length o₀ in (
+            led (gone nil) (at 4 (omega arith), length-at ns _ 4 en ∙ m₀, length-at ws _ 4 ew ∙ omega arith, tt),
+            sym ek,
+            omega arith,
+            ap₂ (λ (y r : List ℕ). address ++ (service ++ (others ++ (nqn ++ (y ++ (r ++ [])))))) v₀ o₀,
+          )
+      facts false q =
+          let n₀ : need ≡ Optional = e₄ ∙ ap (λ (g : Bool). pick g Ignored Optional) q in
+          let m₀ : m ≡ 18 = em ∙ ap (λ (n : Need). under n 0 18) n₀ in
+          let o₀ : own ≡ path = eo ∙ ap (λ (n : Need). under n [] path) n₀ in
+          let l₀ : length own ≡ length path = ap length o₀ in
+          let h₀ : s .used + front + m ≡ s .used + length address + length service + length others + length nqn + 18 = omega arith in
+          let w : v ≡ splice inner 12 (refFor (s .used + length address + length service + length others + length nqn + 18) path) =
+          held-piece inner own 12 (s .used + front + m) m v ev (m₀ ∙ sym length-inner) (omega (arith, length-inner))
+          ∙ ap₂ (λ (i : ℕ) (y : List ℕ). splice inner 12 (refFor i y)) h₀ o₀ in (
+            led (rec inner (pathTold path) nil) (at 4 (omega arith), length-at ns _ 4 en ∙ m₀, lit< tt, length-at ws _ 4 ew ∙ omega arith, tt),
+            sym ek,
+            omega arith,
+            ap₂ (λ (y r : List ℕ). address ++ (service ++ (others ++ (nqn ++ (y ++ (r ++ [])))))) w o₀
+                ∙ ap (λ (y : List ℕ). address ++ (service ++ (others ++ (nqn ++ y))))
+                (sym (append-nil (splice inner 12 (refFor (s .used + length address + length service + length others + length nqn + 18) path) ++ (path ++ [])))),
+          )
+
+-- what is told of it: c is the extended info as the builder has it
+
+module _ (s : State) (buf x b address service others nqn e c path : List ℕ) (a : Answer) (eb : b ≡ marked (layoutOf 4 .shape) (s .position) x)
+    (ec : c ≡ marked (layoutOf 9 .shape) (s .position) e)
+    (ea : a ≡ firstFail (judgeTests (layoutOf 4) s (imageIn (layoutOf 4) b 0) (Fine Required address && (Fine Required service && (Fine Optional others && (Fine Required nqn && Fine (ownNeed (imageIn ssns b 0)) path))))))
   where
     abbrev img₄ : List ℕ
     img₄ = toldImage (ssns .shape) (s .position) x
@@ -90,112 +176,58 @@ module _ (s : State) (buf x b address service others nqn e c path : List ℕ) (n
     abbrev img₉ : List ℕ
     img₉ = toldImage (extended .shape) (s .position) e
 
-    need₄ : need ≡ ownNeed img₄
+    told₄ : imageIn ssns b 0 ≡ img₄
     unfolding layoutOf
-    need₄ = eq ∙ ap ownNeed (image-is ssns (s .position) x b eb)
-
-    -- flag 4
-    abbrev off : Bool
-    off = eqb (bits 3 2 4 4 img₄) 0
-
-    last-fine : (f : Bool) → off ≡ f → Fine need path
-        ≡ allFine img₄ (under (pick f Ignored Required) (gone {p = 60} {need = whenSet 3 2 4 4} {shape = extended .shape} {own = extended .refs} nil)
-        (rec {p = 60} {need = whenSet 3 2 4 4} {shape = extended .shape} img₉ (toldSlots (s .position) img₉ (pathTold path)) nil))
-    unfolding ownNeed extended pathTold toldSlots
-    last-fine true q = ap (λ (n : Need). Fine n path) (need₄ ∙ ap (λ (g : Bool). pick g Ignored Optional) q) ∙ rw q refl
-    last-fine false q = ap (λ (n : Need). Fine n path) (need₄ ∙ ap (λ (g : Bool). pick g Ignored Optional) q) ∙ rw q (three′ (Fine Optional path))
-      where
-        three′ : (f : Bool) → f ≡ ((true && (f && true)) && true)
-        three′ true = refl
-        three′ false = refl
-
-    ssns-fine : (Fine Required address && (Fine Required service && (Fine Optional others && (Fine Required nqn && Fine need path))))
-        ≡ allFine img₄ (toldSlots (s .position) img₄ (ssnsTold address service others nqn e path))
-    unfolding ssns extended ssnsTold toldSlots pathTold
-    ssns-fine = ap (λ (f : Bool). Fine Required address && (Fine Required service && (Fine Optional others && (Fine Required nqn && f)))) (last-fine off refl)
-
-    pub ssns-refused : (a .number ≡ 0 → ⊥)
-        → (record { answer = a; state = s } ≡ tellSsns s buf x address service others nqn e path .step) × (buf ≡ tellSsns s buf x address service others nqn e path .buffer)
-    unfolding tellSsns layoutOf
-    ssns-refused z = fill-refused ssns s buf x b (ssnsTold address service others nqn e path) _ a eb ea (lists-free .1 .0) ssns-fine z
-
-    length₉ : length (imageIn extended c 0) ≡ 18
-    unfolding extended
-    length₉ = length-imageIn extended c 0
+    told₄ = image-is ssns (s .position) x b eb
 
     told₉ : imageIn extended c 0 ≡ img₉
     unfolding layoutOf
     told₉ = image-is extended (s .position) e c ec
 
-    abbrev front : ℕ
-    front = length address + length service + length others + length nqn
+    last-fine : (f : Bool) → eqb (bits 3 2 4 4 img₄) 0 ≡ f → Fine (ownNeed img₄) path
+        ≡ allFine img₄ (under (pick f Ignored Required) (gone {p = 60} {need = whenSet 3 2 4 4} {shape = extended .shape} {own = extended .refs} nil)
+        (rec {p = 60} {need = whenSet 3 2 4 4} {shape = extended .shape} img₉ (toldSlots (s .position) img₉ (pathTold path)) nil))
+    unfolding ownNeed extended pathTold toldSlots
+    last-fine true q = ap (λ (g : Bool). Fine (pick g Ignored Optional) path) q ∙ rw q refl
+    last-fine false q = ap (λ (g : Bool). Fine (pick g Ignored Optional) path) q ∙ rw q (three (Fine Optional path))
 
-    pub ssns-done : a .number ≡ 0 → (ps ns ws : List ℕ) (k m : ℕ) (own v : List ℕ) → m ≡ under need 0 18 → own ≡ under need [] path
-        → v ≡ take m (padded 128 (splice (imageIn (layoutOf 9) c 0) 12 (refNum (s .used + front + m) (length own))))
-        → take k ps ≡ offsets (layoutOf 4 .refs) → k ≡ length (offsets (layoutOf 4 .refs))
-        → ns ≡ length address ∷ length service ∷ length others ∷ length nqn ∷ m ∷ 0 ∷ [] → ws ≡ length address ∷ length service ∷ length others ∷ length nqn ∷ (m + length own) ∷ 0 ∷ []
-        → told (layoutOf 4) s buf (front + m + length own) (apply (imageIn (layoutOf 4) b 0) (storesFrom ps ns ws (s .used) 0 k)) (concat (address ∷ service ∷ others ∷ nqn ∷ v ∷ own ∷ []))
-        ≡ tellSsns s buf x address service others nqn e path
-    unfolding tellSsns layoutOf ssns extended ssnsTold pathTold toldSlots sizeOf heapOf patched stores ownNeed
-    ssns-done z ps ns ws k m own v em eo ev el ek en ew =
-        let t = facts off refl in
-        fill-done ssns s buf x b (ssnsTold address service others nqn e path) _ a eb ea (lists-free .1 .0) ssns-fine z ps ns ws k (front + m + length own)
-        (concat (address ∷ service ∷ others ∷ nqn ∷ v ∷ own ∷ [])) (t .0) (t .1) (t .2) (t .3)
-      where
-        at : (i : ℕ) → i < k → getD ps i 0 ≡ getD (10 ∷ 16 ∷ 48 ∷ 54 ∷ 60 ∷ []) i 0
-        at i j = offset-at ps (10 ∷ 16 ∷ 48 ∷ 54 ∷ 60 ∷ []) k i el j
+    abbrev fine₄ : List ℕ → Bool
+    fine₄ img = Fine Required address && (Fine Required service && (Fine Optional others && (Fine Required nqn && Fine (ownNeed img) path)))
 
-        -- the four objects before the extended info
-        lead : Slots (nest 60 (whenSet 3 2 4 4) (extended .shape) (extended .refs) none) → Slots (ssns .refs)
-        lead ss = bytes address (bytes service (bytes others (bytes nqn ss)))
+    ssns-fine : fine₄ (imageIn ssns b 0) ≡ allFine img₄ (toldSlots (s .position) img₄ (ssnsTold address service others nqn e path))
+    unfolding ssns extended ssnsTold toldSlots pathTold
+    ssns-fine =
+        ap fine₄ told₄ ∙ ap (λ (f : Bool). Fine Required address && (Fine Required service && (Fine Optional others && (Fine Required nqn && f)))) (last-fine (eqb (bits 3 2 4 4 img₄) 0) refl)
 
-        led : (ss : Slots (nest 60 (whenSet 3 2 4 4) (extended .shape) (extended .refs) none)) → Told ss ps ns ws 4 → Told (lead ss) ps ns ws 0
-        led ss t = (
-          at 0 (omega arith),
-          length-at ns _ 0 en,
-          length-at ws _ 0 ew,
-          (
-            at 1 (omega arith),
-            length-at ns _ 1 en,
-            length-at ws _ 1 ew,
-            (at 2 (omega arith), length-at ns _ 2 en, length-at ws _ 2 ew, (at 3 (omega arith), length-at ns _ 3 en, length-at ws _ 3 ew, t)),
-          ),
+    pub ssns-refused : (a .number ≡ 0 → ⊥)
+        → (record { answer = a; state = s } ≡ tellSsns s buf x address service others nqn e path .step) × (buf ≡ tellSsns s buf x address service others nqn e path .buffer)
+    unfolding tellSsns layoutOf
+    ssns-refused z = fill-refused ssns s buf x b (ssnsTold address service others nqn e path) (fine₄ (imageIn ssns b 0)) a eb ea (lists-free .1 .0) ssns-fine z
+
+    pub ssns-passed : a .number ≡ 0 → (waits s (layoutOf 4 .kind) ≡ true) × (length address ≤ 65535) × (length service ≤ 65535) × (length others ≤ 65535) × (length nqn ≤ 65535)
+        × (length (under (ownNeed (imageIn ssns b 0)) [] path) ≤ 65535)
+    ssns-passed z =
+        let last : Bool = Fine (ownNeed (imageIn ssns b 0)) path in
+        let p = judge-passed (layoutOf 4) s (imageIn (layoutOf 4) b 0) (fine₄ (imageIn ssns b 0)) a ea z in
+        let a₁ = two-true (Fine Required address) (Fine Required service && (Fine Optional others && (Fine Required nqn && last))) (p .1) in
+        let a₂ = two-true (Fine Required service) (Fine Optional others && (Fine Required nqn && last)) (a₁ .1) in
+        let a₃ = two-true (Fine Optional others) (Fine Required nqn && last) (a₂ .1) in
+        let a₄ = two-true (Fine Required nqn) last (a₃ .1) in (
+          p .0,
+          fine-short Required address (a₁ .0),
+          fine-short Required service (a₂ .0),
+          fine-short Optional others (a₃ .0),
+          fine-short Required nqn (a₄ .0),
+          fine-short (ownNeed (imageIn ssns b 0)) path (a₄ .1),
         )
 
-        -- what is told where flag 4 is f
-        under₄ : Bool → Slots (ssns .refs)
-        under₄ f = lead (under (pick f Ignored Required) (gone nil) (rec img₉ (pathTold path) nil))
-
-        facts : (f : Bool) → off ≡ f → Told (under₄ f) ps ns ws 0 × (many (under₄ f) ≡ k) × (front + m + length own ≡ sizeOf (under₄ f))
-            × (concat (address ∷ service ∷ others ∷ nqn ∷ v ∷ own ∷ []) ≡ heapOf (s .used) (under₄ f))
-        facts true q =
-            let n₀ : need ≡ Ignored = need₄ ∙ ap (λ (g : Bool). pick g Ignored Optional) q in
-            let m₀ : m ≡ 0 = em ∙ ap (λ (n : Need). under n 0 18) n₀ in
-            let o₀ : own ≡ [] = eo ∙ ap (λ (n : Need). under n [] path) n₀ in
-            let v₀ : v ≡ [] = ev ∙ ap (λ (i : ℕ). take i (padded 128 (splice (imageIn extended c 0) 12 (refNum (s .used + front + m) (length own))))) m₀ in
-            let l₀ : length own ≡ 0 = ap length o₀ in (
-              led (gone nil) (at 4 (omega arith), length-at ns _ 4 en ∙ m₀, length-at ws _ 4 ew ∙ omega arith, tt),
-              sym ek,
-              omega arith,
-              ap₂ (λ (y r : List ℕ). address ++ (service ++ (others ++ (nqn ++ (y ++ (r ++ [])))))) v₀ o₀,
-            )
-        facts false q =
-            let n₀ : need ≡ Optional = need₄ ∙ ap (λ (g : Bool). pick g Ignored Optional) q in
-            let m₀ : m ≡ 18 = em ∙ ap (λ (n : Need). under n 0 18) n₀ in
-            let o₀ : own ≡ path = eo ∙ ap (λ (n : Need). under n [] path) n₀ in
-            let l₀ : length own ≡ length path = ap length o₀ in
-            let h₀ : s .used + front + m ≡ s .used + length address + length service + length others + length nqn + 18 = omega arith in
-            let w : v ≡ splice img₉ 12 (refFor (s .used + length address + length service + length others + length nqn + 18) path) =
-            held-piece (imageIn extended c 0) own 12 (s .used + front + m) m v ev (m₀ ∙ sym length₉) (omega (arith, length₉))
-            ∙ ap (λ (y : List ℕ). splice y 12 (refFor (s .used + front + m) own)) told₉
-            ∙ ap₂ (λ (i : ℕ) (y : List ℕ). splice img₉ 12 (refFor i y)) h₀ o₀ in (
-              led (rec img₉ (pathTold path) nil) (at 4 (omega arith), length-at ns _ 4 en ∙ m₀, lit< tt, length-at ws _ 4 ew ∙ omega arith, tt),
-              sym ek,
-              omega arith,
-              ap₂ (λ (y r : List ℕ). address ++ (service ++ (others ++ (nqn ++ (y ++ (r ++ [])))))) w o₀
-                  ∙ ap (λ (y : List ℕ). address ++ (service ++ (others ++ (nqn ++ y))))
-                  (sym (append-nil (splice img₉ 12 (refFor (s .used + length address + length service + length others + length nqn + 18) path) ++ (path ++ [])))),
-            )
+    pub ssns-done : a .number ≡ 0 → laidSsns s buf b c address service others nqn path ≡ tellSsns s buf x address service others nqn e path
+    unfolding laidSsns ssnsSlots tellSsns layoutOf ssns extended ssnsTold pathTold toldSlots
+    ssns-done z =
+        let laid : (img own : List ℕ) → Outcome =
+        λ img own.
+        told ssns s buf (sizeOf (ssnsSlots img address service others nqn own path)) (patched (s .used) img (ssnsSlots img address service others nqn own path)) (heapOf (s .used) (ssnsSlots img address service others nqn own path)) in
+        ap₂ laid told₄ told₉ ∙ sym (fill-passed ssns s buf x b (ssnsTold address service others nqn e path) (fine₄ (imageIn ssns b 0)) a eb ea (lists-free .1 .0) ssns-fine z)
 
 pub not-own : (img : List ℕ) (f : ℕ) → f ≡ num img 3 2 → f / 16 % 2 ≡ 0 → Ignored ≡ ownNeed img
 unfolding ownNeed

@@ -21,13 +21,18 @@ use told::objects::fits;
 use told::objects::held;
 use told::objects::kept;
 ghost use mathlib.Core.Path.{_≡_};
-ghost use Prim.Native.Nat.{_+_, _≤_};
+ghost use mathlib.Core.Bool.{true, _&&_};
+ghost use mathlib.Core.List.{[]};
+ghost use Prim.Native.Nat.{_≤_};
 ghost use lib.ListN.{length};
+ghost use Rattle.table.specs.declared.Need.the-variants.{Optional, Required};
 ghost use Rattle.table.specs.FixedLayouts as layouts;
 ghost use Rattle.table.specs.Objects.{under};
+ghost use Rattle.table.specs.Builder.{waits};
 ghost use Rattle.laws.specs.Fields.{imageIn};
 ghost use Rattle.filling.specs.Calls.{tellHfi, tellSsns};
-ghost use Rattle.nested_calls.specs.Nested.{ownNeed};
+ghost use Rattle.filling.proofs.FillLaws.{Fine};
+ghost use Rattle.nested_calls.specs.Nested.{ownNeed, laidSsns};
 
 // An HFI, its transport info, and the host name that this names.
 pub fn hfi(out: &mut [u8], s: State, x: Hfi, info: Info, name: &[u8]) -> Step
@@ -85,6 +90,65 @@ fn own_size(need: Need) -> usize
     }
 }
 
+// Whether each object of the SSNS record in `b` is as the need for it has it.
+fn ssns_fits(
+    b: &[u8],
+    address: &[u8],
+    service: &[u8],
+    others: &[u8],
+    nqn: &[u8],
+    path: &[u8],
+) -> bool
+    requires { ⌜ 128 ≤ length (now b) ⌝ }
+    ensures { λ r. ⌜ r ≡ (Fine Required (now (address .entry)) && (Fine Required (now (service .entry)) && (Fine Optional (now (others .entry)) && (Fine Required (now (nqn .entry)) && Fine (ownNeed (imageIn layouts.ssns (now (b .entry)) 0)) (now (path .entry)))))) ⌝ }
+{
+    let last = both(fits(Need::Required, nqn), fits(own_need(b), path));
+    let rest = both(fits(Need::Optional, others), last);
+    both(
+        fits(Need::Required, address),
+        both(fits(Need::Required, service), rest),
+    )
+}
+
+// The SSNS record in `b`, its objects, its extended info in `e`, and the object of this; the last two only where the record's flag 4 is set.
+fn lay_ssns(
+    out: &mut [u8],
+    s: State,
+    b: &[u8],
+    e: &[u8],
+    address: &[u8],
+    service: &[u8],
+    others: &[u8],
+    nqn: &[u8],
+    path: &[u8],
+) -> Step
+    requires { ⌜ (waits s 4 ≡ true) × (length (now b) ≡ 128) × (length (now e) ≡ 18) ⌝ }
+    requires { ⌜ (length (now address) ≤ 65535) × (length (now service) ≤ 65535) × (length (now others) ≤ 65535) × (length (now nqn) ≤ 65535) × (length (under (ownNeed (imageIn layouts.ssns (now b) 0)) [] (now path)) ≤ 65535) ⌝ }
+    ensures { λ r. ⌜ (r ≡ laidSsns s (now (out .entry)) (now (b .entry)) (now (e .entry)) (now (address .entry)) (now (service .entry)) (now (others .entry)) (now (nqn .entry)) (now (path .entry)) .step) × (now (out .exit) ≡ laidSsns s (now (out .entry)) (now (b .entry)) (now (e .entry)) (now (address .entry)) (now (service .entry)) (now (others .entry)) (now (nqn .entry)) (now (path .entry)) .buffer) ⌝ }
+{
+    let need = own_need(b);
+    let m = own_size(need);
+    let own = kept(need, path);
+    let front = address.len() + service.len() + others.len() + nqn.len();
+    let h = held(e, Extended::ID, s.used + front + m, own.len());
+    let z = nested_sizes(address, service, others, nqn, m, own);
+    lay_told(
+        out,
+        s,
+        Ssns::ID,
+        b,
+        table::reference_offsets(Ssns::ID),
+        z,
+        front + m + own.len(),
+        address,
+        service,
+        others,
+        nqn,
+        &h[0..m],
+        own,
+    )
+}
+
 // An SSNS record: address, service, secondary HFI indexes, NQN; its extended info, and the DHCP root path that this names.
 pub fn ssns(
     out: &mut [u8],
@@ -103,44 +167,10 @@ pub fn ssns(
     let b = mark_128(bytes, Ssns::ID, s.position as usize);
     let extended_bytes = extended.bytes;
     let e = mark_18(extended_bytes, Extended::ID, s.position as usize);
-    let need = own_need(&b);
-    let last = both(fits(Need::Required, nqn), fits(need, path));
-    let fine = both(
-        fits(Need::Required, address),
-        both(
-            fits(Need::Required, service),
-            both(fits(Need::Optional, others), last),
-        ),
-    );
+    let fine = ssns_fits(&b, address, service, others, nqn, path);
     let a = judged(s, Ssns::ID, &b, fine);
     if a.number != 0 {
         return refused(a, s);
     }
-    let m = own_size(need);
-    let own = kept(need, path);
-    let front = address.len() + service.len() + others.len() + nqn.len();
-    let h = held(&e, Extended::ID, s.used + front + m, own.len());
-    let z = nested_sizes(
-        address.len(),
-        service.len(),
-        others.len(),
-        nqn.len(),
-        m,
-        own.len(),
-    );
-    lay_told(
-        out,
-        s,
-        Ssns::ID,
-        &b,
-        table::reference_offsets(Ssns::ID),
-        z,
-        front + m + own.len(),
-        address,
-        service,
-        others,
-        nqn,
-        &h[0..m],
-        own,
-    )
+    lay_ssns(out, s, &b, &e, address, service, others, nqn, path)
 }

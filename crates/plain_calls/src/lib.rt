@@ -8,6 +8,7 @@ use steps::laying::lay_told;
 use table::Discovery;
 use table::Host;
 use table::Need;
+use table::Offsets;
 use table::Security;
 use table::State;
 use table::Step;
@@ -16,7 +17,46 @@ use told::marks::mark_64;
 use told::objects::fits;
 use told::objects::kept;
 ghost use mathlib.Core.Path.{_≡_};
+ghost use mathlib.Core.Bool.{true, _&&_};
+ghost use mathlib.Core.List.{[], _∷_};
+ghost use Prim.Native.Nat.{_≤_};
+ghost use lib.ListN.{length};
+ghost use Rattle.table.specs.Bytes.{apply};
+ghost use Rattle.table.specs.Layout.{baseOf};
+ghost use Rattle.table.specs.FixedLayouts as layouts;
+ghost use Rattle.table.specs.Reads.{needAt};
+ghost use Rattle.table.specs.Builder.{waits};
+ghost use Rattle.laws.specs.Fields.{imageIn};
+ghost use Rattle.writer.specs.Stores.{storesFrom, Room};
+ghost use Rattle.writer.proofs.StoreLaws.{concat};
+ghost use Rattle.steps.specs.Steps.{told};
 ghost use Rattle.filling.specs.Calls.{tellHost, tellSecurity, tellDiscovery};
+ghost use Rattle.filling.proofs.FillLaws.{Fine};
+
+// The record of a kind in `b`, whose references name objects alone, so that each takes its own length. A kind that has fewer than six is handed
+// empty ones for the rest.
+fn lay_plain(
+    out: &mut [u8],
+    s: State,
+    kind: u8,
+    b: &[u8],
+    refs: Offsets,
+    p1: &[u8],
+    p2: &[u8],
+    p3: &[u8],
+    p4: &[u8],
+    p5: &[u8],
+    p6: &[u8],
+) -> Step
+    requires { ⌜ (2 ≤ kind) × (kind ≤ 6) × (waits s kind ≡ true) × (length (now b) ≡ baseOf (layouts.layoutOf kind)) ⌝ }
+    requires { ⌜ (length (now p1) ≤ 65535) × (length (now p2) ≤ 65535) × (length (now p3) ≤ 65535) × (length (now p4) ≤ 65535) × (length (now p5) ≤ 65535) × (length (now p6) ≤ 65535) ⌝ }
+    requires { ⌜ Room (refs .count) (refs .at) (length (now p1) ∷ length (now p2) ∷ length (now p3) ∷ length (now p4) ∷ length (now p5) ∷ length (now p6) ∷ []) (baseOf (layouts.layoutOf kind)) ⌝ }
+    ensures { λ r. ⌜ (r ≡ told (layouts.layoutOf kind) s (now (out .entry)) (length (concat (now (p1 .entry) ∷ now (p2 .entry) ∷ now (p3 .entry) ∷ now (p4 .entry) ∷ now (p5 .entry) ∷ now (p6 .entry) ∷ []))) (apply (imageIn (layouts.layoutOf kind) (now (b .entry)) 0) (storesFrom (refs .at) (length (now (p1 .entry)) ∷ length (now (p2 .entry)) ∷ length (now (p3 .entry)) ∷ length (now (p4 .entry)) ∷ length (now (p5 .entry)) ∷ length (now (p6 .entry)) ∷ []) (length (now (p1 .entry)) ∷ length (now (p2 .entry)) ∷ length (now (p3 .entry)) ∷ length (now (p4 .entry)) ∷ length (now (p5 .entry)) ∷ length (now (p6 .entry)) ∷ []) (s .used) 0 (refs .count))) (concat (now (p1 .entry) ∷ now (p2 .entry) ∷ now (p3 .entry) ∷ now (p4 .entry) ∷ now (p5 .entry) ∷ now (p6 .entry) ∷ [])) .step) × (now (out .exit) ≡ told (layouts.layoutOf kind) s (now (out .entry)) (length (concat (now (p1 .entry) ∷ now (p2 .entry) ∷ now (p3 .entry) ∷ now (p4 .entry) ∷ now (p5 .entry) ∷ now (p6 .entry) ∷ []))) (apply (imageIn (layouts.layoutOf kind) (now (b .entry)) 0) (storesFrom (refs .at) (length (now (p1 .entry)) ∷ length (now (p2 .entry)) ∷ length (now (p3 .entry)) ∷ length (now (p4 .entry)) ∷ length (now (p5 .entry)) ∷ length (now (p6 .entry)) ∷ []) (length (now (p1 .entry)) ∷ length (now (p2 .entry)) ∷ length (now (p3 .entry)) ∷ length (now (p4 .entry)) ∷ length (now (p5 .entry)) ∷ length (now (p6 .entry)) ∷ []) (s .used) 0 (refs .count))) (concat (now (p1 .entry) ∷ now (p2 .entry) ∷ now (p3 .entry) ∷ now (p4 .entry) ∷ now (p5 .entry) ∷ now (p6 .entry) ∷ [])) .buffer) ⌝ }
+{
+    let z = plain_sizes(p1.len(), p2.len(), p3.len(), p4.len(), p5.len(), p6.len());
+    let n = p1.len() + p2.len() + p3.len() + p4.len() + p5.len() + p6.len();
+    lay_told(out, s, kind, b, refs, z, n, p1, p2, p3, p4, p5, p6)
+}
 
 // The host and its NQN.
 pub fn host(out: &mut [u8], s: State, x: Host, nqn: &[u8]) -> Step
@@ -28,17 +68,13 @@ pub fn host(out: &mut [u8], s: State, x: Host, nqn: &[u8]) -> Step
     if a.number != 0 {
         return refused(a, s);
     }
-    let n = nqn.len();
     let none = &nqn[0..0];
-    let z = plain_sizes(n, 0, 0, 0, 0, 0);
-    lay_told(
+    lay_plain(
         out,
         s,
         Host::ID,
         &b,
         table::reference_offsets(Host::ID),
-        z,
-        n,
         nqn,
         none,
         none,
@@ -59,18 +95,13 @@ pub fn discovery(out: &mut [u8], s: State, x: Discovery, address: &[u8], nqn: &[
     if a.number != 0 {
         return refused(a, s);
     }
-    let m = address.len();
-    let n = nqn.len();
     let none = &nqn[0..0];
-    let z = plain_sizes(m, n, 0, 0, 0, 0);
-    lay_told(
+    lay_plain(
         out,
         s,
         Discovery::ID,
         &b,
         table::reference_offsets(Discovery::ID),
-        z,
-        m + n,
         address,
         nqn,
         none,
@@ -80,55 +111,61 @@ pub fn discovery(out: &mut [u8], s: State, x: Discovery, address: &[u8], nqn: &[
     )
 }
 
+// Whether each object of the security record in `b` is as the need of its reference has it.
+fn security_fits(
+    b: &[u8],
+    algorithms: &[u8],
+    protocols: &[u8],
+    ciphers: &[u8],
+    groups: &[u8],
+    hashes: &[u8],
+    keypath: &[u8],
+) -> bool
+    requires { ⌜ 64 ≤ length (now b) ⌝ }
+    ensures { λ r. ⌜ r ≡ (Fine (needAt 6 (layouts.security .refs) (imageIn layouts.security (now (b .entry)) 0)) (now (algorithms .entry)) && (Fine (needAt 12 (layouts.security .refs) (imageIn layouts.security (now (b .entry)) 0)) (now (protocols .entry)) && (Fine (needAt 18 (layouts.security .refs) (imageIn layouts.security (now (b .entry)) 0)) (now (ciphers .entry)) && (Fine (needAt 24 (layouts.security .refs) (imageIn layouts.security (now (b .entry)) 0)) (now (groups .entry)) && (Fine (needAt 30 (layouts.security .refs) (imageIn layouts.security (now (b .entry)) 0)) (now (hashes .entry)) && Fine (needAt 36 (layouts.security .refs) (imageIn layouts.security (now (b .entry)) 0)) (now (keypath .entry))))))) ⌝ }
+{
+    let hashed = fits(security_need(b, 0, 30), hashes);
+    let keyed = fits(security_need(b, 0, 36), keypath);
+    let last = both(fits(security_need(b, 0, 24), groups), both(hashed, keyed));
+    let rest = both(fits(security_need(b, 0, 18), ciphers), last);
+    both(
+        fits(security_need(b, 0, 6), algorithms),
+        both(fits(security_need(b, 0, 12), protocols), rest),
+    )
+}
+
 // A security profile and its objects, in the order of their references: those at 6, 12, 18, 24, 30 and 36.
 pub fn security(
     out: &mut [u8],
     s: State,
     x: Security,
-    o1: &[u8],
-    o2: &[u8],
-    o3: &[u8],
-    o4: &[u8],
-    o5: &[u8],
-    o6: &[u8],
+    algorithms: &[u8],
+    protocols: &[u8],
+    ciphers: &[u8],
+    groups: &[u8],
+    hashes: &[u8],
+    keypath: &[u8],
 ) -> Step
-    ensures { λ r. ⌜ (r ≡ tellSecurity s (now (out .entry)) (x .bytes) (now (o1 .entry)) (now (o2 .entry)) (now (o3 .entry)) (now (o4 .entry)) (now (o5 .entry)) (now (o6 .entry)) .step) × (now (out .exit) ≡ tellSecurity s (now (out .entry)) (x .bytes) (now (o1 .entry)) (now (o2 .entry)) (now (o3 .entry)) (now (o4 .entry)) (now (o5 .entry)) (now (o6 .entry)) .buffer) ⌝ }
+    ensures { λ r. ⌜ (r ≡ tellSecurity s (now (out .entry)) (x .bytes) (now (algorithms .entry)) (now (protocols .entry)) (now (ciphers .entry)) (now (groups .entry)) (now (hashes .entry)) (now (keypath .entry)) .step) × (now (out .exit) ≡ tellSecurity s (now (out .entry)) (x .bytes) (now (algorithms .entry)) (now (protocols .entry)) (now (ciphers .entry)) (now (groups .entry)) (now (hashes .entry)) (now (keypath .entry)) .buffer) ⌝ }
 {
     let bytes = x.bytes;
     let b = mark_64(bytes, Security::ID, s.position as usize);
-    let n1 = security_need(&b, 0, 6);
-    let n2 = security_need(&b, 0, 12);
-    let n3 = security_need(&b, 0, 18);
-    let n4 = security_need(&b, 0, 24);
-    let n5 = security_need(&b, 0, 30);
-    let n6 = security_need(&b, 0, 36);
-    let last = both(fits(n4, o4), both(fits(n5, o5), fits(n6, o6)));
-    let fine = both(fits(n1, o1), both(fits(n2, o2), both(fits(n3, o3), last)));
+    let fine = security_fits(&b, algorithms, protocols, ciphers, groups, hashes, keypath);
     let a = judged(s, Security::ID, &b, fine);
     if a.number != 0 {
         return refused(a, s);
     }
-    let k1 = kept(n1, o1);
-    let k2 = kept(n2, o2);
-    let k3 = kept(n3, o3);
-    let k4 = kept(n4, o4);
-    let k5 = kept(n5, o5);
-    let k6 = kept(n6, o6);
-    let z = plain_sizes(k1.len(), k2.len(), k3.len(), k4.len(), k5.len(), k6.len());
-    let n = k1.len() + k2.len() + k3.len() + k4.len() + k5.len() + k6.len();
-    lay_told(
+    lay_plain(
         out,
         s,
         Security::ID,
         &b,
         table::reference_offsets(Security::ID),
-        z,
-        n,
-        k1,
-        k2,
-        k3,
-        k4,
-        k5,
-        k6,
+        kept(security_need(&b, 0, 6), algorithms),
+        kept(security_need(&b, 0, 12), protocols),
+        kept(security_need(&b, 0, 18), ciphers),
+        kept(security_need(&b, 0, 24), groups),
+        kept(security_need(&b, 0, 30), hashes),
+        kept(security_need(&b, 0, 36), keypath),
     )
 }

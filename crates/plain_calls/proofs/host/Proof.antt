@@ -1,23 +1,24 @@
-use Rattle.plain_calls.proofs.KindLaws.{host-refused, host-done}
-use Rattle.filling.proofs.FillLaws.{Fine, fine-short, refs-room, six-short}
-use Rattle.steps.proofs.LayLaws.{step-is}
-use Rattle.steps.proofs.JudgeLaws.{judge-passed}
-use Rattle.steps.specs.Steps.{judgeTests}
-use Rattle.laws.specs.Fields.{imageIn}
-use Rattle.table.specs.Builder.{Outcome}
-use Rattle.table.specs.Rules.{firstFail}
-use Rattle.table.specs.FixedLayouts.{layoutOf, host}
-use Rattle.table.specs.declared.Need.the-variants.{Required}
-use lib.Dec.{lit≤}
-use lib.ListN.{length}
-use Prim.Native.Nat.{_≤_}
-use mathlib.Core.List.{append-nil}
+use mathlib.Core.Path.{_≡_, refl, ap, _∙_}
 use mathlib.Core.Bool.{Bool}
-use mathlib.Core.Path.{_≡_, refl, sym, ap, _∙_}
-use native.Mathlib.Omega.{arith}
+use lib.ListN.{length}
+use Rattle.table.specs.declared.Need.the-variants.{Required}
+use Rattle.table.specs.FixedLayouts.{layoutOf, host}
+use Rattle.steps.proofs.JudgeLaws.{judge-passed}
+use Rattle.filling.proofs.FillLaws.{Fine, fine-short}
+use Rattle.plain_calls.proofs.KindLaws.{host-refused, host-done, plain-room}
+use lib.Dec.{lit≤}
+use Rattle.table.specs.Rules.{firstFail}
+use Rattle.table.specs.Builder.{Outcome}
+use Rattle.laws.specs.Fields.{imageIn}
+use Rattle.steps.specs.Steps.{judgeTests}
+use Rattle.steps.proofs.LayLaws.{step-is}
 use borrow.Author.Needs.{needs}
 use Rattle.plain_calls.proofs.host.Statement.{statement}
 use Rattle.plain_calls.proofs.host.Tie as tie
+
+-- what was answered, by the object
+judged-is : (c : tie.After-judged) → c .judged .result ≡ firstFail (judgeTests (layoutOf 2) (c .before .before .before .before .before .before .before .before .args .s) (imageIn (layoutOf 2) (c .before .before .before .mark-32 .result) 0) (Fine Required (c .before .before .before .before .before .before .before .before .args .nqn .now)))
+judged-is c = c .judged .ensures ∙ ap (λ (f : Bool). firstFail (judgeTests (layoutOf 2) (c .before .before .before .before .before .before .before .before .args .s) (imageIn (layoutOf 2) (c .before .before .before .mark-32 .result) 0) f)) (c .before .fits2 .ensures)
 
 cast-mark-32 : tie.Need-cast-mark-32
 cast-mark-32 c = search needs
@@ -40,7 +41,7 @@ refused-requires : tie.Need-refused-requires
 refused-requires c κs = search needs
 
 returns : tie.Need-returns
-returns c = let a = c .before .before .before .before .before .before .before .before .before .before .before .args in let b = c .before .before .before .before .before .before .mark-32 .result in let eb = c .before .before .before .before .before .before .mark-32 .ensures .0 in let ea : c .before .before .before .judged .result ≡ firstFail (judgeTests (layoutOf 2) (a .s) (imageIn (layoutOf 2) b 0) (Fine Required (a .nqn .now))) = c .before .before .before .judged .ensures ∙ ap (λ (f : Bool). firstFail (judgeTests (layoutOf 2) (a .s) (imageIn (layoutOf 2) b 0) f)) (c .before .before .before .before .fits2 .ensures) in let t = host-refused (a .s) (a .out .now) (a .x .bytes) b (a .nqn .now) (c .before .before .before .judged .result) eb ea (c .before .if1 .taken) in (step-is (c .refused .result) (c .before .before .before .judged .result) (a .s) (c .refused .ensures .0) (c .refused .ensures .1) ∙ t .0, t .1)
+returns c = let j = c .before .before .before in let a = c .before .before .before .before .before .before .before .before .before .before .before .args in let t = host-refused (c .before .before .before .before .before .before .before .before .before .before .before .args .s) (c .before .before .before .before .before .before .before .before .before .before .before .args .out .now) (c .before .before .before .before .before .before .before .before .before .before .before .args .x .bytes) (c .before .before .before .before .before .before .mark-32 .result) (c .before .before .before .before .before .before .before .before .before .before .before .args .nqn .now) (c .before .before .before .judged .result) (c .before .before .before .before .before .before .mark-32 .ensures .0) (judged-is j) (c .before .if1 .taken) in (step-is (c .refused .result) (j .judged .result) (a .s) (c .refused .ensures .0) (c .refused .ensures .1) ∙ t .0, t .1)
 
 sub-none : tie.Need-sub-none
 sub-none c = search needs
@@ -51,24 +52,21 @@ part-none-start c = search needs
 part-none-end : tie.Need-part-none-end
 part-none-end c = search needs
 
-plain-sizes-requires : tie.Need-plain-sizes-requires
-plain-sizes-requires c κs = let a = c .before .before .before .before .before .before .before .before .before .before .before .args in let b = c .before .before .before .before .before .before .mark-32 .result in let eb = c .before .before .before .before .before .before .mark-32 .ensures .0 in let ea : c .before .before .before .judged .result ≡ firstFail (judgeTests (layoutOf 2) (a .s) (imageIn (layoutOf 2) b 0) (Fine Required (a .nqn .now))) = c .before .before .before .judged .ensures ∙ ap (λ (f : Bool). firstFail (judgeTests (layoutOf 2) (a .s) (imageIn (layoutOf 2) b 0) f)) (c .before .before .before .before .fits2 .ensures) in let p = judge-passed (layoutOf 2) (a .s) (imageIn (layoutOf 2) b 0) (Fine Required (a .nqn .now)) (c .before .before .before .judged .result) ea (c .before .if1 .left) in let sh = fine-short Required (a .nqn .now) (p .1) in (sh, lit≤ tt, lit≤ tt, lit≤ tt, lit≤ tt, lit≤ tt)
-
-slice-aggregate-lay-told : tie.Need-slice-aggregate-lay-told
-slice-aggregate-lay-told c = search needs
+slice-aggregate-lay-plain : tie.Need-slice-aggregate-lay-plain
+slice-aggregate-lay-plain c = search needs
 
 reference-offsets-requires : tie.Need-reference-offsets-requires
 reference-offsets-requires c κs = search needs
 
-lay-told-requires : tie.Need-lay-told-requires
+lay-plain-requires : tie.Need-lay-plain-requires
 unfolding layoutOf host
-lay-told-requires c κs = let a = c .before .before .before .before .before .before .before .before .before .before .before .before .before .before .before .args in let b = c .before .before .before .before .before .before .before .before .before .before .mark-32 .result in let eb = c .before .before .before .before .before .before .before .before .before .before .mark-32 .ensures .0 in let ea : c .before .before .before .before .before .before .before .judged .result ≡ firstFail (judgeTests (layoutOf 2) (a .s) (imageIn (layoutOf 2) b 0) (Fine Required (a .nqn .now))) = c .before .before .before .before .before .before .before .judged .ensures ∙ ap (λ (f : Bool). firstFail (judgeTests (layoutOf 2) (a .s) (imageIn (layoutOf 2) b 0) f)) (c .before .before .before .before .before .before .before .before .fits2 .ensures) in let p = judge-passed (layoutOf 2) (a .s) (imageIn (layoutOf 2) b 0) (Fine Required (a .nqn .now)) (c .before .before .before .before .before .before .before .judged .result) ea (c .before .before .before .before .before .if1 .left) in let sh = fine-short Required (a .nqn .now) (p .1) in let r = c .reference-offsets .ensures in let z = c .before .before .before .plain-sizes .ensures in ((lit≤ tt, lit≤ tt, p .0, c .before .before .before .before .before .before .before .before .before .before .mark-32 .ensures .2), (refs-room (layoutOf 2) (c .reference-offsets .result .at) (c .before .before .before .plain-sizes .result .span) (c .reference-offsets .result .count) tt (r .0) (r .1) (r .2) (six-short (c .before .before .before .plain-sizes .result .span) _ _ _ _ _ _ (z .1) (omega (arith, sh)) (lit≤ tt) (lit≤ tt) (lit≤ tt) (lit≤ tt) (lit≤ tt)), sym (ap length (append-nil (a .nqn .now))), omega (arith, sh)))
+lay-plain-requires c κs = let r = c .reference-offsets .ensures in let a = c .before .before .before .before .before .before .before .before .before .before .before .before .before .before .args in let p = judge-passed (layoutOf 2) (a .s) (imageIn (layoutOf 2) (c .before .before .before .before .before .before .before .before .before .mark-32 .result) 0) (Fine Required (a .nqn .now)) (c .before .before .before .before .before .before .judged .result) (judged-is (c .before .before .before .before .before .before)) (c .before .before .before .before .if1 .left) in let short = fine-short Required (a .nqn .now) (p .1) in ((lit≤ tt, lit≤ tt, p .0, c .before .before .before .before .before .before .before .before .before .mark-32 .ensures .2), ((short, lit≤ tt, lit≤ tt, lit≤ tt, lit≤ tt, lit≤ tt), plain-room (layoutOf 2) (c .reference-offsets .result .at) (c .reference-offsets .result .count) (length (a .nqn .now)) 0 0 0 0 0 tt (r .0) (r .1) (r .2) short (lit≤ tt) (lit≤ tt) (lit≤ tt) (lit≤ tt) (lit≤ tt)))
 
 same-length : tie.Need-same-length
 same-length c = search needs
 
 returns-2 : tie.Need-returns-2
-returns-2 c = let a = c .before .before .before .before .before .before .before .before .before .before .before .before .before .before .before .before .before .before .args in let b = c .before .before .before .before .before .before .before .before .before .before .before .before .before .mark-32 .result in let eb = c .before .before .before .before .before .before .before .before .before .before .before .before .before .mark-32 .ensures .0 in let ea : c .before .before .before .before .before .before .before .before .before .before .judged .result ≡ firstFail (judgeTests (layoutOf 2) (a .s) (imageIn (layoutOf 2) b 0) (Fine Required (a .nqn .now))) = c .before .before .before .before .before .before .before .before .before .before .judged .ensures ∙ ap (λ (f : Bool). firstFail (judgeTests (layoutOf 2) (a .s) (imageIn (layoutOf 2) b 0) f)) (c .before .before .before .before .before .before .before .before .before .before .before .fits2 .ensures) in let r = c .before .before .before .reference-offsets .ensures in let z = c .before .before .before .before .before .before .plain-sizes .ensures in let d = host-done (a .s) (a .out .now) (a .x .bytes) b (a .nqn .now) (c .before .before .before .before .before .before .before .before .before .before .judged .result) eb ea (c .before .before .before .before .before .before .before .before .if1 .left) (c .before .before .before .reference-offsets .result .at) (c .before .before .before .before .before .before .plain-sizes .result .len) (c .before .before .before .before .before .before .plain-sizes .result .span) (c .before .before .before .reference-offsets .result .count) (r .0) (r .1) (z .0) (z .1) in (c .before .before .lay-told .ensures .0 ∙ ap (λ (o : Outcome). o .step) d, c .before .before .lay-told .ensures .1 ∙ ap (λ (o : Outcome). o .buffer) d)
+returns-2 c = let r = c .before .before .before .reference-offsets .ensures in let d = host-done (c .before .before .before .before .before .before .before .before .before .before .before .before .before .before .before .before .before .args .s) (c .before .before .before .before .before .before .before .before .before .before .before .before .before .before .before .before .before .args .out .now) (c .before .before .before .before .before .before .before .before .before .before .before .before .before .before .before .before .before .args .x .bytes) (c .before .before .before .before .before .before .before .before .before .before .before .before .mark-32 .result) (c .before .before .before .before .before .before .before .before .before .before .before .before .before .before .before .before .before .args .nqn .now) (c .before .before .before .before .before .before .before .before .before .judged .result) (c .before .before .before .before .before .before .before .before .before .before .before .before .mark-32 .ensures .0) (judged-is (c .before .before .before .before .before .before .before .before .before)) (c .before .before .before .before .before .before .before .if1 .left) (c .before .before .before .reference-offsets .result .at) (c .before .before .before .reference-offsets .result .count) (r .0) (r .1) in (c .before .before .lay-plain .ensures .0 ∙ ap (λ (o : Outcome). o .step) d, c .before .before .lay-plain .ensures .1 ∙ ap (λ (o : Outcome). o .buffer) d)
 
 pub host-spec : {M : Type 1} → statement M
 host-spec =
@@ -84,9 +82,8 @@ host-spec =
     sub-none
     part-none-start
     part-none-end
-    plain-sizes-requires
-    slice-aggregate-lay-told
+    slice-aggregate-lay-plain
     reference-offsets-requires
-    lay-told-requires
+    lay-plain-requires
     same-length
     returns-2)
