@@ -24,6 +24,14 @@ ENDED  := target/ended
 # With eight the whole test took longer than with four (docs/TIMES.md).
 export RT_JOBS ?= 4
 
+# Each prover copies what it builds on, up to some 330 MB, into a folder of its own for temporary files. In memory that takes a tenth less
+# time than on a disk: where there is room for it, and programs may be run from there, since rt runs ours so.
+MEMORY := $(shell room=$$(df --output=avail --block-size=1G /dev/shm 2>/dev/null | tail -n 1) && [ "$${room:-0}" -ge 8 ] && \
+            [ -w /dev/shm ] && ! grep -q ' /dev/shm tmpfs [^ ]*noexec' /proc/mounts && echo /dev/shm)
+ifneq ($(MEMORY),)
+export TMPDIR ?= $(MEMORY)
+endif
+
 # The library and the programs are x86-64 code. On another processor what links them is compiled for x86-64 too, by the compiler that
 # .ci/emulator installs, and an emulator runs it.
 X86 := x86_64-unknown-linux-gnu

@@ -18,7 +18,7 @@ use Rattle.addresses.specs.declared.Runs.{Runs}
 -- ---- groups
 
 -- half as many groups as bytes
-pub halved : (b : List ℕ) → (length (groups b) * 2 ≤ length b) × (length b ≤ length (groups b) * 2 + 1)
+halved : (b : List ℕ) → (length (groups b) * 2 ≤ length b) × (length b ≤ length (groups b) * 2 + 1)
 unfolding groups
 halved [] = (omega arith, omega arith)
 halved (x ∷ []) = (omega arith, omega arith)

@@ -23,7 +23,7 @@ pub struct Runs {
     pub len: usize,
 }
 
-fn wide(x: u8) -> u64
+pub fn wide(x: u8) -> u64
     ensures { λ r. ⌜ (r ≡ x) × (r < 256) ⌝ }
 {
     x as u64

@@ -1,172 +1,99 @@
-// The columns' names, printed: for people, up to a width, those that users of `nvme nbft show` know, and words without a space for JSON.
-use tool::print_bytes;
-use values::pad;
+// The columns' names, printed: for people, up to a width, those that users of `nvme nbft show` know, and words without a space for JSON. Those of
+// a kind stand in one line, in the order of its columns, with a bar between two.
 use values::print_string;
+ghost use Prim.Native.Nat.{_≤_};
+ghost use lib.ListN.{length};
 
-fn header_title(i: usize, width: usize) {
-    match i {
-        0 => print_string(b"OEM ID", false, width),
-        1 => print_string(b"OEM Table ID", false, width),
-        2 => print_string(b"OEM Revision", false, width),
-        3 => print_string(b"Creator ID", false, width),
-        4 => print_string(b"Creator Revision", false, width),
-        5 => print_string(b"Driver Signature", false, width),
-        _ => pad(0, width),
-    }
+fn bars_in(b: u8) -> usize
+    ensures { λ r. ⌜ r ≤ 1 ⌝ }
+{
+    if b == b'|' { 1 } else { 0 }
 }
 
-fn header_key(i: usize) {
-    match i {
-        0 => print_bytes(b"oem_id"),
-        1 => print_bytes(b"oem_table_id"),
-        2 => print_bytes(b"oem_revision"),
-        3 => print_bytes(b"creator_id"),
-        4 => print_bytes(b"creator_revision"),
-        5 => print_bytes(b"driver_signature"),
-        _ => print_bytes(b""),
+// Where name `i` starts: behind as many bars, or at the end.
+fn start_of(names: &[u8], i: usize) -> usize
+    ensures { λ r. ⌜ r ≤ length (now (names .entry)) ⌝ }
+{
+    let mut bars: usize = 0;
+    let mut at: usize = 0;
+    while at < names.len() {
+        if bars == i {
+            return at;
+        }
+        bars += bars_in(names[at]);
+        at += 1;
     }
+    at
 }
 
-fn host_title(i: usize, width: usize) {
-    match i {
-        0 => print_string(b"Host ID", false, width),
-        1 => print_string(b"NQN", false, width),
-        2 => print_string(b"Flags", false, width),
-        _ => pad(0, width),
+// Where the name that starts at `from` ends.
+fn end_of(names: &[u8], from: usize) -> usize
+    requires { ⌜ from ≤ length (now names) ⌝ }
+    ensures { λ r. ⌜ (from ≤ r) × (r ≤ length (now (names .entry))) ⌝ }
+{
+    let mut at = from;
+    while at < names.len() {
+        if names[at] == b'|' {
+            return at;
+        }
+        at += 1;
     }
+    at
 }
 
-fn host_key(i: usize) {
-    match i {
-        0 => print_bytes(b"host_id"),
-        1 => print_bytes(b"nqn"),
-        2 => print_bytes(b"flags"),
-        _ => print_bytes(b""),
-    }
-}
-
-fn hfi_title(i: usize, width: usize) {
-    match i {
-        0 => print_string(b"Idx", false, width),
-        1 => print_string(b"Trsp", false, width),
-        2 => print_string(b"PCI Addr", false, width),
-        3 => print_string(b"MAC Addr", false, width),
-        4 => print_string(b"DHCP", false, width),
-        5 => print_string(b"IP Addr", false, width),
-        6 => print_string(b"Mask", false, width),
-        7 => print_string(b"Gateway", false, width),
-        8 => print_string(b"DNS", false, width),
-        _ => pad(0, width),
-    }
-}
-
-fn hfi_key(i: usize) {
-    match i {
-        0 => print_bytes(b"index"),
-        1 => print_bytes(b"transport"),
-        2 => print_bytes(b"pci_address"),
-        3 => print_bytes(b"mac_address"),
-        4 => print_bytes(b"dhcp"),
-        5 => print_bytes(b"ip_address"),
-        6 => print_bytes(b"mask"),
-        7 => print_bytes(b"gateway"),
-        8 => print_bytes(b"dns"),
-        _ => print_bytes(b""),
-    }
-}
-
-fn ssns_title(i: usize, width: usize) {
-    match i {
-        0 => print_string(b"Idx", false, width),
-        1 => print_string(b"NQN", false, width),
-        2 => print_string(b"Trsp", false, width),
-        3 => print_string(b"Address", false, width),
-        4 => print_string(b"SvcId", false, width),
-        5 => print_string(b"HFIs", false, width),
-        _ => pad(0, width),
-    }
-}
-
-fn ssns_key(i: usize) {
-    match i {
-        0 => print_bytes(b"index"),
-        1 => print_bytes(b"nqn"),
-        2 => print_bytes(b"transport"),
-        3 => print_bytes(b"address"),
-        4 => print_bytes(b"service_id"),
-        5 => print_bytes(b"hfis"),
-        _ => print_bytes(b""),
-    }
-}
-
-fn security_title(i: usize, width: usize) {
-    match i {
-        0 => print_string(b"Idx", false, width),
-        1 => print_string(b"Flags", false, width),
-        2 => print_string(b"Channels", false, width),
-        3 => print_string(b"Auths", false, width),
-        4 => print_string(b"Ciphers", false, width),
-        5 => print_string(b"Groups", false, width),
-        6 => print_string(b"Hashes", false, width),
-        7 => print_string(b"Keypath", false, width),
-        _ => pad(0, width),
-    }
-}
-
-fn security_key(i: usize) {
-    match i {
-        0 => print_bytes(b"index"),
-        1 => print_bytes(b"flags"),
-        2 => print_bytes(b"channels"),
-        3 => print_bytes(b"authentications"),
-        4 => print_bytes(b"ciphers"),
-        5 => print_bytes(b"groups"),
-        6 => print_bytes(b"hashes"),
-        7 => print_bytes(b"keypath"),
-        _ => print_bytes(b""),
-    }
-}
-
-fn discovery_title(i: usize, width: usize) {
-    match i {
-        0 => print_string(b"Idx", false, width),
-        1 => print_string(b"URI", false, width),
-        2 => print_string(b"NQN", false, width),
-        _ => pad(0, width),
-    }
-}
-
-fn discovery_key(i: usize) {
-    match i {
-        0 => print_bytes(b"index"),
-        1 => print_bytes(b"uri"),
-        2 => print_bytes(b"nqn"),
-        _ => print_bytes(b""),
-    }
+// Nothing where there are fewer names.
+fn print_name(names: &[u8], i: usize, width: usize) {
+    let from = start_of(names, i);
+    let to = end_of(names, from);
+    print_string(&names[from..to], false, width);
 }
 
 // The name of column `i` of the records of a kind, for people.
 pub fn print_title(kind: u8, i: usize, width: usize) {
     match kind {
-        0 => header_title(i, width),
-        2 => host_title(i, width),
-        3 => hfi_title(i, width),
-        4 => ssns_title(i, width),
-        5 => security_title(i, width),
-        6 => discovery_title(i, width),
-        _ => pad(0, width),
+        0 => print_name(
+            b"OEM ID|OEM Table ID|OEM Revision|Creator ID|Creator Revision|Driver Signature",
+            i,
+            width,
+        ),
+        2 => print_name(b"Host ID|NQN|Flags", i, width),
+        3 => print_name(
+            b"Idx|Trsp|PCI Addr|MAC Addr|DHCP|IP Addr|Mask|Gateway|DNS",
+            i,
+            width,
+        ),
+        4 => print_name(b"Idx|NQN|Trsp|Address|SvcId|HFIs", i, width),
+        5 => print_name(
+            b"Idx|Flags|Channels|Auths|Ciphers|Groups|Hashes|Keypath",
+            i,
+            width,
+        ),
+        6 => print_name(b"Idx|URI|NQN", i, width),
+        _ => print_name(b"", i, width),
     }
 }
 
 // The same for JSON.
 pub fn print_key(kind: u8, i: usize) {
     match kind {
-        0 => header_key(i),
-        2 => host_key(i),
-        3 => hfi_key(i),
-        4 => ssns_key(i),
-        5 => security_key(i),
-        6 => discovery_key(i),
-        _ => print_bytes(b""),
+        0 => print_name(
+            b"oem_id|oem_table_id|oem_revision|creator_id|creator_revision|driver_signature",
+            i,
+            0,
+        ),
+        2 => print_name(b"host_id|nqn|flags", i, 0),
+        3 => print_name(
+            b"index|transport|pci_address|mac_address|dhcp|ip_address|mask|gateway|dns",
+            i,
+            0,
+        ),
+        4 => print_name(b"index|nqn|transport|address|service_id|hfis", i, 0),
+        5 => print_name(
+            b"index|flags|channels|authentications|ciphers|groups|hashes|keypath",
+            i,
+            0,
+        ),
+        6 => print_name(b"index|uri|nqn", i, 0),
+        _ => print_name(b"", i, 0),
     }
 }

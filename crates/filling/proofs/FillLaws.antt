@@ -149,7 +149,7 @@ six-short ws a b c d e f q ka kb kc kd ke kf i = rw q (go i) where
   go (suc (suc (suc (suc (suc (suc i)))))) = omega arith
 
 -- what fits is short
-pub fits-short : (c : Bool) (o : List ℕ) → T (c && isShort o) → length o ≤ 65535
+fits-short : (c : Bool) (o : List ℕ) → T (c && isShort o) → length o ≤ 65535
 fits-short c o t = leb→le (length o) 65535 (and-yes c (isShort o) t .1)
 
 pub two-true : (c d : Bool) → (c && d) ≡ true → (c ≡ true) × (d ≡ true)

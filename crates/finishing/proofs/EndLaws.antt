@@ -58,7 +58,7 @@ same t a n k =
     let d : drop (a + length (part t a n)) t ≡ drop n (drop a t) = ap (λ (m : ℕ). drop (a + m) t) l ∙ sym (drop-drop n a t) in
     ap (λ (u : List ℕ). take a t ++ (part t a n ++ u)) d ∙ ap (λ (u : List ℕ). take a t ++ u) (take-append-drop n (drop a t)) ∙ take-append-drop a t
 
-pub put-back : (t : List ℕ) (a : ℕ) (xs ys : List ℕ) → ys ≡ part t a (length xs) → a + length xs ≤ length t → splice (splice t a xs) a ys ≡ t
+put-back : (t : List ℕ) (a : ℕ) (xs ys : List ℕ) → ys ≡ part t a (length xs) → a + length xs ≤ length t → splice (splice t a xs) a ys ≡ t
 put-back t a xs ys e k =
     let l : length ys ≡ length xs = ap length e ∙ length-take-le (length xs) (drop a t) (rw length-drop (omega arith)) in
     over t a xs ys (sym l) k ∙ ap (splice t a) e ∙ same t a (length xs) k
@@ -70,7 +70,7 @@ small-part t a n b i = go (ltb i n) refl
     go true q = rw (getD-take n (drop a t) i 0 (ltb-true i n q), getD-drop a t i 0) (b (a + i))
     go false q = rw (List·getD-eq-default {A = ℕ} (part t a n) 0 {n = i} (omega (arith, ltb-false i n q, length-take n (drop a t)))) (lit< tt)
 
-pub le-part : (t : List ℕ) (a n : ℕ) → ((i : ℕ) → getD t i 0 < 256) → a + n ≤ length t → le n (num t a n) ≡ part t a n
+le-part : (t : List ℕ) (a n : ℕ) → ((i : ℕ) → getD t i 0 < 256) → a + n ≤ length t → le n (num t a n) ≡ part t a n
 le-part t a n b k =
     let l : length (part t a n) ≡ n = length-take-le n (drop a t) (rw length-drop (omega arith)) in
     ap (λ (m : ℕ). le m (num t a n)) (sym l) ∙ le-val (length (part t a n)) (part t a n) refl (small-part t a n b)

@@ -27,7 +27,7 @@ numberOf a = a .number
 
 -- ---- where done, the table is accepted, and its form keeps the limit and fits
 
-pub done-tells : (t : List ℕ) (room : ℕ) → rewriteAnswer t room .number ≡ 0 → (check t .number ≡ 0) × (formLength (meaning t) ≤ limit) × (formLength (meaning t) ≤ room)
+done-tells : (t : List ℕ) (room : ℕ) → rewriteAnswer t room .number ≡ 0 → (check t .number ≡ 0) × (formLength (meaning t) ≤ limit) × (formLength (meaning t) ≤ room)
 unfolding limit
 done-tells t room e = go (eqb (check t .number) 0) refl where
   go : (c : Bool) → eqb (check t .number) 0 ≡ c → (check t .number ≡ 0) × (formLength (meaning t) ≤ limit) × (formLength (meaning t) ≤ room)

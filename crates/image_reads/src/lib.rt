@@ -39,7 +39,7 @@ fn image_of(t: &[u8], kind: u8, a: usize, used: bool) -> Image
     ensures { λ r. ⌜ r ≡ imageAt (now (t .entry)) (seat (layoutOf kind) a used) ⌝ }
 {
     let bytes = image_bytes(t, kind, a, used);
-    let len = table::base_size(kind);
+    let len = kinds::base_size(kind);
     let answer = table::done();
     Image {
         answer: answer,

@@ -8,6 +8,7 @@ use native.Mathlib.Numerals.{add-one}
 use native.Mathlib.Omega.{arith}
 use lib.Bits.{bitAnd, and-mask}
 use lib.Dec.{T, eqb, eqb→eq}
+use lib.Ieee.Bits.{is-true}
 use lib.ListN.{length, getD, take, drop, replicate, set, length-take, length-drop, List·getD-append}
 use lib.Seq.{take-suc, drop-cons, append-snoc, set-at, length-take-le, take-length, getD-drop, getD-take}
 use mir.Facts.{and-yes}
@@ -87,16 +88,12 @@ mask-at more [] i = refl
 mask-at more (k ∷ ks) zero = refl
 mask-at more (k ∷ ks) (suc i) = mask-at more ks i
 
-T-true : (c : Bool) → T c → c ≡ true
-T-true true t = refl
-T-true false t = absurd t
-
 -- the flag that the code looks at is the layout's
 more-is : (k : ℕ) (t : List ℕ) (a f d : ℕ) → T (switched k) → f ≡ switchOf k → d ≡ 4 → onIn k t a ≡ not (eqb (getD (drop a t) f 0 % (2 * d) / d) 0)
 unfolding onIn
 more-is k t a f d s e g =
     rw (e, g, getD-drop a t (switchOf k) 0)
-    (ap (λ (c : Bool). pick c (not (eqb (getD t (a + switchOf k) 0 % 8 / 4) 0)) false) (T-true (switched k) s))
+    (ap (λ (c : Bool). pick c (not (eqb (getD t (a + switchOf k) 0 % 8 / 4) 0)) false) (is-true (switched k) s))
 
 masked-by : (k : ℕ) (t : List ℕ) (a b : ℕ) (p : Keep) → T (maskable k p) → bitAnd b (maskOf (onIn k t a) p) ≡ b % modOf p (drop a t)
 masked-by k t a b (low n) m = and-power b n m

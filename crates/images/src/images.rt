@@ -15,7 +15,7 @@ pub fn put_image(out: &mut [u8], d: usize, t: &[u8], kind: u8, a: usize)
     ensures { λ r. ⌜ now (out .exit) ≡ splice (now (out .entry)) d (imageIn (layoutOf kind) (now (t .entry)) a) ⌝ }
 {
     let masks = masks_of(kind, counts_more(t, kind, a));
-    let n = table::base_size(kind);
+    let n = kinds::base_size(kind);
     let mut i: usize = 0;
     while i < n {
         out[d + i] = t[a + i] & masks[i];

@@ -43,11 +43,11 @@ abbrev pub stepOf : {l : Layout} → List (Entry l) → ℕ
 stepOf {l} [] = 0
 stepOf {l} (e ∷ es) = baseOf l
 
-pub place-list : {l : Layout} (t : List ℕ) (c a : ℕ) (es : List (Entry l)) → a < 256 ^ 4 → baseOf l < 65536 → Holds t c (entry8 a es) → Place t c (offOf a es) (stepOf es) (length es)
+place-list : {l : Layout} (t : List ℕ) (c a : ℕ) (es : List (Entry l)) → a < 256 ^ 4 → baseOf l < 65536 → Holds t c (entry8 a es) → Place t c (offOf a es) (stepOf es) (length es)
 place-list t c a [] k o h = place t c 0 0 0 (lit< tt) (lit< tt) h
 place-list {l} t c a (e ∷ es) k o h = place t c a (baseOf l) (length (e ∷ es)) k o h
 
-pub length-entry8 : {l : Layout} (a : ℕ) (es : List (Entry l)) → length (entry8 a es) ≡ 8
+length-entry8 : {l : Layout} (a : ℕ) (es : List (Entry l)) → length (entry8 a es) ≡ 8
 length-entry8 a [] = refl
 length-entry8 a (e ∷ es) = refl
 
@@ -91,7 +91,7 @@ pub record LaidList {l : Layout} (t : List ℕ) (c a h : ℕ) (es : List (Entry 
   pub recs : Holds t a (recsList h es)
   pub heap : Holds t h (heapList h es)
 
-pub laid-one : {l : Layout} {ls : List Layout} (t : List ℕ) (c a h : ℕ) (es : List (Entry l)) (rest : Body ls) → T (allOk (l ∷ ls)) → Laid t c a h (more es rest) → LaidList t c a h es
+laid-one : {l : Layout} {ls : List Layout} (t : List ℕ) (c a h : ℕ) (es : List (Entry l)) (rest : Body ls) → T (allOk (l ∷ ls)) → Laid t c a h (more es rest) → LaidList t c a h es
 unfolding placesBody recsBody heapBody spanBody sizeBody
 laid-one {l} {ls} t c a h es rest k d =
     let o = ok-layout l (and-yes (okLayout l) (allOk ls) k .0) in
@@ -104,7 +104,7 @@ laid-one {l} {ls} t c a h es rest k d =
       heap = holds-left t h (heapList h es) (heapBody (h + sizeList es) rest) (d .heap);
     }
 
-pub laid-rest : {l : Layout} {ls : List Layout} (count : ℕ → ℕ) (t : List ℕ) (c a h : ℕ) (es : List (Entry l)) (rest : Body ls) → T (allOk (l ∷ ls)) → FitList count 1 es
+laid-rest : {l : Layout} {ls : List Layout} (count : ℕ → ℕ) (t : List ℕ) (c a h : ℕ) (es : List (Entry l)) (rest : Body ls) → T (allOk (l ∷ ls)) → FitList count 1 es
     → Laid t c a h (more es rest) → Laid t (c + 8) (a + length es * baseOf l) (h + sizeList es) rest
 unfolding placesBody recsBody heapBody spanBody sizeBody
 laid-rest {l} {ls} count t c a h es rest k f d =
@@ -170,7 +170,7 @@ chain-apart lo hi [] k = tt
 chain-apart lo hi (r ∷ rs) k =
     yes-and (apartAll r rs) _ (chain-after r (r .at + r .len) hi rs (omega arith) (k .1)) (chain-apart (r .at + r .len) hi rs (k .1))
 
-pub chain-cons : (lo hi : ℕ) (c : Bool) (x : Region) (rs : List Region) → T c → lo ≤ x .at → Chain (x .at + x .len) hi rs → Chain lo hi (consIf c x rs)
+chain-cons : (lo hi : ℕ) (c : Bool) (x : Region) (rs : List Region) → T c → lo ≤ x .at → Chain (x .at + x .len) hi rs → Chain lo hi (consIf c x rs)
 chain-cons lo hi true x rs t l k = (l, k)
 chain-cons lo hi false x rs t l k = absurd t
 

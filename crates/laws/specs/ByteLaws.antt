@@ -21,7 +21,7 @@ pick-no false x y t = refl
 -- t has bs from place a on
 pub record Holds (t : List ℕ) (a : ℕ) (bs : List ℕ) : Type 0 where
   pub rest : List ℕ
-  pub split : drop a t ≡ bs ++ rest
+  split : drop a t ≡ bs ++ rest
 
 pub held : {t : List ℕ} {a : ℕ} {bs : List ℕ} (rest : List ℕ) → drop a t ≡ bs ++ rest → Holds t a bs
 held rest e = record { rest = rest; split = e }
@@ -72,7 +72,7 @@ holds-in t a bs p r k h g =
     held (g .rest ++ h .rest)
     (sym (drop-drop p a t) ∙ ap (drop p) (h .split) ∙ drop-append-le p bs (h .rest) k ∙ ap (λ (x : List ℕ). x ++ h .rest) (g .split) ∙ append-assoc r (g .rest) (h .rest))
 
-pub holds-here : (xs bs ys : List ℕ) (a : ℕ) → length xs ≡ a → Holds (xs ++ (bs ++ ys)) a bs
+holds-here : (xs bs ys : List ℕ) (a : ℕ) → length xs ≡ a → Holds (xs ++ (bs ++ ys)) a bs
 holds-here xs bs ys a e = held ys (drop-at xs (bs ++ ys) a e)
 
 pub holds-getD : (t : List ℕ) (a : ℕ) (bs : List ℕ) → Holds t a bs → (j : ℕ) → j < length bs → getD t (a + j) 0 ≡ getD bs j 0

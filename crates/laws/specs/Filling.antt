@@ -140,7 +140,7 @@ module _ (m : Meaning) (w : Shaped m) (b′ : Body listKinds) (l : Layout) (p : 
   unfolding controlBytes
   control-same = rw (f .places)
 
-  pub lists-length : formLength (withLists m b′) ≡ formLength m + sizeEntry x
+  lists-length : formLength (withLists m b′) ≡ formLength m + sizeEntry x
   unfolding formLength heapLen
   lists-length = rw (heap-same, f .size) (omega arith)
 
@@ -198,7 +198,7 @@ pub record OkKind (l : Layout) : Type 0 where
   pub toldOf : (n : ℕ) → T (okTold n (l .refs))
 
 -- a told record fits
-pub entry-fits : (l : Layout) → OkKind l → (s : State) (space : ℕ) (x : List ℕ) (told : Slots (l .refs)) → Sized l x told → s .position < 256 → s .position < 256 ^ (l .shape .index .len)
+entry-fits : (l : Layout) → OkKind l → (s : State) (space : ℕ) (x : List ℕ) (told : Slots (l .refs)) → Sized l x told → s .position < 256 → s .position < 256 ^ (l .shape .index .len)
     → let img = toldImage (l .shape) (s .position) x in Passed l s space img (toldSlots (s .position) img told) → FitEntry (envOf s) (entryOf l s x told)
 entry-fits l k s space x told z small fits p =
     let n : ℕ = s .position in
@@ -247,7 +247,7 @@ module _ (buf : List ℕ) (s : State) (b : List ℕ) (m : Meaning) (o : Open buf
   same-count : countIn (m .lists) ≡ countIn b′
   same-count = λ j k. (sym (count-is (m .lists) k) ∙ ap (λ (c : List ℕ). countOf listKinds c k) (sym (effects .lengths)) ∙ count-is b′ k) j
 
-  pub list-shaped : FitEntry (env (countIn (m .lists)) (s .position)) x → Shaped (withLists m b′)
+  list-shaped : FitEntry (env (countIn (m .lists)) (s .position)) x → Shaped (withLists m b′)
   list-shaped g = record {
     sized = o .shaped .sized;
     signed = subst (λ (c : ℕ → ℕ). Fit (env c 0) [] (m .driver)) same-count (o .shaped .signed);
@@ -256,7 +256,7 @@ module _ (buf : List ℕ) (s : State) (b : List ℕ) (m : Meaning) (o : Open buf
   }
 
   -- where the record stands
-  pub list-place : eqb (l .kind) 2 ≡ false → placeOf s l ≡ 160 + length (effects .front)
+  list-place : eqb (l .kind) 2 ≡ false → placeOf s l ≡ 160 + length (effects .front)
   unfolding placeOf
   list-place e = rw e (subst (λ (cs : List ℕ). startOf 160 listKinds cs (l .kind) + (s .position - 1) * baseOf l ≡ 160 + length (effects .front)) (o .counted) (sym (effects .place)))
 
@@ -381,7 +381,7 @@ module _ (m : Meaning) (w : Shaped m) (blank : AllBlank (m .lists)) where
   unfolding hostBefore
   host-before = simp (length-append, front-part m w, back-part m w, control-part m w) (omega arith)
 
-pub at-host : (s : State) → T (waits s 2) → (s .turn ≡ 2) × (s .position ≡ 0)
+at-host : (s : State) → T (waits s 2) → (s .turn ≡ 2) × (s .position ≡ 0)
 unfolding waits
 at-host s t =
     let u = and-yes (eqb (s .turn) 2) _ t in

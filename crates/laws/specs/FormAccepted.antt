@@ -73,7 +73,7 @@ module _ (m : Meaning) (w : Lawful m) (short : formLength m ≤ limit) where
   eq : (x y : ℕ) → x ≡ y → T (eqb x y)
   eq x y e = yes-eqb e
 
-  pub form-passes : AllPass (tests (form m))
+  form-passes : AllPass (tests (form m))
   unfolding tests formLength heapAt host
   form-passes =
       (let x = fixed-back m (w .shapes) short in

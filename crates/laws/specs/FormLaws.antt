@@ -34,7 +34,7 @@ pub ok-lists : T (allOk listKinds)
 unfolding hfi ssns security discovery info extended
 ok-lists = tt
 
-pub length-driverRef : (m : Meaning) → length (driverRef m) ≡ 6
+length-driverRef : (m : Meaning) → length (driverRef m) ≡ 6
 unfolding driverRef
 length-driverRef m = length-refFor (heapAt m) (slotAt 44 (m .driver))
 
@@ -68,16 +68,16 @@ module _ (m : Meaning) (w : Shaped m) where
   unfolding host
   owner-part = length-recEntry host ok-host h₁ (env (countIn (m .lists)) 0) (m .owner) (w .owned)
 
-  pub recs-part : length (recsBody h₂ (m .lists)) ≡ spanBody (m .lists)
+  recs-part : length (recsBody h₂ (m .lists)) ≡ spanBody (m .lists)
   recs-part = length-recsBody (countIn (m .lists)) h₂ (m .lists) ok-lists (w .listed)
 
-  pub driver-part : length (heapOf h₀ (m .driver)) ≡ sizeOf (m .driver)
+  driver-part : length (heapOf h₀ (m .driver)) ≡ sizeOf (m .driver)
   driver-part = length-heap (header .shape .keep) 0 h₀ (env (countIn (m .lists)) 0) [] (m .driver) (ok-header .refsOk) (w .signed)
 
-  pub ownerHeap-part : length (heapEntry h₁ (m .owner)) ≡ sizeEntry (m .owner)
+  ownerHeap-part : length (heapEntry h₁ (m .owner)) ≡ sizeEntry (m .owner)
   ownerHeap-part = length-heapEntry host ok-host h₁ (env (countIn (m .lists)) 0) (m .owner) (w .owned)
 
-  pub listHeap-part : length (heapBody h₂ (m .lists)) ≡ sizeBody (m .lists)
+  listHeap-part : length (heapBody h₂ (m .lists)) ≡ sizeBody (m .lists)
   listHeap-part = length-heapBody (countIn (m .lists)) h₂ (m .lists) ok-lists (w .listed)
 
   pub length-laidOut : (n c k : ℕ) → length (laidOut m n c k) ≡ formLength m
@@ -105,7 +105,7 @@ module _ (m : Meaning) (w : Shaped m) where
   whole : (t : List ℕ) → Holds t 0 t
   whole t = held [] (sym (append-nil t))
 
-  pub laid-parts : (t : List ℕ) (n c k : ℕ) → Holds t 0 (laidOut m n c k) → Parts t n c k
+  laid-parts : (t : List ℕ) (n c k : ℕ) → Holds t 0 (laidOut m n c k) → Parts t n c k
   unfolding laidOut behind h₀ h₁ h₂ heapAt
   laid-parts t n c k p₀ =
       let a : List ℕ = headFront n in
@@ -136,7 +136,7 @@ module _ (m : Meaning) (w : Shaped m) where
       }
 
   module _ (short : formLength m ≤ limit) where
-    pub form-parts : Parts (form m) (formLength m) (checksum (laidOut m (formLength m) 0 (heapLen m))) (heapLen m)
+    form-parts : Parts (form m) (formLength m) (checksum (laidOut m (formLength m) 0 (heapLen m))) (heapLen m)
     unfolding form
     form-parts = laid-parts (form m) _ _ _ (whole (form m))
 
@@ -156,7 +156,7 @@ module _ (m : Meaning) (w : Shaped m) where
     unfolding limit
     small = omega arith
 
-    pub head-back : (t : List ℕ) (c : ℕ) → Parts t (formLength m) c (heapLen m) → Head t
+    head-back : (t : List ℕ) (c : ℕ) → Parts t (formLength m) c (heapLen m) → Head t
     unfolding headFront headBack formLength
     head-back t c p =
         let k = small in
@@ -186,7 +186,7 @@ module _ (m : Meaning) (w : Shaped m) where
     unfolding header slotAt stores
     driver-stores t (bytes b nil) h = (h, tt)
 
-    pub stored-driver : AllHold (form m) 0 (stores h₀ (m .driver))
+    stored-driver : AllHold (form m) 0 (stores h₀ (m .driver))
     unfolding h₀ driverRef
     stored-driver = driver-stores (form m) (m .driver) (form-head .signature)
 

@@ -240,7 +240,7 @@ module _ (t : List ℕ) (b : (i : ℕ) → getD t i 0 < 256) where
       go true p q = (refl, refs-found heap k (l .shape .keep) 0 a v img (l .refs) (o .refsOk) r (used-refs l valid heap v a img ss q))
       go false p q = rw p tt
 
-  pub list-found : (l : Layout) → OkLayout l → (valid : ℕ → ℕ → Bool) (count : ℕ → ℕ) (heap : Region) → Bounded t b heap → (n pos a step : ℕ) → baseOf l ≤ step → a + n * step ≤ length t
+  list-found : (l : Layout) → OkLayout l → (valid : ℕ → ℕ → Bool) (count : ℕ → ℕ) (heap : Region) → Bounded t b heap → (n pos a step : ℕ) → baseOf l ≤ step → a + n * step ≤ length t
       → listRule l valid count heap pos t a step (readList l t a step n) ≡ done → ListAt t heap a step (readList l t a step n)
   unfolding listRule readList
   list-found l o valid count heap k zero pos a step s r e = tt

@@ -34,7 +34,7 @@ env-position t pos = refl
 
 -- ---- the valid bit: its flags' modulus is even
 
-pub raw-flag : (l : Layout) (t : List ℕ) (a n : ℕ) → T (ltb (l .shape .flags .at) (baseOf l)) → getD (l .shape .keep) (l .shape .flags .at) (low 1) ≡ low n → T (eqb (n % 2) 0)
+raw-flag : (l : Layout) (t : List ℕ) (a n : ℕ) → T (ltb (l .shape .flags .at) (baseOf l)) → getD (l .shape .keep) (l .shape .flags .at) (low 1) ≡ low n → T (eqb (n % 2) 0)
     → isValid (l .shape) (imageIn l t a) ≡ odd (getD t (a + l .shape .flags .at) 0)
 unfolding imageIn
 raw-flag l t a n k e u =

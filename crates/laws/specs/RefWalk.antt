@@ -83,7 +83,7 @@ first-zero v = step (eqb v 0) refl where
   step true e = sym (eqb-true v 0 e)
   step false e = refl
 
-pub plain-free : (heap : Region) (n : Need) (rule : Env → List ℕ → ℕ) (e : Env) (t : List ℕ) (r : ℕ) → ((v : Env) (x : List ℕ) → ruled rule v x ≡ 0)
+plain-free : (heap : Region) (n : Need) (rule : Env → List ℕ → ℕ) (e : Env) (t : List ℕ) (r : ℕ) → ((v : Env) (x : List ℕ) → ruled rule v x ≡ 0)
     → plainRule heap n rule e t r ≡ refRule heap n (num t r 4) (num t (r + 4) 2)
 plain-free heap n rule e t r f = go n (refRule heap n (num t r 4) (num t (r + 4) 2)) where
   go : (n : Need) (v : ℕ) → firstOf v (under n 0 (ruled rule e (part t (num t r 4) (num t (r + 4) 2)))) ≡ v

@@ -124,7 +124,7 @@ zero-first {n} {x} {y} t u = go (eqb x 0)
     go false = t
 
 -- the builder's rule of told objects gives 0 or 11
-pub slots-number : {rs : Refs} (e : Env) (img : List ℕ) (ss : Slots rs) → Free rs → ZeroOr 11 (slotsRule e img ss)
+slots-number : {rs : Refs} (e : Env) (img : List ℕ) (ss : Slots rs) → Free rs → ZeroOr 11 (slotsRule e img ss)
 unfolding slotsRule
 slots-number e img nil f = zero-is 11 0 refl
 slots-number e img (bytes {need = need} {rule = rule} b ss) f =
@@ -382,7 +382,7 @@ tests-below (x ∷ xs) t =
     go true p q = p
     go false p q = q
 
-pub check-below : (t : List ℕ) → check t .number < 14
+check-below : (t : List ℕ) → check t .number < 14
 unfolding check records tests
 check-below t =
     let m : Meaning = meaning t in

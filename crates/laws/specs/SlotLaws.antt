@@ -56,7 +56,7 @@ pub nest-next : (q p : ℕ) (ks : List Keep) (need : List ℕ → Need) (shape :
 nest-next q p ks need shape own rest t = and-yes (leb q p && dead ks p 6) _ (nest-head q p ks need shape own rest t) .1
 
 -- the stores of a record's references are apart, inside, and into bytes that do not count
-pub stores-ok : {rs : Refs} (q h : ℕ) (ks : List Keep) (ss : Slots rs) → T (okRefs q ks rs) → OkEdits q ks (stores h ss)
+stores-ok : {rs : Refs} (q h : ℕ) (ks : List Keep) (ss : Slots rs) → T (okRefs q ks rs) → OkEdits q ks (stores h ss)
 unfolding stores
 stores-ok q h ks nil t = leb→le q (length ks) t
 stores-ok q h ks (bytes {p = p} {rest = rest} b ss) t =

@@ -178,7 +178,7 @@ module _ (t : List ℕ) (b : (i : ℕ) → getD t i 0 < 256) where
       go true p q = used-fit l o valid heap k v a (rw p tt) q
       go false p q = (tt, tt)
 
-  pub list-fit : (l : Layout) → OkLayout l → (valid : ℕ → ℕ → Bool) (count : ℕ → ℕ) (heap : Region) → Bounded heap → (n pos a step : ℕ)
+  list-fit : (l : Layout) → OkLayout l → (valid : ℕ → ℕ → Bool) (count : ℕ → ℕ) (heap : Region) → Bounded heap → (n pos a step : ℕ)
       → listRule l valid count heap pos t a step (readList l t a step n) ≡ done → FitList count pos (readList l t a step n) × NamesList valid (readList l t a step n)
   unfolding listRule readList
   list-fit l o valid count heap k zero pos a step e = (tt, tt)

@@ -22,10 +22,10 @@ use Rattle.laws.specs.Standing.{At, BodyAt, EntryAt, ListAt, PlainAt, Re
 
 -- ---- a reference's two numbers
 
-pub ref-off : (t : List ℕ) (r off len : ℕ) → off < 256 ^ 4 → Holds t r (ref6 off len) → num t r 4 ≡ off
+ref-off : (t : List ℕ) (r off len : ℕ) → off < 256 ^ 4 → Holds t r (ref6 off len) → num t r 4 ≡ off
 ref-off t r off len k h = holds-num t r 4 off k (holds-left t r (le 4 off) (le 2 len) h)
 
-pub ref-len : (t : List ℕ) (r off len : ℕ) → len < 256 ^ 2 → Holds t r (ref6 off len) → num t (r + 4) 2 ≡ len
+ref-len : (t : List ℕ) (r off len : ℕ) → len < 256 ^ 2 → Holds t r (ref6 off len) → num t (r + 4) 2 ≡ len
 ref-len t r off len k h = holds-num t (r + 4) 2 len k (holds-right t r (le 4 off) (le 2 len) h)
 
 -- ---- reading
@@ -87,7 +87,7 @@ read-entry {l} t heap a v (used img ss) f s =
     pick-yes (odd (getD (image (l .shape .keep) (drop a t)) (l .shape .flags .at) 0)) _ _ (rw e₁ (f .valid))
     ∙ ap₂ used e₁ (ap (λ (x : List ℕ). readSlots t a x (l .refs)) e₁ ∙ read-at t heap a v img ss (f .objects) (s .1))
 
-pub read-list : {l : Layout} (t : List ℕ) (heap : Region) (count : ℕ → ℕ) (a step pos : ℕ) (es : List (Entry l)) → FitList count pos es → ListAt t heap a step es → readList l t a step (length es) ≡ es
+read-list : {l : Layout} (t : List ℕ) (heap : Region) (count : ℕ → ℕ) (a step pos : ℕ) (es : List (Entry l)) → FitList count pos es → ListAt t heap a step es → readList l t a step (length es) ≡ es
 unfolding readList
 read-list t heap count a step pos [] f s = refl
 read-list t heap count a step pos (e ∷ es) f s = ap₂ _∷_ (read-entry t heap a (env count pos) e (f .0) (s .0)) (read-list t heap count (a + step) step (suc pos) es (f .1) (s .1))
@@ -184,12 +184,12 @@ module _ (valid : ℕ → ℕ → Bool) (count : ℕ → ℕ) (t : List ℕ) (he
       first-zero _ _ (pick-yes (isRight (l .shape) v img) 0 10 (f .right))
       (first-zero _ _ (pass-at t heap a v img ss (f .objects) s) (pick-yes (l .names valid img ss) 0 13 n))
 
-  pub pass-entry : (l : Layout) (a : ℕ) (v : Env) (e : Entry l) → FitEntry v e → NamesEntry valid e → EntryAt t heap a e → entryRule l valid heap v t a e ≡ 0
+  pass-entry : (l : Layout) (a : ℕ) (v : Env) (e : Entry l) → FitEntry v e → NamesEntry valid e → EntryAt t heap a e → entryRule l valid heap v t a e ≡ 0
   unfolding entryRule
   pass-entry l a v unused f n s = refl
   pass-entry l a v (used img ss) f n s = pass-used l a v img ss f n (s .1)
 
-  pub pass-list : (l : Layout) (a step pos : ℕ) (es : List (Entry l)) → FitList count pos es → NamesList valid es → ListAt t heap a step es → listRule l valid count heap pos t a step es ≡ done
+  pass-list : (l : Layout) (a step pos : ℕ) (es : List (Entry l)) → FitList count pos es → NamesList valid es → ListAt t heap a step es → listRule l valid count heap pos t a step es ≡ done
   unfolding listRule
   pass-list l a step pos [] f n s = refl
   pass-list l a step pos (e ∷ es) f n s =

@@ -33,7 +33,7 @@ none-top : (k : Keep) → T (isNone k) → topOf k ≡ 1
 none-top (low n) t = eqb→eq n 1 t
 none-top (sel f d m₀ m₁) t = absurd t
 
-pub splice-same : (ks : List Keep) (x : List ℕ) (p : ℕ) (r : List ℕ) → p + length r ≤ length x → T (dead ks p (length r)) → Same ks (splice x p r) x
+splice-same : (ks : List Keep) (x : List ℕ) (p : ℕ) (r : List ℕ) → p + length r ≤ length x → T (dead ks p (length r)) → Same ks (splice x p r) x
 splice-same ks x p r room t j h = go (decLe p j) (decLe (p + length r) j)
   where
     inside : p ≤ j → j < p + length r → T (isNone (getD ks j (low 1)))
@@ -48,7 +48,7 @@ splice-same ks x p r room t j h = go (decLe p j) (decLe (p + length r) j)
     go (yes a) (yes b) = ap (λ (z : ℕ). z % topOf (getD ks j (low 1))) (getD-splice-above x p r room j (omega arith))
     go (yes a) (no b) = rw (none-top (getD ks j (low 1)) (inside a (omega arith))) (mod-one (getD (splice x p r) j 0) ∙ sym (mod-one (getD x j 0)))
 
-pub ok-end : (q : ℕ) (ks : List Keep) (es : List Edit) → OkEdits q ks es → q ≤ length ks
+ok-end : (q : ℕ) (ks : List Keep) (es : List Edit) → OkEdits q ks es → q ≤ length ks
 ok-end q ks [] o = o
 ok-end q ks (e ∷ es) o = omega (arith, ok-end (e .at + length (e .put)) ks es (o .2))
 
@@ -67,7 +67,7 @@ image-apply ks q (e ∷ es) x t o l =
     ∙ image-same ks (splice x (e .at) (e .put)) x t (splice-same ks x (e .at) (e .put) (omega arith) (o .1))
 
 -- and what stands below them
-pub apply-below : (ks : List Keep) (q : ℕ) (es : List Edit) (x : List ℕ) (p : ℕ) (r : List ℕ)
+apply-below : (ks : List Keep) (q : ℕ) (es : List Edit) (x : List ℕ) (p : ℕ) (r : List ℕ)
     → OkEdits q ks es → length x ≡ length ks → p + length r ≤ q → Holds x p r → Holds (apply x es) p r
 apply-below ks q [] x p r o l k h = h
 apply-below ks q (e ∷ es) x p r o l k h =

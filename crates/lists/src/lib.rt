@@ -15,7 +15,7 @@ pub fn refs_fault(t: &[u8], kind: u8, a: usize, position: usize, heap: &[u8], fr
     requires { ⌜ (kind ≤ 6) × (a + baseOf (layoutOf kind) ≤ length (now t)) × IsHeap (now t) (now heap) from ⌝ }
     ensures { λ r. ⌜ r ≡ refsFault kind (region from (length (now (heap .entry)))) (now (t .entry)) a position ⌝ }
 {
-    let rs = table::reference_offsets(kind);
+    let rs = kinds::reference_offsets(kind);
     let n = rs.count;
     let mut i: usize = 0;
     while i < n {
@@ -50,7 +50,7 @@ pub fn record_fault(t: &[u8], kind: u8, a: usize, position: usize, heap: &[u8], 
     requires { ⌜ LaidOut (now t) × (2 ≤ kind) × (kind ≤ 6) × (a + baseOf (layoutOf kind) ≤ length (now t)) × IsHeap (now t) (now heap) from ⌝ }
     ensures { λ r. ⌜ r ≡ recordFault kind (region from (length (now (heap .entry)))) (now (t .entry)) a position ⌝ }
 {
-    let flag = table::flags_at(kind);
+    let flag = kinds::flags_at(kind);
     if t[a + flag] % 2 != 1 {
         return 0;
     }

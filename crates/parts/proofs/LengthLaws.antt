@@ -30,7 +30,7 @@ unfolding header control host hfi ssns security discovery info extended noKind
 refs-ok = by-layout (λ l. T (okRefs 0 (l .shape .keep) (l .refs))) tt tt tt tt tt tt tt tt tt tt
 
 -- a record with its references is as long as its image
-pub patched-long : (t : List ℕ) (k a h : ℕ) → length (patched h (imageIn (layoutOf k) t a) (slotsIn (layoutOf k) t a)) ≡ baseOf (layoutOf k)
+patched-long : (t : List ℕ) (k a h : ℕ) → length (patched h (imageIn (layoutOf k) t a) (slotsIn (layoutOf k) t a)) ≡ baseOf (layoutOf k)
 patched-long t k a h = length-patched (layoutOf k .shape .keep) h (imageIn (layoutOf k) t a) (slotsIn (layoutOf k) t a) (refs-ok k) (length-imageIn (layoutOf k) t a)
 
 module _ (t : List ℕ) (ok : Accepted t) (k a : ℕ) (s : Seated t (layoutOf k) a true) where
@@ -39,7 +39,7 @@ module _ (t : List ℕ) (ok : Accepted t) (k a : ℕ) (s : Seated t (layoutOf k)
   pub object-room : (p : ℕ) → hasPlain p (layoutOf k .refs) ≡ true → partAt t k a p .at + partAt t k a p .len ≤ length t
   object-room p e = subst (λ (q : Part). q .at + q .len ≤ length t) (sym (plain-part t ok k a s p e)) (seat-room t ok p k (seat (layoutOf k) a true) (refl, s))
 
-  pub object-span : (p : ℕ) → hasPlain p (layoutOf k .refs) ≡ true → partAt t k a p .span ≡ partAt t k a p .len
+  object-span : (p : ℕ) → hasPlain p (layoutOf k .refs) ≡ true → partAt t k a p .span ≡ partAt t k a p .len
   object-span p e = subst (λ (q : Part). q .span ≡ q .len) (sym (plain-part t ok k a s p e)) refl
 
   pub object-bytes : (h p : ℕ) → hasPlain p (layoutOf k .refs) ≡ true → bytesAt t k a h p ≡ part t (partAt t k a p .at) (partAt t k a p .len)

@@ -177,7 +177,7 @@ module _ (t : List ℕ) (ok : Accepted t) (a : ℕ) where
     go true = refl
     go false = named-slot 9 some (a + 60) 60 (whenSet 3 2 4 4) none x
 
-  pub all-fit : (k : ℕ) → FitsAll k
+  all-fit : (k : ℕ) → FitsAll k
   unfolding layoutOf header host hfi ssns security discovery info extended
   all-fit =
       by-kind FitsAll

@@ -49,9 +49,9 @@ fn held_span(t: &[u8], kind: u8, a: usize) -> usize
     requires { ⌜ Accepted (now t) × Seated (now t) (layoutOf kind) a true × OneObject kind ⌝ }
     ensures { λ r. ⌜ (r ≡ recordPart (now (t .entry)) kind (At a true) .span) × (r ≤ 131072) ⌝ }
 {
-    let refs = table::reference_offsets(kind);
+    let refs = kinds::reference_offsets(kind);
     let len = object_len(t, kind, a, refs.at[0]);
-    table::base_size(kind) + len
+    kinds::base_size(kind) + len
 }
 
 fn record_span(t: &[u8], kind: u8, s: Seat) -> usize
@@ -90,7 +90,7 @@ pub fn named_size(t: &[u8], kind: u8, a: usize) -> usize
     requires { ⌜ Accepted (now t) × Seated (now t) (layoutOf kind) a true ⌝ }
     ensures { λ r. ⌜ (r ≡ sizeOf (slotsIn (layoutOf kind) (now (t .entry)) a)) × (r ≤ 786432) ⌝ }
 {
-    let refs = table::reference_offsets(kind);
+    let refs = kinds::reference_offsets(kind);
     let n = refs.count;
     let mut total: usize = 0;
     let mut i: usize = 0;

@@ -20,7 +20,7 @@ pub fn is_used(t: &[u8], kind: u8, a: usize) -> bool
     requires { ⌜ Entered (now t) kind a ⌝ }
     ensures { λ r. ⌜ r ≡ isValid (layoutOf kind .shape) (imageIn (layoutOf kind) (now (t .entry)) a) ⌝ }
 {
-    let flag = table::flags_at(kind);
+    let flag = kinds::flags_at(kind);
     t[a + flag] % 2 == 1
 }
 

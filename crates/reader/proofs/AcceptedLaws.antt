@@ -18,7 +18,7 @@ use Rattle.table.specs.FixedLayouts.{layoutOf, listKinds, info, extended, ssns}
 use Rattle.table.specs.Objects.{readBody}
 use Rattle.table.specs.Rules.{answer, bodyRule, done, first, firstFail, firstOf, isSound, reaches, refRule}
 use Rattle.table.specs.Meaning.{meaning}
-use Rattle.table.specs.Numbers.{heapIn, records, tests}
+use Rattle.table.specs.Numbers.{check, heapIn, records, tests}
 use Rattle.laws.specs.Sound.{first-of, pick-of}
 use Rattle.laws.specs.Fields.{imageIn}
 use Rattle.laws.specs.RefWalk.{firstOver, partRule}
@@ -60,12 +60,19 @@ host-zero heap t e = go (odd (getD t (num t 72 4 + 1) 0)) refl e where
   go false f g = absurd (omega arith)
 
 module _ (t : List ℕ) (ok : Accepted t) where
+  pub checked : check t ≡ done
+  checked = ok .good
+
   staged : (firstFail (tests t) .number ≡ 0) × (records t (meaning t) ≡ done)
-  staged = first-done (firstFail (tests t)) (records t (meaning t)) (check-is t ∙ ok .good)
+  staged = first-done (firstFail (tests t)) (records t (meaning t)) (check-is t ∙ checked)
+
+  -- none of tests 1 to 9 fails
+  pub tests-pass : firstFail (tests t) .number ≡ 0
+  tests-pass = staged .0
 
   -- every region lies in the table, every list's records are long enough
   pub laid : LaidOut t
-  laid = laid-out t (staged .0)
+  laid = laid-out t tests-pass
 
   abbrev body : Answer
   body = bodyRule (validIn t) (counts t) (heapIn t) t 80 (readBody listKinds t 80)

@@ -32,7 +32,7 @@ pub body-is : (t : List ℕ) (heap : Region)
 unfolding listFault listFrom walk layoutOf bodyRule readBody
 body-is t heap = refl
 
-pub driver-is : (t : List ℕ) → numbered (refsFault 0 (heapIn t) t 0 0) 0 ≡ driverRule t (counts t)
+driver-is : (t : List ℕ) → numbered (refsFault 0 (heapIn t) t 0 0) 0 ≡ driverRule t (counts t)
 unfolding refsFault refsRule layoutOf envIn counts driverRule header
 driver-is t = refl
 
@@ -40,7 +40,7 @@ host-flag : (t : List ℕ) → isValid (host .shape) (imageIn host t (num t 72 4
 unfolding host
 host-flag t = flag-is host t (num t 72 4) tt
 
-pub host-is : (t : List ℕ) → hostFault (heapIn t) t ≡ hostRule t (validIn t) (counts t) (readEntry host t (num t 72 4))
+host-is : (t : List ℕ) → hostFault (heapIn t) t ≡ hostRule t (validIn t) (counts t) (readEntry host t (num t 72 4))
 unfolding hostFault usedFault usedIt layoutOf hostRule readEntry envIn counts imageIn
 host-is t =
     sym (go (isValid (host .shape) (imageIn host t (num t 72 4)))
@@ -51,7 +51,7 @@ host-is t =
     go true = refl
     go false = refl
 
-pub records-are : (t : List ℕ)
+records-are : (t : List ℕ)
     → first (driverRule t (counts t)) (first (hostRule t (validIn t) (counts t) (readEntry host t (num t 72 4))) (bodyRule (validIn t) (counts t) (heapIn t) t 80 (readBody listKinds t 80)))
     ≡ records t (meaning t)
 unfolding records meaning validIn counts

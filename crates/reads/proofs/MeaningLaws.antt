@@ -33,7 +33,7 @@ use Rattle.reads.specs.Told.{imageOf, innerKind, toldNest, toldSlots, to
 length-padded : (xs : List ℕ) → length xs ≤ 128 → length (padded 128 xs) ≡ 128
 length-padded xs h = simp (length-append, length-replicate) (omega arith)
 
-pub image-front : (l : Layout) (t : List ℕ) (a : ℕ) → take (baseOf l) (padded 128 (image (l .shape .keep) (drop a t))) ≡ image (l .shape .keep) (drop a t)
+image-front : (l : Layout) (t : List ℕ) (a : ℕ) → take (baseOf l) (padded 128 (image (l .shape .keep) (drop a t))) ≡ image (l .shape .keep) (drop a t)
 image-front l t a =
     let x = image (l .shape .keep) (drop a t) in
     ap (λ (n : ℕ). take n (padded 128 x)) (sym (length-image (l .shape .keep) (drop a t))) ∙ take-append-seam x (replicate (128 - length x) 0)

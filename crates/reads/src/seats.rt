@@ -39,7 +39,7 @@ fn list_seat(t: &[u8], kind: u8, c: usize, n: usize) -> Seat
     let i = n - 1;
     let d = i * wire::u16_at(t, c + 4);
     let at = wire::u32_at(t, c) + d;
-    let flag = table::flags_at(kind);
+    let flag = kinds::flags_at(kind);
     Seat::At {
         at: at,
         used: t[at + flag] % 2 == 1,

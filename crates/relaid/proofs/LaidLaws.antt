@@ -50,7 +50,7 @@ at-swap (e ∷ es) x d m u g b h k =
     ∙ at-swap es (splice x (d + e .at) (e .put)) d m u g (b .1) h (omega (arith, l))
 
 -- stores into a record y that was laid are those into y
-pub at-inside : (es : List Edit) (x : List ℕ) (d : ℕ) (y : List ℕ) → Below (length y) es → d + length y ≤ length x → applyAt (splice x d y) d es ≡ splice x d (apply y es)
+at-inside : (es : List Edit) (x : List ℕ) (d : ℕ) (y : List ℕ) → Below (length y) es → d + length y ≤ length x → applyAt (splice x d y) d es ≡ splice x d (apply y es)
 unfolding applyAt
 at-inside [] x d y b h = refl
 at-inside (e ∷ es) x d y b h =

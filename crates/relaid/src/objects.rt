@@ -34,7 +34,7 @@ pub fn put_record(out: &mut [u8], d: usize, t: &[u8], kind: u8, a: usize)
     requires { ⌜ (a + baseOf (layoutOf kind) ≤ length (now t)) × (d + baseOf (layoutOf kind) ≤ length (now out)) ⌝ }
     ensures { λ r. ⌜ now (out .exit) ≡ splice (now (out .entry)) d (imageIn (layoutOf kind) (now (t .entry)) a) ⌝ }
 {
-    let end = d + table::base_size(kind);
+    let end = d + kinds::base_size(kind);
     images::put_image(&mut out[d..end], 0, t, kind, a);
 }
 
@@ -59,8 +59,8 @@ fn lay_held(out: &mut [u8], r: usize, h: usize, t: &[u8], kind: u8, a: usize) ->
     requires { ⌜ (r + 6 ≤ h) × (h + recordPart (now t) kind (At a true) .span ≤ length (now out)) × (h + recordPart (now t) kind (At a true) .span ≤ 65536) ⌝ }
     ensures { λ u. ⌜ (u ≡ h + recordPart (now (t .entry)) kind (At a true) .span) × (now (out .exit) ≡ laid (now (out .entry)) r (refNum h (recordPart (now (t .entry)) kind (At a true) .len)) h (recordBytes (now (t .entry)) kind h (At a true))) ⌝ }
 {
-    let size = table::base_size(kind);
-    let refs = table::reference_offsets(kind);
+    let size = kinds::base_size(kind);
+    let refs = kinds::reference_offsets(kind);
     let p = refs.at[0];
     put_slot(out, r, h, size);
     put_record(out, h, t, kind, a);

@@ -23,7 +23,7 @@ pub fn lay_named(out: &mut [u8], d: usize, u: usize, t: &[u8], kind: u8, a: usiz
     requires { ⌜ (d + baseOf (layoutOf kind) ≤ u) × (u + sizeOf (slotsIn (layoutOf kind) (now t) a) ≤ length (now out)) × (u + sizeOf (slotsIn (layoutOf kind) (now t) a) ≤ 65536) ⌝ }
     ensures { λ r. ⌜ (r ≡ u + sizeOf (slotsIn (layoutOf kind) (now (t .entry)) a)) × (now (out .exit) ≡ splice (applyAt (now (out .entry)) d (stores u (slotsIn (layoutOf kind) (now (t .entry)) a))) u (heapOf u (slotsIn (layoutOf kind) (now (t .entry)) a))) ⌝ }
 {
-    let refs = table::reference_offsets(kind);
+    let refs = kinds::reference_offsets(kind);
     let n = refs.count;
     let mut h = u;
     let mut i: usize = 0;
@@ -53,6 +53,6 @@ pub fn lay_entry(out: &mut [u8], d: usize, u: usize, t: &[u8], kind: u8, a: usiz
     if is_used(t, kind, a) {
         return lay_used(out, d, u, t, kind, a);
     }
-    fill_zero(out, d, table::base_size(kind));
+    fill_zero(out, d, kinds::base_size(kind));
     u
 }

@@ -21,7 +21,7 @@ use Rattle.parts.proofs.LengthLaws.{record-bytes, heap-bytes}
 use Rattle.relaid.specs.Laid.{laid}
 
 -- a record with what it names, then more of both behind
-pub laid-join : (t : List ℕ) (a : ℕ) (r r′ : List ℕ) (h : ℕ) (g g′ : List ℕ) → a + length r + length r′ ≤ h → h + length g + length g′ ≤ length t
+laid-join : (t : List ℕ) (a : ℕ) (r r′ : List ℕ) (h : ℕ) (g g′ : List ℕ) → a + length r + length r′ ≤ h → h + length g + length g′ ≤ length t
     → laid (laid t a r h g) (a + length r) r′ (h + length g) g′ ≡ laid t a (r ++ r′) h (g ++ g′)
 laid-join t a r r′ h g g′ below room =
     let x : List ℕ = splice t a r in

@@ -23,7 +23,7 @@ pub fn lay_list(out: &mut [u8], d: usize, u: usize, t: &[u8], kind: u8, c: usize
 {
     let n = wire::wide(t[c + 7]);
     let step = wire::u16_at(t, c + 4);
-    let base = table::base_size(kind);
+    let base = kinds::base_size(kind);
     let mut a = wire::u32_at(t, c);
     let mut at = d;
     let mut h = u;

@@ -20,6 +20,7 @@ use Rattle.laws.specs.Fields.{Bytes}
 use Rattle.laws.specs.FormLaws.{length-laidOut}
 use Rattle.laws.specs.AcceptedMeaning.{lawful}
 use Rattle.reader.specs.Accepted.{Accepted}
+use Rattle.reader.proofs.AcceptedLaws.{checked}
 pub use Rattle.room.proofs.RoomLaws.{room-passed}
 
 -- ---- answers
@@ -81,4 +82,4 @@ unfolding formLength heapAt
 length-is t r k p q = omega arith
 
 pub laid-length : (t : List ℕ) → Bytes t → Accepted t → (n k : ℕ) → length (laidOut (meaning t) n 0 k) ≡ formLength (meaning t)
-laid-length t b ok n k = length-laidOut (meaning t) (lawful t b (ok .good) .shapes) n 0 k
+laid-length t b ok n k = length-laidOut (meaning t) (lawful t b (checked t ok) .shapes) n 0 k

@@ -23,6 +23,7 @@ use Rattle.writer.proofs.RecordLaws.{length-ref}
 use Rattle.front.proofs.FrontLaws.{header-is, header-joined, header-long, control-is, control-joined, control-long}
 use Rattle.writer.proofs.StoreLaws.{splice-join, splice-none, splice-swap, splice-over}
 use Rattle.reader.specs.Accepted.{Accepted}
+use Rattle.reader.proofs.AcceptedLaws.{laid as sound}
 use Rattle.images.proofs.Laws.{part-long}
 use Rattle.reads.proofs.SeatLaws.{header-seated, host-entered}
 use Rattle.parts.specs.Parts.{refsOf, OneObject, slotsIn, partAt, bytesAt, storesOver}
@@ -111,7 +112,7 @@ module _ (t : List ℕ) (b : Bytes t) (ok : Accepted t) where
         ap₂ (λ (x y : List ℕ). ((x ++ y) ++ (recEntry h₁ (own (num t 72 4)) ++ (recsBody h₂ (m .lists) ++ []))) ++ (heapOf h₀ drv ++ (heapEntry h₁ (own (num t 72 4)) ++ (heapBody h₂ (m .lists) ++ [])))) head-is ctrl-is
         ∙ in-order (headFront n) (0 ∷ headBack m k) (controlBytes m) (recEntry h₁ (own (num t 72 4))) (recsBody h₂ (m .lists)) (heapOf h₀ drv) (heapEntry h₁ (own (num t 72 4))) (heapBody h₂ (m .lists))
 
-    pub head-any : (h d : ℕ) → length (headerFor n (part t 10 26) h k d) ≡ 64
+    head-any : (h d : ℕ) → length (headerFor n (part t 10 26) h k d) ≡ 64
     head-any h d = ap length (sym (header-joined n (part t 10 26) h k d)) ∙ header-long n (part t 10 26) h k d (part-long t 10 26 (omega (arith, sound t ok .lent)))
 
     head-long : length head ≡ 64

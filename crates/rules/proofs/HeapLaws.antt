@@ -77,7 +77,7 @@ reached from n off len e =
     record { above = leb→le from off (w .0); below = leb→le (off + len) (from + n) (w .1); some = omega arith }
 
 module _ (t heap : List ℕ) (from : ℕ) (h : IsHeap t heap from) where
-  pub heap-room : 0 < length heap → from + length heap ≤ length t
+  heap-room : 0 < length heap → from + length heap ≤ length t
   heap-room k = omega (arith, simp (length-take, length-drop) at (ap length (h .isPart)))
 
   pub object-room : (off len : ℕ) → reaches (region from (length heap)) off len ≡ true → off + len ≤ length t
@@ -160,19 +160,19 @@ pub security-plain : (heap : Region) (t : List ℕ) (a pos q : ℕ) → refRule 
 unfolding refFault layoutOf security
 security-plain heap t a pos q = sym (plain-at heap (envIn t pos) t a (imageIn security t a) (security .refs) q (any-free, (any-free, (any-free, (any-free, (any-free, (any-free, tt)))))) tt)
 
-pub header-plain : (heap : Region) (t : List ℕ) (a pos q : ℕ) → refRule heap (plainNeed 0 q) (num t (a + q) 4) (num t (a + q + 4) 2) ≡ refFault 0 heap t a pos q
+header-plain : (heap : Region) (t : List ℕ) (a pos q : ℕ) → refRule heap (plainNeed 0 q) (num t (a + q) 4) (num t (a + q + 4) 2) ≡ refFault 0 heap t a pos q
 unfolding refFault layoutOf plainNeed header
 header-plain heap t a pos q = sym (plain-at heap (envIn t pos) t a (imageIn header t a) (header .refs) q (any-free, tt) tt)
 
-pub control-plain : (heap : Region) (t : List ℕ) (a pos q : ℕ) → refRule heap (plainNeed 1 q) (num t (a + q) 4) (num t (a + q + 4) 2) ≡ refFault 1 heap t a pos q
+control-plain : (heap : Region) (t : List ℕ) (a pos q : ℕ) → refRule heap (plainNeed 1 q) (num t (a + q) 4) (num t (a + q + 4) 2) ≡ refFault 1 heap t a pos q
 unfolding refFault layoutOf plainNeed control ruleAt
 control-plain heap t a pos q = refl
 
-pub host-plain : (heap : Region) (t : List ℕ) (a pos q : ℕ) → refRule heap (plainNeed 2 q) (num t (a + q) 4) (num t (a + q + 4) 2) ≡ refFault 2 heap t a pos q
+host-plain : (heap : Region) (t : List ℕ) (a pos q : ℕ) → refRule heap (plainNeed 2 q) (num t (a + q) 4) (num t (a + q + 4) 2) ≡ refFault 2 heap t a pos q
 unfolding refFault layoutOf plainNeed host
 host-plain heap t a pos q = sym (plain-at heap (envIn t pos) t a (imageIn host t a) (host .refs) q (any-free, tt) tt)
 
-pub discovery-plain : (heap : Region) (t : List ℕ) (a pos q : ℕ) → refRule heap (plainNeed 6 q) (num t (a + q) 4) (num t (a + q + 4) 2) ≡ refFault 6 heap t a pos q
+discovery-plain : (heap : Region) (t : List ℕ) (a pos q : ℕ) → refRule heap (plainNeed 6 q) (num t (a + q) 4) (num t (a + q + 4) 2) ≡ refFault 6 heap t a pos q
 unfolding refFault layoutOf plainNeed discovery
 discovery-plain heap t a pos q = sym (plain-at heap (envIn t pos) t a (imageIn discovery t a) (discovery .refs) q (any-free, (any-free, tt)) tt)
 

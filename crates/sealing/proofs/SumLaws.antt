@@ -1,22 +1,18 @@
 -- Sums of bytes: of a part, and of an accepted table. Assumes nothing.
-use mathlib.Core.Path.{_≡_, refl, sym, ap, _∙_}
-use mathlib.Core.Bool.{Bool, true, false}
+use mathlib.Core.Path.{_≡_, sym, ap, _∙_}
 use mathlib.Core.List.{List}
 use Prim.Native.Nat.{ℕ, _+_, _%_, _≤_}
 use native.Mathlib.Omega.{arith}
-use lib.Dec.{eqb, eqb→eq}
+use lib.Dec.{eqb→eq}
 use lib.ListN.{length, take, drop, take-append-drop}
 use lib.Seq.{ext-getD, getD-take, length-take-le, drop-drop}
-use borrow.Author.Tests.{eqb-true}
-use Rattle.table.specs.declared.Answer.{Answer}
-use Rattle.table.specs.Bytes.{pick, part, num, total}
-use Rattle.table.specs.Rules.{done, first, firstFail}
-use Rattle.table.specs.Meaning.{meaning}
-use Rattle.table.specs.Numbers.{check, tests, records}
+use Rattle.table.specs.Bytes.{part, num, total}
+use Rattle.table.specs.Numbers.{tests}
 use Rattle.laws.specs.TestLaws.{all-pass}
 use Rattle.laws.specs.FormAccepted.{total-append}
 use Rattle.images.proofs.Laws.{part-long, part-byte}
 use Rattle.reader.specs.Accepted.{Accepted}
+use Rattle.reader.proofs.AcceptedLaws.{tests-pass}
 
 -- before a part, the part, behind it
 pub total-parts : (t : List ℕ) (a n : ℕ) → total t ≡ total (take a t) + (total (part t a n) + total (drop (a + n) t))
@@ -35,15 +31,9 @@ part-front t m a n h k =
     ext-getD 0 (part (take m t) a n) (part t a n) (p ∙ sym q)
     (λ j b. part-byte (take m t) a n j (omega (arith, p, b)) ∙ getD-take m t (a + j) 0 (omega (arith, p, b)) ∙ sym (part-byte t a n j (omega (arith, p, b))))
 
-first-number : (x y : Answer) → first x y ≡ done → x .number ≡ 0
-first-number x y e = go (eqb (x .number) 0) refl e where
-  go : (c : Bool) → eqb (x .number) 0 ≡ c → pick c y x ≡ done → x .number ≡ 0
-  go true f g = eqb-true (x .number) 0 f
-  go false f g = ap (λ (a : Answer). a .number) g
-
 -- the bytes of an accepted table add up to 0
 pub accepted-sum : (t : List ℕ) → Accepted t → total (take (num t 4 4) t) % 256 ≡ 0
-unfolding check tests
+unfolding tests
 accepted-sum t ok =
-    let k = all-pass (tests t) tt (first-number (firstFail (tests t)) (records t (meaning t)) (ok .good)) in
+    let k = all-pass (tests t) tt (tests-pass t ok) in
     eqb→eq (total (take (num t 4 4) t) % 256) 0 (k .1 .1 .1 .1 .0)

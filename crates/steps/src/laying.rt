@@ -54,7 +54,7 @@ fn put_told(out: &mut [u8], s: State, kind: u8, b: &[u8], refs: Offsets, z: Size
     ensures { λ r. ⌜ now (out .exit) ≡ splice (now (out .entry)) (placeOf s (layoutOf kind)) (apply (imageIn (layoutOf kind) (now (b .entry)) 0) (storesFrom (refs .at) (z .len) (z .span) (s .used) 0 (refs .count))) ⌝ }
 {
     let img = images::image_at(b, kind, 0);
-    let base = table::base_size(kind);
+    let base = kinds::base_size(kind);
     let at = turns::place_of(s, kind);
     let end = at + base;
     write_record(&mut out[at..end], &img[0..base], refs, z, s.used);

@@ -1,15 +1,10 @@
-// The record kinds of the boot table as data: sizes, designators, reference offsets; and the types that definitions and code share.
+// The record kinds of the boot table as data: sizes and designators; and the types that definitions and code share.
 ghost use mathlib.Core.Path.{_≡_};
 ghost use Rattle.table.specs.Rules.{answer};
 ghost use Rattle.table.specs.Rules as rules;
 
-pub mod kinds; // sizes, flags and reference offsets by kind number
 pub mod records; // the record structs with SIZE and ID
 
-pub use kinds::Offsets;
-pub use kinds::base_size;
-pub use kinds::flags_at;
-pub use kinds::reference_offsets;
 pub use records::Control;
 pub use records::Discovery;
 pub use records::Extended;
@@ -56,6 +51,12 @@ pub enum Need {
     Ignored,
     Optional,
     Required,
+}
+
+// Where the references of a record stand, by ascending offset: the first `count` of `at`.
+pub struct Offsets {
+    pub at: [usize; 6],
+    pub count: usize,
 }
 
 // What a read of a record gives: its image, references as zero, filled up to 128 bytes.

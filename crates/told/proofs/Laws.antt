@@ -37,7 +37,7 @@ required-some (x ∷ o) e = refl
 
 -- ---- heap records
 
-pub pad-splice : (x : List ℕ) (p : ℕ) (bs : List ℕ) (n : ℕ) → p + length bs ≤ length x → splice (padded n x) p bs ≡ padded n (splice x p bs)
+pad-splice : (x : List ℕ) (p : ℕ) (bs : List ℕ) (n : ℕ) → p + length bs ≤ length x → splice (padded n x) p bs ≡ padded n (splice x p bs)
 pad-splice x p bs n k =
     let z : List ℕ = replicate (n - length x) 0 in
     let l : length (splice x p bs) ≡ length x = length-splice x p bs k in

@@ -73,7 +73,7 @@ fn mark(b: &mut [u8], kind: u8, n: usize)
     ensures { λ r. ⌜ now (b .exit) ≡ marked (layoutOf kind .shape) n (now (b .entry)) ⌝ }
 {
     stamp(b, kind, n);
-    set_valid(b, table::flags_at(kind));
+    set_valid(b, kinds::flags_at(kind));
 }
 
 // Host, HFI and discovery records by value.

@@ -4,6 +4,7 @@ use mathlib.Core.Bool.{Bool, true, false, not, _&&_, _||_}
 use mathlib.Core.List.{List, [], _∷_}
 use Prim.Native.Nat.{ℕ, _+_, _-_, _*_, _≤_, _<_}
 use native.Mathlib.Omega.{arith}
+use lib.Ieee.Bits.{is-true}
 use lib.Dec.{T, leb, ltb, eqb, leb→le, eqb→eq}
 use borrow.Author.Tests.{ne-eqb, eq-eqb, le-leb, lt-leb, lt-ltb, le-ltb, eqb-false, ltb-true, ltb-false}
 use mir.Facts.{and-yes}
@@ -25,10 +26,6 @@ none s k a b c d = rw (ne-eqb k 3 a, ne-eqb k 4 b, ne-eqb k 5 c, ne-eqb k 6 d) r
 pub in-list-is : (s : State) (n : ℕ) → n ≡ countOf listKinds (counts s) (s .turn) → 1 ≤ s .position → leb (s .position) n ≡ inList s
 in-list-is s n e p = ap (leb (s .position)) e ∙ ap (λ (b : Bool). b && leb (s .position) (countOf listKinds (counts s) (s .turn))) (sym (le-leb 1 (s .position) p))
 
-T-true : (b : Bool) → T b → b ≡ true
-T-true true t = refl
-T-true false t = absurd t
-
 pub not-true : (p : Bool) → not p ≡ true → p ≡ false
 not-true true e = sym e
 not-true false e = refl
@@ -46,7 +43,7 @@ pub waits-in-place : (s : State) (k : ℕ) → waits s k ≡ true → inPlace s 
 unfolding waits
 waits-in-place s k w =
     let u = and-yes (eqb (s .turn) k) (inPlace s k && (leb (recordsEnd s) (s .used) && leb (s .used) limit)) (rw w tt) in
-    T-true (inPlace s k) (and-yes (inPlace s k) (leb (recordsEnd s) (s .used) && leb (s .used) limit) (u .1) .0)
+    is-true (inPlace s k) (and-yes (inPlace s k) (leb (recordsEnd s) (s .used) && leb (s .used) limit) (u .1) .0)
 
 pub false-true {ℓ} : {X : Type ℓ} (b : Bool) → false ≡ b → b ≡ true → X
 false-true b e f = absurd (subst (λ (x : Bool). T (not x)) (e ∙ f) tt)

@@ -1,9 +1,10 @@
 // Values as they are printed: for people with blanks up to a width, in JSON as a number, a string, a list or null.
+use addresses::wide;
 use table::Field;
 use text::Text;
 use tool::print;
 use tool::print_bytes;
-ghost use Prim.Native.Nat.{_<_, _≤_};
+ghost use Prim.Native.Nat.{_≤_};
 ghost use Rattle.io.specs.Counts.{Counts};
 
 fn print_repeated(mark: &[u8], from: usize, to: usize) {
@@ -20,12 +21,6 @@ pub fn pad(len: usize, width: usize) {
 
 pub fn print_rule(width: usize) {
     print_repeated(b"-", 0, width);
-}
-
-fn wide(x: u8) -> u64
-    ensures { λ r. ⌜ r < 256 ⌝ }
-{
-    x as u64
 }
 
 // The number that a field's first four bytes spell; no number shown has more.

@@ -16,7 +16,7 @@ use Rattle.table.specs.Objects.{sizeOf, stores, patched, ref6, refFor}
 use Rattle.writer.specs.Stores.{refNum, storesFrom}
 
 -- a turn of the loop over the references
-pub stores-more : (x ps ns ws : List ℕ) (h i n : ℕ) → i < n
+stores-more : (x ps ns ws : List ℕ) (h i n : ℕ) → i < n
     → apply x (storesFrom ps ns ws h i (n - i)) ≡ apply (splice x (getD ps i 0) (refNum h (getD ns i 0))) (storesFrom ps ns ws (h + getD ws i 0) (i + 1) (n - (i + 1)))
 unfolding storesFrom
 stores-more x ps ns ws h i n k =
@@ -75,7 +75,7 @@ one : (ps ns ws : List ℕ) (h i k p n w : ℕ) (r : List ℕ) → getD ps i 0 �
 unfolding storesFrom
 one ps ns ws h i k p n w r e₁ e₂ e₃ e₄ = rw (e₁, e₂, e₃, e₄)
 
-pub stores-told : {rs : Refs} (ss : Slots rs) (ps ns ws : List ℕ) (h i : ℕ) → Told ss ps ns ws i → stores h ss ≡ storesFrom ps ns ws h i (many ss)
+stores-told : {rs : Refs} (ss : Slots rs) (ps ns ws : List ℕ) (h i : ℕ) → Told ss ps ns ws i → stores h ss ≡ storesFrom ps ns ws h i (many ss)
 unfolding stores storesFrom
 stores-told nil ps ns ws h i t = refl
 stores-told (bytes {p = p} b ss) ps ns ws h i t =

@@ -8,6 +8,7 @@ use Rattle.laws.specs.ListWalk.{base-small}
 use Rattle.parts.specs.Parts.{slotsIn}
 use Rattle.reader.proofs.AcceptedLaws.{laid}
 use Rattle.reads.proofs.SeatLaws.{header-seated, host-entered}
+use Rattle.relaid.specs.Laid.{laid as both}
 use Rattle.rewriter.proofs.FormLaws.{form-length, heap-length, front-late, form-laid}
 use borrow.Author.Needs.{needs}
 use Rattle.rewriter.proofs.rewriting.lay_form.Statement.{statement}

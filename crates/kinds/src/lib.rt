@@ -1,18 +1,19 @@
 // What differs from kind to kind, looked up by its number. A number that is no kind has size 0 and no references, as in the definitions.
+use table::Control;
+use table::Discovery;
+use table::Extended;
+use table::Header;
+use table::Hfi;
+use table::Host;
+use table::Info;
+use table::Offsets;
+use table::Security;
+use table::Ssns;
 ghost use mathlib.Core.Path.{_≡_};
 ghost use Prim.Native.Nat.{_≤_};
 ghost use lib.ListN.{length, take};
 ghost use Rattle.table.specs.Layout.{offsets, baseOf};
 ghost use Rattle.table.specs.FixedLayouts.{layoutOf};
-use crate::records::Control;
-use crate::records::Discovery;
-use crate::records::Extended;
-use crate::records::Header;
-use crate::records::Hfi;
-use crate::records::Host;
-use crate::records::Info;
-use crate::records::Security;
-use crate::records::Ssns;
 
 // How many bytes a record of this kind has; in a table it may be longer.
 pub fn base_size(kind: u8) -> usize
@@ -48,12 +49,6 @@ pub fn flags_at(kind: u8) -> usize
         Extended::ID => 4,
         _ => 0,
     }
-}
-
-// Where the references of a record stand, by ascending offset: the first `count` of `at`.
-pub struct Offsets {
-    pub at: [usize; 6],
-    pub count: usize,
 }
 
 // A function, so that each kind takes one line of the table below.

@@ -1,10 +1,10 @@
 use Rattle.table.specs.FixedLayouts.{layoutOf, header, control, host, hfi, ssns, security, discovery, info, extended, noKind}
 use mathlib.Core.Path.{refl}
 use lib.Dec.{lit≤}
 use Rattle.table.proofs.Rules.{picks}
 use borrow.Author.Needs.{needs}
-use Rattle.table.proofs.kinds.reference_offsets.Statement.{statement}
-use Rattle.table.proofs.kinds.reference_offsets.Tie as tie
+use Rattle.kinds.proofs.reference_offsets.Statement.{statement}
+use Rattle.kinds.proofs.reference_offsets.Tie as tie
 
 offsets-of-requires : tie.Need-offsets-of-requires
 offsets-of-requires c κs = search needs
