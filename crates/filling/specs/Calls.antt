@@ -34,12 +34,12 @@ ssnsTold address service others nqn e path = bytes address (bytes service (bytes
 unfoldable pub tellSsns : State → (b x address service others nqn e path : List ℕ) → Outcome
 tellSsns s b x address service others nqn e path = fill ssns s b x (ssnsTold address service others nqn e path)
 
-unfoldable pub securityTold : (o₁ o₂ o₃ o₄ o₅ o₆ : List ℕ) → Slots (security .refs)
+unfoldable pub securityTold : (algorithms protocols ciphers groups hashes keypath : List ℕ) → Slots (security .refs)
 unfolding security
-securityTold o₁ o₂ o₃ o₄ o₅ o₆ = bytes o₁ (bytes o₂ (bytes o₃ (bytes o₄ (bytes o₅ (bytes o₆ nil)))))
+securityTold algorithms protocols ciphers groups hashes keypath = bytes algorithms (bytes protocols (bytes ciphers (bytes groups (bytes hashes (bytes keypath nil)))))
 
-unfoldable pub tellSecurity : State → (b x o₁ o₂ o₃ o₄ o₅ o₆ : List ℕ) → Outcome
-tellSecurity s b x o₁ o₂ o₃ o₄ o₅ o₆ = fill security s b x (securityTold o₁ o₂ o₃ o₄ o₅ o₆)
+unfoldable pub tellSecurity : State → (b x algorithms protocols ciphers groups hashes keypath : List ℕ) → Outcome
+tellSecurity s b x algorithms protocols ciphers groups hashes keypath = fill security s b x (securityTold algorithms protocols ciphers groups hashes keypath)
 
 unfoldable pub discoveryTold : (address nqn : List ℕ) → Slots (discovery .refs)
 unfolding discovery

@@ -113,6 +113,17 @@ pub fn spread(value: u64, into: &mut [u8]) -> bool {
     rest == 0
 }
 
+// A number taken into all of the lent bytes; refused where they do not hold it.
+fn number_taken(value: u64, into: &mut [u8]) -> Taken
+    ensures { λ r. ⌜ r .len ≤ length (now (into .entry)) ⌝ }
+{
+    let fits = spread(value, into);
+    Taken {
+        fine: fits,
+        len: into.len(),
+    }
+}
+
 pub fn number_into(text: &[u8], into: &mut [u8]) -> Taken
     ensures { λ r. ⌜ r .len ≤ length (now (into .entry)) ⌝ }
 {
@@ -120,11 +131,7 @@ pub fn number_into(text: &[u8], into: &mut [u8]) -> Taken
     if !x.fine {
         return refused();
     }
-    let fits = spread(x.value, into);
-    Taken {
-        fine: fits,
-        len: into.len(),
-    }
+    number_taken(x.value, into)
 }
 
 // A function of a device, as in `0000:1c:00.0`: segment, bus, device and function.
@@ -143,11 +150,7 @@ pub fn function_into(text: &[u8], into: &mut [u8]) -> Taken
         return refused();
     }
     let id = segment.value * 65536 + bus.value * 256 + device.value * 8 + function.value;
-    let fits = spread(id, into);
-    Taken {
-        fine: fits,
-        len: into.len(),
-    }
+    number_taken(id, into)
 }
 
 fn marked_at(text: &[u8], at: usize, mark: u8, rest: bool) -> bool
