@@ -1,13 +1,13 @@
 // A table built from its description, and what is promised of it.
+use drafts::lines::nth_section;
+use drafts::wrongs::INCOMPLETE;
+use drafts::wrongs::NOTHING;
+use drafts::wrongs::REFUSED;
+use drafts::wrongs::TOO_MANY;
 use front::Counts;
-use sections::lines::nth_section;
 use sections::walking::Walk;
 use sections::walking::close;
 use sections::walking::walked;
-use sections::wrongs::INCOMPLETE;
-use sections::wrongs::NOTHING;
-use sections::wrongs::REFUSED;
-use sections::wrongs::TOO_MANY;
 use table::Answer;
 ghost use mathlib.Core.Path.{_≡_};
 ghost use lib.ListN.{take};

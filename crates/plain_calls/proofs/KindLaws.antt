@@ -16,7 +16,7 @@ use Rattle.table.specs.FixedLayouts.{layoutOf, host, security, discovery}
 use Rattle.table.specs.Objects.{under, sizeOf, heapOf}
 use Rattle.table.specs.Reads.{needAt}
 use Rattle.table.specs.Rules.{firstFail}
-use Rattle.table.specs.Builder.{Outcome, waits, toldImage, toldSlots}
+use Rattle.table.specs.Builder.{waits, toldImage, toldSlots}
 use Rattle.laws.specs.Fields.{imageIn}
 use Rattle.laws.specs.Refusals.{host-free, lists-free}
 use Rattle.writer.specs.Stores.{storesFrom, Room}
@@ -26,6 +26,7 @@ use Rattle.told.proofs.Laws.{image-is}
 use Rattle.steps.specs.Steps.{told, judgeTests}
 use Rattle.steps.proofs.JudgeLaws.{judge-passed}
 use Rattle.steps.proofs.LayLaws.{six-long}
+use Rattle.plain_calls.specs.Plain.{laidPlain, securityFine}
 use Rattle.filling.specs.Calls.{hostTold, tellHost, discoveryTold, tellDiscovery, securityTold, tellSecurity}
 use Rattle.filling.proofs.FillLaws.{Fine, allFine, and-true, fill-refused, fill-done, fine-short, offset-at, refs-room, six-short, two-true}
 
@@ -39,17 +40,10 @@ plain-room l ps m a b c d e f t q n k ka kb kc kd ke kf =
     refs-room l ps (a ∷ b ∷ c ∷ d ∷ e ∷ f ∷ []) m t q n k
     (six-short _ a b c d e f refl (omega arith) (omega arith) (omega arith) (omega arith) (omega arith) (omega arith))
 
--- what is laid of them by the record of kind k in b, whose m references stand at ps
-abbrev pub laid : ℕ → State → (buf b ps : List ℕ) → ℕ → (p₁ p₂ p₃ p₄ p₅ p₆ : List ℕ) → Outcome
-laid k s buf b ps m p₁ p₂ p₃ p₄ p₅ p₆ =
-    told (layoutOf k) s buf (length (concat (p₁ ∷ p₂ ∷ p₃ ∷ p₄ ∷ p₅ ∷ p₆ ∷ [])))
-    (apply (imageIn (layoutOf k) b 0) (storesFrom ps (length p₁ ∷ length p₂ ∷ length p₃ ∷ length p₄ ∷ length p₅ ∷ length p₆ ∷ []) (length p₁ ∷ length p₂ ∷ length p₃ ∷ length p₄ ∷ length p₅ ∷ length p₆ ∷ []) (s .used) 0 m))
-    (concat (p₁ ∷ p₂ ∷ p₃ ∷ p₄ ∷ p₅ ∷ p₆ ∷ []))
-
 -- by the lengths that the code has
 pub laid-is : (k : ℕ) (s : State) (buf b ps : List ℕ) (m n : ℕ) (ns ws p₁ p₂ p₃ p₄ p₅ p₆ : List ℕ)
     → n ≡ length p₁ + length p₂ + length p₃ + length p₄ + length p₅ + length p₆ → ns ≡ length p₁ ∷ length p₂ ∷ length p₃ ∷ length p₄ ∷ length p₅ ∷ length p₆ ∷ [] → ws ≡ length p₁ ∷ length p₂ ∷ length p₃ ∷ length p₄ ∷ length p₅ ∷ length p₆ ∷ []
-    → told (layoutOf k) s buf n (apply (imageIn (layoutOf k) b 0) (storesFrom ps ns ws (s .used) 0 m)) (concat (p₁ ∷ p₂ ∷ p₃ ∷ p₄ ∷ p₅ ∷ p₆ ∷ [])) ≡ laid k s buf b ps m p₁ p₂ p₃ p₄ p₅ p₆
+    → told (layoutOf k) s buf n (apply (imageIn (layoutOf k) b 0) (storesFrom ps ns ws (s .used) 0 m)) (concat (p₁ ∷ p₂ ∷ p₃ ∷ p₄ ∷ p₅ ∷ p₆ ∷ [])) ≡ laidPlain k s buf b ps m p₁ p₂ p₃ p₄ p₅ p₆
 laid-is k s buf b ps m n ns ws p₁ p₂ p₃ p₄ p₅ p₆ en el ew =
     let size : n ≡ length (concat (p₁ ∷ p₂ ∷ p₃ ∷ p₄ ∷ p₅ ∷ p₆ ∷ [])) = en ∙ omega (arith, six-long p₁ p₂ p₃ p₄ p₅ p₆) in
     rw (size, el, ew) refl
@@ -77,7 +71,7 @@ module _ (s : State) (buf x b nqn : List ℕ) (a : Answer) (eb : b ≡ marked (l
   host-refused z = fill-refused host s buf x b (hostTold nqn) (Fine Required nqn) a eb ea host-free host-fine z
 
   pub host-done : a .number ≡ 0 → (ps : List ℕ) (m : ℕ) → take m ps ≡ offsets (layoutOf 2 .refs) → m ≡ length (offsets (layoutOf 2 .refs))
-      → laid 2 s buf b ps m nqn [] [] [] [] [] ≡ tellHost s buf x nqn
+      → laidPlain 2 s buf b ps m nqn [] [] [] [] [] ≡ tellHost s buf x nqn
   unfolding tellHost layoutOf host hostTold toldSlots sizeOf heapOf
   host-done z ps m e c =
       fill-done host s buf x b (hostTold nqn) (Fine Required nqn) a eb ea host-free host-fine z ps _ _ m _ _
@@ -97,7 +91,7 @@ module _ (s : State) (buf x b address nqn : List ℕ) (a : Answer) (eb : b ≡ m
   discovery-refused z = fill-refused discovery s buf x b (discoveryTold address nqn) (Fine Optional address && Fine Optional nqn) a eb ea (lists-free .1 .1 .1 .0) discovery-fine z
 
   pub discovery-done : a .number ≡ 0 → (ps : List ℕ) (m : ℕ) → take m ps ≡ offsets (layoutOf 6 .refs) → m ≡ length (offsets (layoutOf 6 .refs))
-      → laid 6 s buf b ps m address nqn [] [] [] [] ≡ tellDiscovery s buf x address nqn
+      → laidPlain 6 s buf b ps m address nqn [] [] [] [] ≡ tellDiscovery s buf x address nqn
   unfolding tellDiscovery layoutOf discovery discoveryTold toldSlots sizeOf heapOf
   discovery-done z ps m e c =
       let at : (i : ℕ) → i < m → getD ps i 0 ≡ getD (6 ∷ 12 ∷ []) i 0 = λ i k. offset-at ps (6 ∷ 12 ∷ []) m i e k in
@@ -111,7 +105,7 @@ abbrev pub needFor : List ℕ → ℕ → Need
 needFor b p = needAt p (security .refs) (imageIn security b 0)
 
 module _ (s : State) (buf x b o₁ o₂ o₃ o₄ o₅ o₆ : List ℕ) (a : Answer) (eb : b ≡ marked (layoutOf 5 .shape) (s .position) x)
-    (ea : a ≡ firstFail (judgeTests (layoutOf 5) s (imageIn (layoutOf 5) b 0) (Fine (needFor b 6) o₁ && (Fine (needFor b 12) o₂ && (Fine (needFor b 18) o₃ && (Fine (needFor b 24) o₄ && (Fine (needFor b 30) o₅ && Fine (needFor b 36) o₆)))))))
+    (ea : a ≡ firstFail (judgeTests (layoutOf 5) s (imageIn (layoutOf 5) b 0) (securityFine (imageIn security b 0) o₁ o₂ o₃ o₄ o₅ o₆)))
   where
     abbrev img₅ : List ℕ
     img₅ = toldImage (security .shape) (s .position) x
@@ -120,27 +114,24 @@ module _ (s : State) (buf x b o₁ o₂ o₃ o₄ o₅ o₆ : List ℕ) (a : Ans
     unfolding layoutOf
     told₅ = image-is security (s .position) x b eb
 
-    abbrev fine₅ : List ℕ → Bool
-    fine₅ img = Fine (needAt 6 (security .refs) img) o₁ && (Fine (needAt 12 (security .refs) img) o₂ && (Fine (needAt 18 (security .refs) img) o₃ && (Fine (needAt 24 (security .refs) img) o₄ && (Fine (needAt 30 (security .refs) img) o₅ && Fine (needAt 36 (security .refs) img) o₆))))
-
-    security-fine : fine₅ (imageIn security b 0) ≡ allFine img₅ (toldSlots (s .position) img₅ (securityTold o₁ o₂ o₃ o₄ o₅ o₆))
+    security-fine : securityFine (imageIn security b 0) o₁ o₂ o₃ o₄ o₅ o₆ ≡ allFine img₅ (toldSlots (s .position) img₅ (securityTold o₁ o₂ o₃ o₄ o₅ o₆))
     unfolding security securityTold toldSlots
-    security-fine = ap fine₅ told₅ ∙ rw (and-true (Fine (needAt 36 (security .refs) img₅) o₆)) refl
+    security-fine = ap (λ (y : List ℕ). securityFine y o₁ o₂ o₃ o₄ o₅ o₆) told₅ ∙ rw (and-true (Fine (needAt 36 (security .refs) img₅) o₆)) refl
 
     pub security-refused : (a .number ≡ 0 → ⊥) → (record { answer = a; state = s } ≡ tellSecurity s buf x o₁ o₂ o₃ o₄ o₅ o₆ .step) × (buf ≡ tellSecurity s buf x o₁ o₂ o₃ o₄ o₅ o₆ .buffer)
     unfolding tellSecurity layoutOf
-    security-refused z = fill-refused security s buf x b (securityTold o₁ o₂ o₃ o₄ o₅ o₆) (fine₅ (imageIn security b 0)) a eb ea (lists-free .1 .1 .0) security-fine z
+    security-refused z = fill-refused security s buf x b (securityTold o₁ o₂ o₃ o₄ o₅ o₆) (securityFine (imageIn security b 0) o₁ o₂ o₃ o₄ o₅ o₆) a eb ea (lists-free .1 .1 .0) security-fine z
 
     pub security-passed : a .number ≡ 0 → (waits s (layoutOf 5 .kind) ≡ true) × (length (under (needFor b 6) [] o₁) ≤ 65535) × (length (under (needFor b 12) [] o₂) ≤ 65535) × (length (under (needFor b 18) [] o₃) ≤ 65535) × (length (under (needFor b 24) [] o₄) ≤ 65535) × (length (under (needFor b 30) [] o₅) ≤ 65535) × (length (under (needFor b 36) [] o₆) ≤ 65535)
     security-passed z =
-        let p = judge-passed (layoutOf 5) s (imageIn (layoutOf 5) b 0) (fine₅ (imageIn security b 0)) a ea z in
+        let p = judge-passed (layoutOf 5) s (imageIn (layoutOf 5) b 0) (securityFine (imageIn security b 0) o₁ o₂ o₃ o₄ o₅ o₆) a ea z in
         let q = six-true (Fine (needFor b 6) o₁) (Fine (needFor b 12) o₂) (Fine (needFor b 18) o₃) (Fine (needFor b 24) o₄) (Fine (needFor b 30) o₅) (Fine (needFor b 36) o₆) (p .1) in
         (p .0, fine-short (needFor b 6) o₁ (q .0), fine-short (needFor b 12) o₂ (q .1), fine-short (needFor b 18) o₃ (q .2), fine-short (needFor b 24) o₄ (q .3), fine-short (needFor b 30) o₅ (q .4), fine-short (needFor b 36) o₆ (q .5))
 
     pub security-done : a .number ≡ 0 → (ps : List ℕ) (m : ℕ) (k₁ k₂ k₃ k₄ k₅ k₆ : List ℕ)
         → k₁ ≡ under (needFor b 6) [] o₁ → k₂ ≡ under (needFor b 12) [] o₂ → k₃ ≡ under (needFor b 18) [] o₃ → k₄ ≡ under (needFor b 24) [] o₄ → k₅ ≡ under (needFor b 30) [] o₅ → k₆ ≡ under (needFor b 36) [] o₆
         → take m ps ≡ offsets (layoutOf 5 .refs) → m ≡ length (offsets (layoutOf 5 .refs))
-        → laid 5 s buf b ps m k₁ k₂ k₃ k₄ k₅ k₆ ≡ tellSecurity s buf x o₁ o₂ o₃ o₄ o₅ o₆
+        → laidPlain 5 s buf b ps m k₁ k₂ k₃ k₄ k₅ k₆ ≡ tellSecurity s buf x o₁ o₂ o₃ o₄ o₅ o₆
     unfolding tellSecurity layoutOf security securityTold toldSlots sizeOf heapOf
     security-done z ps m k₁ k₂ k₃ k₄ k₅ k₆ g₁ g₂ g₃ g₄ g₅ g₆ e c =
         let at : (i : ℕ) → i < m → getD ps i 0 ≡ getD (6 ∷ 12 ∷ 18 ∷ 24 ∷ 30 ∷ 36 ∷ []) i 0 = λ i k. offset-at ps (6 ∷ 12 ∷ 18 ∷ 24 ∷ 30 ∷ 36 ∷ []) m i e k in
@@ -152,5 +143,5 @@ module _ (s : State) (buf x b o₁ o₂ o₃ o₄ o₅ o₆ : List ℕ) (a : Ans
         let d₄ = g₄ ∙ kept 24 o₄ in
         let d₅ = g₅ ∙ kept 30 o₅ in
         let d₆ = g₆ ∙ kept 36 o₆ in
-        fill-done security s buf x b (securityTold o₁ o₂ o₃ o₄ o₅ o₆) (fine₅ (imageIn security b 0)) a eb ea (lists-free .1 .1 .0) security-fine z ps _ _ m _ _ (at 0 (omega arith), ap length d₁, ap length d₁, (at 1 (omega arith), ap length d₂, ap length d₂, (at 2 (omega arith), ap length d₃, ap length d₃, (at 3 (omega arith), ap length d₄, ap length d₄, (at 4 (omega arith), ap length d₅, ap length d₅, (at 5 (omega arith), ap length d₆, ap length d₆, tt))))))
+        fill-done security s buf x b (securityTold o₁ o₂ o₃ o₄ o₅ o₆) (securityFine (imageIn security b 0) o₁ o₂ o₃ o₄ o₅ o₆) a eb ea (lists-free .1 .1 .0) security-fine z ps _ _ m _ _ (at 0 (omega arith), ap length d₁, ap length d₁, (at 1 (omega arith), ap length d₂, ap length d₂, (at 2 (omega arith), ap length d₃, ap length d₃, (at 3 (omega arith), ap length d₄, ap length d₄, (at 4 (omega arith), ap length d₅, ap length d₅, (at 5 (omega arith), ap length d₆, ap length d₆, tt))))))
         (sym c) (six-long k₁ k₂ k₃ k₄ k₅ k₆ ∙ omega (arith, ap length d₁, ap length d₂, ap length d₃, ap length d₄, ap length d₅, ap length d₆)) (rw (d₁, d₂, d₃, d₄, d₅, d₆) refl)

@@ -17,21 +17,17 @@ use told::marks::mark_64;
 use told::objects::fits;
 use told::objects::kept;
 ghost use mathlib.Core.Path.{_≡_};
-ghost use mathlib.Core.Bool.{true, _&&_};
+ghost use mathlib.Core.Bool.{true};
 ghost use mathlib.Core.List.{[], _∷_};
 ghost use Prim.Native.Nat.{_≤_};
 ghost use lib.ListN.{length};
-ghost use Rattle.table.specs.Bytes.{apply};
 ghost use Rattle.table.specs.Layout.{baseOf};
 ghost use Rattle.table.specs.FixedLayouts as layouts;
-ghost use Rattle.table.specs.Reads.{needAt};
 ghost use Rattle.table.specs.Builder.{waits};
 ghost use Rattle.laws.specs.Fields.{imageIn};
-ghost use Rattle.writer.specs.Stores.{storesFrom, Room};
-ghost use Rattle.writer.proofs.StoreLaws.{concat};
-ghost use Rattle.steps.specs.Steps.{told};
+ghost use Rattle.writer.specs.Stores.{Room};
 ghost use Rattle.filling.specs.Calls.{tellHost, tellSecurity, tellDiscovery};
-ghost use Rattle.filling.proofs.FillLaws.{Fine};
+ghost use Rattle.plain_calls.specs.Plain.{laidPlain, securityFine};
 
 // The record of a kind in `b`, whose references name objects alone, so that each takes its own length. A kind that has fewer than six is handed
 // empty ones for the rest.
@@ -51,7 +47,7 @@ fn lay_plain(
     requires { ⌜ (2 ≤ kind) × (kind ≤ 6) × (waits s kind ≡ true) × (length (now b) ≡ baseOf (layouts.layoutOf kind)) ⌝ }
     requires { ⌜ (length (now p1) ≤ 65535) × (length (now p2) ≤ 65535) × (length (now p3) ≤ 65535) × (length (now p4) ≤ 65535) × (length (now p5) ≤ 65535) × (length (now p6) ≤ 65535) ⌝ }
     requires { ⌜ Room (refs .count) (refs .at) (length (now p1) ∷ length (now p2) ∷ length (now p3) ∷ length (now p4) ∷ length (now p5) ∷ length (now p6) ∷ []) (baseOf (layouts.layoutOf kind)) ⌝ }
-    ensures { λ r. ⌜ (r ≡ told (layouts.layoutOf kind) s (now (out .entry)) (length (concat (now (p1 .entry) ∷ now (p2 .entry) ∷ now (p3 .entry) ∷ now (p4 .entry) ∷ now (p5 .entry) ∷ now (p6 .entry) ∷ []))) (apply (imageIn (layouts.layoutOf kind) (now (b .entry)) 0) (storesFrom (refs .at) (length (now (p1 .entry)) ∷ length (now (p2 .entry)) ∷ length (now (p3 .entry)) ∷ length (now (p4 .entry)) ∷ length (now (p5 .entry)) ∷ length (now (p6 .entry)) ∷ []) (length (now (p1 .entry)) ∷ length (now (p2 .entry)) ∷ length (now (p3 .entry)) ∷ length (now (p4 .entry)) ∷ length (now (p5 .entry)) ∷ length (now (p6 .entry)) ∷ []) (s .used) 0 (refs .count))) (concat (now (p1 .entry) ∷ now (p2 .entry) ∷ now (p3 .entry) ∷ now (p4 .entry) ∷ now (p5 .entry) ∷ now (p6 .entry) ∷ [])) .step) × (now (out .exit) ≡ told (layouts.layoutOf kind) s (now (out .entry)) (length (concat (now (p1 .entry) ∷ now (p2 .entry) ∷ now (p3 .entry) ∷ now (p4 .entry) ∷ now (p5 .entry) ∷ now (p6 .entry) ∷ []))) (apply (imageIn (layouts.layoutOf kind) (now (b .entry)) 0) (storesFrom (refs .at) (length (now (p1 .entry)) ∷ length (now (p2 .entry)) ∷ length (now (p3 .entry)) ∷ length (now (p4 .entry)) ∷ length (now (p5 .entry)) ∷ length (now (p6 .entry)) ∷ []) (length (now (p1 .entry)) ∷ length (now (p2 .entry)) ∷ length (now (p3 .entry)) ∷ length (now (p4 .entry)) ∷ length (now (p5 .entry)) ∷ length (now (p6 .entry)) ∷ []) (s .used) 0 (refs .count))) (concat (now (p1 .entry) ∷ now (p2 .entry) ∷ now (p3 .entry) ∷ now (p4 .entry) ∷ now (p5 .entry) ∷ now (p6 .entry) ∷ [])) .buffer) ⌝ }
+    ensures { λ r. ⌜ (r ≡ laidPlain kind s (now (out .entry)) (now (b .entry)) (refs .at) (refs .count) (now (p1 .entry)) (now (p2 .entry)) (now (p3 .entry)) (now (p4 .entry)) (now (p5 .entry)) (now (p6 .entry)) .step) × (now (out .exit) ≡ laidPlain kind s (now (out .entry)) (now (b .entry)) (refs .at) (refs .count) (now (p1 .entry)) (now (p2 .entry)) (now (p3 .entry)) (now (p4 .entry)) (now (p5 .entry)) (now (p6 .entry)) .buffer) ⌝ }
 {
     let z = plain_sizes(p1.len(), p2.len(), p3.len(), p4.len(), p5.len(), p6.len());
     let n = p1.len() + p2.len() + p3.len() + p4.len() + p5.len() + p6.len();
@@ -122,7 +118,7 @@ fn security_fits(
     keypath: &[u8],
 ) -> bool
     requires { ⌜ 64 ≤ length (now b) ⌝ }
-    ensures { λ r. ⌜ r ≡ (Fine (needAt 6 (layouts.security .refs) (imageIn layouts.security (now (b .entry)) 0)) (now (algorithms .entry)) && (Fine (needAt 12 (layouts.security .refs) (imageIn layouts.security (now (b .entry)) 0)) (now (protocols .entry)) && (Fine (needAt 18 (layouts.security .refs) (imageIn layouts.security (now (b .entry)) 0)) (now (ciphers .entry)) && (Fine (needAt 24 (layouts.security .refs) (imageIn layouts.security (now (b .entry)) 0)) (now (groups .entry)) && (Fine (needAt 30 (layouts.security .refs) (imageIn layouts.security (now (b .entry)) 0)) (now (hashes .entry)) && Fine (needAt 36 (layouts.security .refs) (imageIn layouts.security (now (b .entry)) 0)) (now (keypath .entry))))))) ⌝ }
+    ensures { λ r. ⌜ r ≡ securityFine (imageIn layouts.security (now (b .entry)) 0) (now (algorithms .entry)) (now (protocols .entry)) (now (ciphers .entry)) (now (groups .entry)) (now (hashes .entry)) (now (keypath .entry)) ⌝ }
 {
     let hashed = fits(security_need(b, 0, 30), hashes);
     let keyed = fits(security_need(b, 0, 36), keypath);

@@ -1,5 +1,5 @@
 // A section told to the builder by the call of its kind. What that call would drop without a word is found before.
-use crate::drafts::Draft;
+use drafts::Draft;
 use front::Counts;
 use needs::security_need;
 use table::Discovery;

@@ -1,13 +1,13 @@
 use mathlib.Core.Path.{_≡_, refl, sym, ap, _∙_}
 use mathlib.Core.List.{[]}
-use mathlib.Core.Bool.{Bool, true, _&&_}
+use mathlib.Core.Bool.{Bool, true}
 use lib.ListN.{length}
 use Prim.Native.Nat.{_≤_}
 use Rattle.table.specs.FixedLayouts.{layoutOf, security}
 use Rattle.table.specs.Builder.{Outcome, waits}
 use Rattle.table.specs.Objects.{under}
 use Rattle.table.specs.declared.Need.{Need}
-use Rattle.filling.proofs.FillLaws.{Fine}
+use Rattle.plain_calls.specs.Plain.{securityFine}
 use Rattle.plain_calls.proofs.KindLaws.{needFor, security-refused, security-passed, security-done, plain-room}
 use native.Mathlib.Omega.{arith}
 use lib.Dec.{lit≤}
@@ -20,7 +20,7 @@ use Rattle.plain_calls.proofs.security.Statement.{statement}
 use Rattle.plain_calls.proofs.security.Tie as tie
 
 -- what was answered, by the objects
-judged-is : (c : tie.After-judged) → c .judged .result ≡ firstFail (judgeTests (layoutOf 5) (c .before .before .before .before .before .before .before .before .before .before .before .before .before .before .args .s) (imageIn (layoutOf 5) (c .before .before .before .before .mark-64 .result) 0) (Fine (needFor (c .before .before .before .before .mark-64 .result) 6) (c .before .before .before .before .before .before .before .before .before .before .before .before .before .before .args .algorithms .now) && (Fine (needFor (c .before .before .before .before .mark-64 .result) 12) (c .before .before .before .before .before .before .before .before .before .before .before .before .before .before .args .protocols .now) && (Fine (needFor (c .before .before .before .before .mark-64 .result) 18) (c .before .before .before .before .before .before .before .before .before .before .before .before .before .before .args .ciphers .now) && (Fine (needFor (c .before .before .before .before .mark-64 .result) 24) (c .before .before .before .before .before .before .before .before .before .before .before .before .before .before .args .groups .now) && (Fine (needFor (c .before .before .before .before .mark-64 .result) 30) (c .before .before .before .before .before .before .before .before .before .before .before .before .before .before .args .hashes .now) && Fine (needFor (c .before .before .before .before .mark-64 .result) 36) (c .before .before .before .before .before .before .before .before .before .before .before .before .before .before .args .keypath .now)))))))
+judged-is : (c : tie.After-judged) → c .judged .result ≡ firstFail (judgeTests (layoutOf 5) (c .before .before .before .before .before .before .before .before .before .before .before .before .before .before .args .s) (imageIn (layoutOf 5) (c .before .before .before .before .mark-64 .result) 0) (securityFine (imageIn security (c .before .before .before .before .mark-64 .result) 0) (c .before .before .before .before .before .before .before .before .before .before .before .before .before .before .args .algorithms .now) (c .before .before .before .before .before .before .before .before .before .before .before .before .before .before .args .protocols .now) (c .before .before .before .before .before .before .before .before .before .before .before .before .before .before .args .ciphers .now) (c .before .before .before .before .before .before .before .before .before .before .before .before .before .before .args .groups .now) (c .before .before .before .before .before .before .before .before .before .before .before .before .before .before .args .hashes .now) (c .before .before .before .before .before .before .before .before .before .before .before .before .before .before .args .keypath .now)))
 judged-is c = c .judged .ensures ∙ ap (λ (f : Bool). firstFail (judgeTests (layoutOf 5) (c .before .before .before .before .before .before .before .before .before .before .before .before .before .before .args .s) (imageIn (layoutOf 5) (c .before .before .before .before .mark-64 .result) 0) f)) (c .before .before .security-fits .ensures)
 
 -- what is known of a record that was taken

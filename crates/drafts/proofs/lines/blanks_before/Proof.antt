@@ -1,8 +1,8 @@
 use Prim.Native.Nat.{_≤_, _-_}
 use lib.ListN.{length}
 use Rattle.table.proofs.Rules.{picks}
-use Rattle.sections.proofs.lines.blanks_before.Statement.{statement}
-use Rattle.sections.proofs.lines.blanks_before.Tie as tie
+use Rattle.drafts.proofs.lines.blanks_before.Statement.{statement}
+use Rattle.drafts.proofs.lines.blanks_before.Tie as tie
 
 abbrev Inv-loop : tie.InvT-loop
 Inv-loop text i₀ i = i ≤ length text

@@ -1,4 +1,7 @@
 // A section as far as it is read: its bytes, its objects in the lent room, and the line that told each, so that a fault can be named by its line.
+pub mod lines; // lines, words and sections
+pub mod wrongs; // what may be wrong with a description
+
 use crate::lines::NO_KIND;
 use crate::lines::Section;
 use crate::wrongs::NO_FIELD;

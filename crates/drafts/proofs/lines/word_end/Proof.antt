@@ -1,20 +1,17 @@
-use Prim.Native.Nat.{_≤_}
+use Prim.Native.Nat.{_≤_, _-_}
 use lib.ListN.{length}
 use Rattle.table.proofs.Rules.{picks}
-use Rattle.sections.proofs.lines.end_before_blanks.Statement.{statement}
-use Rattle.sections.proofs.lines.end_before_blanks.Tie as tie
+use Rattle.drafts.proofs.lines.word_end.Statement.{statement}
+use Rattle.drafts.proofs.lines.word_end.Tie as tie
 
 abbrev Inv-loop : tie.InvT-loop
-Inv-loop text n₀ n = n ≤ length text
+Inv-loop text i₀ i = i ≤ length text
 
 abbrev μ-loop : tie.MeasureT-loop
-μ-loop text n₀ n = n
+μ-loop text i₀ i = length text - i
 
 loop-holds : tie.Need-loop-holds Inv-loop μ-loop
 loop-holds c = search picks
-
-sub-is-blank : tie.Need-sub-is-blank Inv-loop μ-loop
-sub-is-blank c = search picks
 
 shared-slice-read-is-blank : tie.Need-shared-slice-read-is-blank Inv-loop μ-loop
 shared-slice-read-is-blank c = search picks
@@ -25,8 +22,8 @@ is-blank-requires c κs = search picks
 returns : tie.Need-returns Inv-loop μ-loop
 returns c = search picks
 
-sub-n : tie.Need-sub-n Inv-loop μ-loop
-sub-n c = search picks
+add-i : tie.Need-add-i Inv-loop μ-loop
+add-i c = search picks
 
 loop-less : tie.Need-loop-less Inv-loop μ-loop
 loop-less c = search picks
@@ -37,18 +34,17 @@ loop-again c = search picks
 returns-2 : tie.Need-returns-2 Inv-loop μ-loop
 returns-2 c = search picks
 
-pub end-before-blanks-spec : {M : Type 1} → statement M
-end-before-blanks-spec =
+pub word-end-spec : {M : Type 1} → statement M
+word-end-spec =
     tie.close
     (tie.spec
     Inv-loop
     μ-loop
     loop-holds
-    sub-is-blank
     shared-slice-read-is-blank
     is-blank-requires
     returns
-    sub-n
+    add-i
     loop-less
     loop-again
     returns-2)

@@ -1,8 +1,8 @@
 use Prim.Native.Nat.{_≤_, _-_}
 use lib.ListN.{length}
 use Rattle.table.proofs.Rules.{picks}
-use Rattle.sections.proofs.lines.nth_section.Statement.{statement}
-use Rattle.sections.proofs.lines.nth_section.Tie as tie
+use Rattle.drafts.proofs.lines.nth_section.Statement.{statement}
+use Rattle.drafts.proofs.lines.nth_section.Tie as tie
 
 abbrev Inv-loop : tie.InvT-loop
 Inv-loop text kind n found₀ line₀ from₀ found line from = (found .count ≤ line) × (line ≤ from) × (from ≤ length text)
