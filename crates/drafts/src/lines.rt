@@ -1,6 +1,6 @@
 // Lines, words and sections of a text: where each begins and ends, without the blanks around it.
 use check::same;
-use spelling::parts::mark_from;
+use separated::mark_from;
 ghost use Prim.Native.Nat.{_≤_, _<_};
 ghost use lib.ListN.{length};
 

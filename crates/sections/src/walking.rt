@@ -17,7 +17,7 @@ use drafts::wrongs::OUT_OF_TURN;
 use drafts::wrongs::REFUSED;
 use drafts::wrongs::TOLD_UNUSED;
 use front::Counts;
-use spelling::parts::mark_from;
+use separated::mark_from;
 use table::Answer;
 use table::State;
 

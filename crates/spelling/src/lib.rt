@@ -1,7 +1,5 @@
 // Values as they are written, read into bytes: what the tools print of a value can be read again. Each is lent the bytes that it may fill.
-pub mod addresses; // Internet addresses
 pub mod numbers; // numbers in decimal and hexadecimal
-pub mod parts; // numbers with a mark between: interfaces' addresses, lists
 pub mod strings; // characters, escaped bytes, bytes by their digits
 
 ghost use mathlib.Core.Path.{_≡_};

@@ -1,8 +1,8 @@
 use lib.ListN.{length-set}
 use Rattle.table.proofs.Rules.{picks}
 use borrow.Author.Needs.{needs}
-use Rattle.spelling.proofs.parts.put_pair.Statement.{statement}
-use Rattle.spelling.proofs.parts.put_pair.Tie as tie
+use Rattle.separated.proofs.put_pair.Statement.{statement}
+use Rattle.separated.proofs.put_pair.Tie as tie
 
 refused-requires : tie.Need-refused-requires
 refused-requires c κs = search needs

@@ -1,7 +1,9 @@
-// Numbers with a mark between them, one or two bytes each.
-use crate::Taken;
-use crate::numbers::number_of;
-use crate::refused;
+// Numbers with a mark between them, one or two bytes each, read into bytes.
+pub mod addresses; // Internet addresses
+
+use spelling::Taken;
+use spelling::numbers::number_of;
+use spelling::refused;
 ghost use Prim.Native.Nat.{_≤_, _<_};
 ghost use lib.ListN.{length};
 

@@ -2,8 +2,8 @@ use Prim.Native.Nat.{_≤_, _-_}
 use lib.ListN.{length}
 use mathlib.Core.Path.{_≡_}
 use Rattle.table.proofs.Rules.{picks}
-use Rattle.spelling.proofs.parts.parts_into.Statement.{statement}
-use Rattle.spelling.proofs.parts.parts_into.Tie as tie
+use Rattle.separated.proofs.parts_into.Statement.{statement}
+use Rattle.separated.proofs.parts_into.Tie as tie
 
 abbrev Inv-loop : tie.InvT-loop
 Inv-loop text how into₀ mark len₀ from₀ into len from = (length into ≡ length into₀) × (len ≤ length into₀) × (from ≤ length text)

@@ -1,10 +1,10 @@
 // Internet addresses of 16 bytes: a dotted quad, which is mapped, or groups with at most one run of zeros left out.
-use crate::Taken;
-use crate::parts::groups;
-use crate::parts::mark_from;
-use crate::parts::parts_into;
-use crate::parts::quad;
-use crate::refused;
+use crate::groups;
+use crate::mark_from;
+use crate::parts_into;
+use crate::quad;
+use spelling::Taken;
+use spelling::refused;
 use writer::stores::copy_into;
 ghost use mathlib.Core.Path.{_≡_};
 ghost use Prim.Native.Nat.{_≤_, _<_};
