@@ -6,10 +6,11 @@ use Prim.Native.Nat.{ℕ, _+_, _≤_}
 use lib.ListN.{length, getD, length-append, length-replicate}
 use lib.Dec.{T}
 use Rattle.table.specs.Bytes.{part}
-use Rattle.table.specs.Layout.{Entry, isValid, baseOf}
+use Rattle.table.specs.Layout.{Layout, Entry, unused, used, baseOf}
 use Rattle.table.specs.FixedLayouts.{layoutOf, header, control, host, hfi, ssns, security, discovery, info, extended, noKind}
-use Rattle.table.specs.Objects.{readEntry, sizeOf, sizeEntry, patched, heapOf, recEntry, heapEntry}
-use Rattle.table.specs.Reads.{seat, hasPlain}
+use Rattle.table.specs.Objects.{sizeOf, sizeEntry, patched, heapOf, recEntry, heapEntry}
+use Rattle.table.specs.Reads as reads
+use Rattle.table.specs.Reads.{seat, seatOf, hasPlain}
 use Rattle.laws.specs.Lawful.{okRefs}
 use Rattle.laws.specs.SlotLaws.{length-patched}
 use Rattle.laws.specs.Fields.{imageIn, length-imageIn}
@@ -18,12 +19,13 @@ use Rattle.images.proofs.Laws.{part-long}
 use Rattle.reader.specs.Accepted.{Accepted}
 use Rattle.reads.specs.declared.seats.Seat.{Seat}
 use Rattle.reads.specs.declared.seats.Seat.the-variants.{Nowhere, At}
-use Rattle.reads.specs.Seats.{Seated, Entered, Held, heapRecord}
-use Rattle.reads.specs.Told.{innerKind}
-use Rattle.reads.proofs.SeatLaws.{record-held}
+use Rattle.reads.specs.Seats.{Seated, Good, Held, heapRecord}
+use Rattle.reads.specs.Told.{innerKind, toldEntry}
+use Rattle.reads.proofs.SeatLaws.{seats-good, record-held}
+use Rattle.reads.proofs.EntryLaws.{seated-at, entry-nowhere, entry-off, entry-on}
 use Rattle.reads.proofs.ObjectLaws.{seat-room}
 use Rattle.parts.specs.Parts.{Part, refsOf, OneObject, slotsIn, recordPart, partAt, recordBytes, bytesAt, spansOver, objectsOver}
-use Rattle.parts.proofs.PartLaws.{plain-part, nest-part, plain-bytes, nest-bytes, single, one-object, own-size, sized-all, heaped-all, entry-used, entry-unused}
+use Rattle.parts.proofs.PartLaws.{plain-part, nest-part, plain-bytes, nest-bytes, single, one-object, own-size, sized-all, heaped-all}
 
 refs-ok : (k : ℕ) → T (okRefs 0 (layoutOf k .shape .keep) (layoutOf k .refs))
 unfolding header control host hfi ssns security discovery info extended noKind
@@ -39,7 +41,7 @@ module _ (t : List ℕ) (ok : Accepted t) (k a : ℕ) (s : Seated t (layoutOf k)
   pub object-room : (p : ℕ) → hasPlain p (layoutOf k .refs) ≡ true → partAt t k a p .at + partAt t k a p .len ≤ length t
   object-room p e = subst (λ (q : Part). q .at + q .len ≤ length t) (sym (plain-part t ok k a s p e)) (seat-room t ok p k (seat (layoutOf k) a true) (refl, s))
 
-  object-span : (p : ℕ) → hasPlain p (layoutOf k .refs) ≡ true → partAt t k a p .span ≡ partAt t k a p .len
+  pub object-span : (p : ℕ) → hasPlain p (layoutOf k .refs) ≡ true → partAt t k a p .span ≡ partAt t k a p .len
   object-span p e = subst (λ (q : Part). q .span ≡ q .len) (sym (plain-part t ok k a s p e)) refl
 
   pub object-bytes : (h p : ℕ) → hasPlain p (layoutOf k .refs) ≡ true → bytesAt t k a h p ≡ part t (partAt t k a p .at) (partAt t k a p .len)
@@ -96,27 +98,27 @@ module _ (t : List ℕ) (ok : Accepted t) (k a : ℕ) (s : Seated t (layoutOf k)
   pub slots-long : (h : ℕ) → length (heapOf h (slotsIn (layoutOf k) t a)) ≡ sizeOf (slotsIn (layoutOf k) t a)
   slots-long h = ap length (heaped-all t ok k a s h) ∙ objects-long h (refsOf k) ∙ sym (sized-all t ok k a s)
 
--- ---- a record of a list
+-- ---- the record of a kind and position
 
-module _ (t : List ℕ) (ok : Accepted t) (k a : ℕ) (e : Entered t k a) where
+module _ (t : List ℕ) (ok : Accepted t) (k n : ℕ) where
   abbrev here : Entry (layoutOf k)
-  here = readEntry (layoutOf k) t a
+  here = toldEntry (layoutOf k) t k n
+
+  -- it reads as unused, or as what stands at its seat
+  pub by-seat : (P : Entry (layoutOf k) → Type 0) → P unused → ((a : ℕ) → Seated t (layoutOf k) a true → P (used (imageIn (layoutOf k) t a) (slotsIn (layoutOf k) t a))) → P here
+  unfolding slotsIn
+  by-seat P p f = go (seatOf t k n) refl (seats-good t ok n k) where
+    go : (s : reads.Seat) → seatOf t k n ≡ s → Good t k s → P here
+    go reads.nowhere e g = subst P (sym (entry-nowhere t k n e)) p
+    go (seat l a false) e g = subst P (sym (entry-off t k n a (e ∙ ap (λ (m : Layout). seat m a false) (g .0)))) p
+    go (seat l a true) e g =
+        let s : seatOf t k n ≡ seat (layoutOf k) a true = e ∙ ap (λ (m : Layout). seat m a true) (g .0) in
+        subst P (sym (entry-on t k n a s)) (f a (seated-at t ok k n a true s))
 
   pub record-bytes : (h : ℕ) → length (recEntry h here) ≡ baseOf (layoutOf k)
   unfolding recEntry
-  record-bytes h = go (isValid (layoutOf k .shape) (imageIn (layoutOf k) t a)) refl where
-    go : (c : Bool) → isValid (layoutOf k .shape) (imageIn (layoutOf k) t a) ≡ c → length (recEntry h here) ≡ baseOf (layoutOf k)
-    go true v = ap (λ (x : Entry (layoutOf k)). length (recEntry h x)) (entry-used t (layoutOf k) a v) ∙ patched-long t k a h
-    go false v = ap (λ (x : Entry (layoutOf k)). length (recEntry h x)) (entry-unused t (layoutOf k) a v) ∙ length-replicate (baseOf (layoutOf k)) 0
+  record-bytes h = by-seat (λ x. length (recEntry h x) ≡ baseOf (layoutOf k)) (length-replicate (baseOf (layoutOf k)) 0) (λ a s. patched-long t k a h)
 
   pub heap-bytes : (h : ℕ) → length (heapEntry h here) ≡ sizeEntry here
   unfolding heapEntry sizeEntry
-  heap-bytes h = go (isValid (layoutOf k .shape) (imageIn (layoutOf k) t a)) refl where
-    go : (c : Bool) → isValid (layoutOf k .shape) (imageIn (layoutOf k) t a) ≡ c → length (heapEntry h here) ≡ sizeEntry here
-    go true v =
-        ap (λ (x : Entry (layoutOf k)). length (heapEntry h x)) (entry-used t (layoutOf k) a v)
-        ∙ slots-long t ok k a (subst (Seated t (layoutOf k) a) v (e .seated)) h
-        ∙ sym (ap (λ (x : Entry (layoutOf k)). sizeEntry x) (entry-used t (layoutOf k) a v))
-    go false v =
-        ap (λ (x : Entry (layoutOf k)). length (heapEntry h x)) (entry-unused t (layoutOf k) a v)
-        ∙ sym (ap (λ (x : Entry (layoutOf k)). sizeEntry x) (entry-unused t (layoutOf k) a v))
+  heap-bytes h = by-seat (λ x. length (heapEntry h x) ≡ sizeEntry x) refl (λ a s. slots-long t ok k a s h)

@@ -2,8 +2,8 @@
 use mathlib.Core.Path.{_≡_, refl, sym, ap, ap₂, subst, _∙_}
 use mathlib.Core.Bool.{Bool, true, false, true≢false}
 use mathlib.Core.List.{List, [], _∷_, _++_}
-use Prim.Native.Nat.{ℕ, suc, _+_, _-_, _*_, _/_, _%_, _≤_, _<_}
-use native.Mathlib.Nat.{add-zero, zero-add}
+use Prim.Native.Nat.{ℕ, zero, suc, _+_, _-_, _*_, _/_, _%_, _≤_, _<_}
+use native.Mathlib.Nat.{add-zero, zero-add, sub-zero}
 use native.Mathlib.Numerals.{add-one}
 use native.Mathlib.Omega.{arith}
 use lib.ListN.{length, getD, take, drop}
@@ -16,7 +16,7 @@ use Rattle.table.specs.Bytes.{pick, part, num, Edit, edit}
 use Rattle.table.specs.Layout.{Shape, Layout, Refs, none, plain, nest, Slots, gone, rec, image, isValid, unused, used, baseOf, offsets}
 use Rattle.table.specs.FixedLayouts.{layoutOf, header, control, host, hfi, ssns, security, discovery, info, extended, noKind, whenSet}
 use Rattle.table.specs.Objects.{under, readSlots, readEntry, readList, sizeOf, sizeEntry, sizeList, sizeBody, spanBody, readBody, stores, heapOf, ref6}
-use Rattle.table.specs.Meaning.{meaning, heapLen}
+use Rattle.table.specs.Meaning.{Meaning, meaning, heapLen}
 use Rattle.table.specs.Rules.{done}
 use Rattle.table.specs.Reads.{seat, hasPlain, needAt, noPlace, refPlace, placeAt}
 use Rattle.laws.specs.Fields.{Bytes, imageIn}
@@ -28,10 +28,11 @@ use Rattle.reader.specs.Accepted.{Accepted}
 use Rattle.reads.specs.declared.seats.Seat.{Seat}
 use Rattle.reads.specs.declared.seats.Seat.the-variants.{Nowhere, At}
 use Rattle.reads.specs.Seats.{Seated, heapAt, extendedAt, heapRecord}
-use Rattle.reads.specs.Told.{innerKind}
+use Rattle.reads.specs.Told.{innerKind, imageOf, toldEntry, toldList, countAt, countOf, told}
 use Rattle.reads.proofs.ObjectLaws.{seat-room}
-use Rattle.reads.proofs.MeaningLaws.{place-is}
-use Rattle.parts.specs.Parts.{Part, refsOf, OneObject, slotsIn, listIn, objectPart, recordPart, partAt, recordBytes, bytesAt, spansOver, storesOver, objectsOver}
+use Rattle.reads.proofs.MeaningLaws.{place-is, told-all}
+use Rattle.table.specs.Reads.{seatOf}
+use Rattle.parts.specs.Parts.{Part, refsOf, OneObject, slotsIn, listOf, listFrom, objectPart, recordPart, partAt, recordBytes, bytesAt, spansOver, storesOver, objectsOver}
 
 -- ---- a heap record, or none
 
@@ -252,85 +253,6 @@ one-object k = go (eqb k 3) where
 pub offset-is : (ps full : List ℕ) (n i : ℕ) → take n ps ≡ full → n ≡ length full → i < n → getD ps i 0 ≡ getD full i 0
 offset-is ps full n i e m h = sym (getD-take n ps i 0 h) ∙ ap (λ (l : List ℕ). getD l i 0) e
 
--- ---- the length of an object, and where it stands, by the bytes of its reference
-
-module _ (t : List ℕ) (l : Layout) (a p : ℕ) (h : hasPlain p (l .refs) ≡ true) where
-  abbrev need : Need
-  need = needAt p (l .refs) (image (l .shape .keep) (drop a t))
-
-  pub place-len : placeAt t p (seat l a true) .len ≡ under need 0 (num t (a + p + 4) 2)
-  place-len = rw h (go need) where
-    there : (c : Bool) → eqb (num t (a + p + 4) 2) 0 ≡ c
-        → pick c (noPlace done) (record { answer = done; present = true; at = num t (a + p) 4; len = num t (a + p + 4) 2 }) .len ≡ num t (a + p + 4) 2
-    there true e = sym (eqb-true (num t (a + p + 4) 2) 0 e)
-    there false e = refl
-
-    go : (m : Need) → under m (noPlace done) (refPlace t (a + p)) .len ≡ under m 0 (num t (a + p + 4) 2)
-    go Ignored = refl
-    go Optional = there (eqb (num t (a + p + 4) 2) 0) refl
-    go Required = there (eqb (num t (a + p + 4) 2) 0) refl
-
-  pub place-start : (placeAt t p (seat l a true) .len ≡ 0 → ⊥) → placeAt t p (seat l a true) .at ≡ num t (a + p) 4
-  place-start = rw h (go need) where
-    there : (c : Bool) → let q = pick c (noPlace done) (record { answer = done; present = true; at = num t (a + p) 4; len = num t (a + p + 4) 2 }) in (q .len ≡ 0 → ⊥) → q .at ≡ num t (a + p) 4
-    there true z = absurd (z refl)
-    there false z = refl
-
-    go : (m : Need) → (under m (noPlace done) (refPlace t (a + p)) .len ≡ 0 → ⊥) → under m (noPlace done) (refPlace t (a + p)) .at ≡ num t (a + p) 4
-    go Ignored z = absurd (z refl)
-    go Optional z = there (eqb (num t (a + p + 4) 2) 0) z
-    go Required z = there (eqb (num t (a + p + 4) 2) 0) z
-
--- references to objects that are never ignored
-abbrev Heeded : Refs → Type 0
-Heeded none = 0 ≤ 0
-Heeded (plain p need rule rest) = ((img : List ℕ) (x y : ℕ) → under (need img) x y ≡ y) × Heeded rest
-Heeded (nest p need shape own rest) = (hasPlain p rest ≡ false) × Heeded rest
-
-heeded-counts : (rs : Refs) → Heeded rs → (q : ℕ) (img : List ℕ) (x y : ℕ) → hasPlain q rs ≡ true → under (needAt q rs img) x y ≡ y
-heeded-counts none g q img x y h = absurd (true≢false (sym h))
-heeded-counts (plain p need rule rest) g q img x y h = go (eqb q p) h (heeded-counts rest (g .1) q img x y) where
-  go : (c : Bool) → pick c true (hasPlain q rest) ≡ true → (hasPlain q rest ≡ true → under (needAt q rest img) x y ≡ y) → under (pick c (need img) (needAt q rest img)) x y ≡ y
-  go true e f = g .0 img x y
-  go false e f = f e
-heeded-counts (nest p need shape own rest) g q img x y h = go (eqb q p) refl (heeded-counts rest (g .1) q img x y h) where
-  go : (c : Bool) → eqb q p ≡ c → under (needAt q rest img) x y ≡ y → under (pick c (need img) (needAt q rest img)) x y ≡ y
-  go true e f = absurd (true≢false (sym h ∙ ap (λ (i : ℕ). hasPlain i rest) (eqb-true q p e) ∙ g .0))
-  go false e f = f
-
-kinds-heeded : (k : ℕ) → eqb k 5 ≡ false → Heeded (layoutOf k .refs)
-unfolding layoutOf header control host hfi ssns discovery info extended
-kinds-heeded =
-    by-kind (λ k. eqb k 5 ≡ false → Heeded (layoutOf k .refs))
-    (λ n. ((λ img x y. refl), omega arith))
-    (λ n. omega arith)
-    (λ n. ((λ img x y. refl), omega arith))
-    (λ n. (refl, omega arith))
-    (λ n. ((λ img x y. refl), ((λ img x y. refl), ((λ img x y. refl), ((λ img x y. refl), (refl, omega arith))))))
-    (λ n. absurd (true≢false n))
-    (λ n. ((λ img x y. refl), ((λ img x y. refl), omega arith)))
-    (λ n. ((λ img x y. refl), omega arith))
-    (λ n. ((λ img x y. refl), omega arith))
-    (λ k o n. subst (λ (l : Layout). Heeded (l .refs)) (sym (other-layout k o)) (unfold noKind in omega arith))
-
-pub never-ignored : (k q : ℕ) (img : List ℕ) (x y : ℕ) → eqb k 5 ≡ false → hasPlain q (layoutOf k .refs) ≡ true → under (needAt q (layoutOf k .refs) img) x y ≡ y
-never-ignored k q img x y n h = heeded-counts (layoutOf k .refs) (kinds-heeded k n) q img x y h
-
--- those of a security record: c says whether the one at p counts
-pub security-len : (t : List ℕ) (k a p : ℕ) → k ≡ 5 → hasPlain p (layoutOf k .refs) ≡ true → (c : Bool) → c ≡ under (needAt p (security .refs) (imageIn security t a)) false true
-    → placeAt t p (seat (layoutOf k) a true) .len ≡ pick c (num t (a + p + 4) 2) 0
-unfolding layoutOf imageIn
-security-len t k a p e h c f =
-    ap (λ (j : ℕ). placeAt t p (seat (layoutOf j) a true) .len) e
-    ∙ place-len t security a p (ap (λ (j : ℕ). hasPlain p (layoutOf j .refs)) (sym e) ∙ h)
-    ∙ go (needAt p (security .refs) (image (security .shape .keep) (drop a t))) (num t (a + p + 4) 2)
-    ∙ ap (λ (b : Bool). pick b (num t (a + p + 4) 2) 0) (sym f)
-  where
-    go : (m : Need) (x : ℕ) → under m 0 x ≡ pick (under m false true) x 0
-    go Ignored x = refl
-    go Optional x = refl
-    go Required x = refl
-
 -- ---- one reference after the other
 
 module _ (t : List ℕ) (k a : ℕ) where
@@ -342,56 +264,56 @@ module _ (t : List ℕ) (k a : ℕ) where
   unfolding spansOver
   spans-done ps = ap (spansOver t k a) (drop-length ps)
 
--- ---- a record of a list, used or not
+-- ---- a list, position by position
 
-module _ (t : List ℕ) (l : Layout) (a : ℕ) where
-  pub entry-used : isValid (l .shape) (imageIn l t a) ≡ true → readEntry l t a ≡ used (imageIn l t a) (slotsIn l t a)
-  unfolding readEntry imageIn slotsIn
-  entry-used v = ap (λ (c : Bool). pick c (used (imageIn l t a) (slotsIn l t a)) unused) v
+module _ (t : List ℕ) (k i n : ℕ) where
+  pub list-more : i < n → listFrom t k n i ≡ toldEntry (layoutOf k) t k (i + 1) ∷ listFrom t k n (i + 1)
+  unfolding toldList
+  list-more h =
+      let e : n - i ≡ suc (n - (i + 1)) = omega arith in
+      let s : suc (i + 1) ≡ i + 1 + 1 = omega arith in
+      ap (toldList (layoutOf k) t k (i + 1)) e ∙ ap (λ (j : ℕ). toldEntry (layoutOf k) t k (i + 1) ∷ toldList (layoutOf k) t k j (n - (i + 1))) s
 
-  pub entry-unused : isValid (l .shape) (imageIn l t a) ≡ false → readEntry l t a ≡ unused
-  unfolding readEntry imageIn slotsIn
-  entry-unused v = ap (λ (c : Bool). pick c (used (imageIn l t a) (slotsIn l t a)) unused) v
+  pub list-done : n ≤ i → listFrom t k n i ≡ []
+  unfolding toldList
+  list-done h =
+      let e : n - i ≡ 0 = omega arith in
+      ap (toldList (layoutOf k) t k (i + 1)) e
 
--- a turn of a walk over a list
-pub list-more : (l : Layout) (t : List ℕ) (a step i n : ℕ) → i < n → readList l t a step (n - i) ≡ readEntry l t a ∷ readList l t (a + step) step (n - (i + 1))
-unfolding readList
-list-more l t a step i n h = ap (readList l t a step) e where
-  e : n - i ≡ suc (n - (i + 1))
-  e = omega arith
+  pub size-more : i < n → sizeList (listFrom t k n i) ≡ sizeEntry (toldEntry (layoutOf k) t k (i + 1)) + sizeList (listFrom t k n (i + 1))
+  unfolding sizeList
+  size-more h = ap sizeList (list-more h)
 
-pub list-done : (l : Layout) (t : List ℕ) (a step i n : ℕ) → n ≤ i → readList l t a step (n - i) ≡ []
-unfolding readList
-list-done l t a step i n h = ap (readList l t a step) e where
-  e : n - i ≡ 0
-  e = omega arith
+  pub size-done : n ≤ i → sizeList (listFrom t k n i) ≡ 0
+  unfolding sizeList
+  size-done h = ap sizeList (list-done h)
 
-pub size-more : (l : Layout) (t : List ℕ) (a step i n : ℕ) → i < n
-    → sizeList (readList l t a step (n - i)) ≡ sizeEntry (readEntry l t a) + sizeList (readList l t (a + step) step (n - (i + 1)))
-unfolding sizeList
-size-more l t a step i n h = ap sizeList (list-more l t a step i n h)
+pub list-all : (t : List ℕ) (k n : ℕ) → n ≡ countOf t k → listFrom t k n 0 ≡ listOf t k
+unfolding listOf
+list-all t k n e = ap (λ (m : ℕ). toldList (layoutOf k) t k 1 m) (sub-zero n ∙ e)
 
-pub size-done : (l : Layout) (t : List ℕ) (a step i n : ℕ) → n ≤ i → sizeList (readList l t a step (n - i)) ≡ 0
-unfolding sizeList
-size-done l t a step i n h = ap sizeList (list-done l t a step i n h)
+pub length-told : (l : Layout) (t : List ℕ) (k m n : ℕ) → length (toldList l t k n m) ≡ m
+unfolding toldList
+length-told l t k zero n = refl
+length-told l t k (suc m) n = ap suc (length-told l t k m (suc n))
 
 -- ---- the whole
 
-pub heap-parts : (t : List ℕ)
-    → heapLen (meaning t)
-    ≡ sizeOf (slotsIn (layoutOf 0) t 0)
-    + (sizeEntry (readEntry (layoutOf 2) t (num t 72 4))
-    + (sizeList (listIn (layoutOf 3) t 80) + (sizeList (listIn (layoutOf 4) t 88) + (sizeList (listIn (layoutOf 5) t 96) + (sizeList (listIn (layoutOf 6) t 104) + 0)))))
-unfolding heapLen meaning sizeBody readBody readSlots slotsIn listIn layoutOf header
-heap-parts t = refl
+module _ (t : List ℕ) (b : Bytes t) (ok : Accepted t) where
+  pub heap-parts : heapLen (meaning t)
+      ≡ sizeEntry (toldEntry (layoutOf 0) t 0 0)
+      + (sizeEntry (toldEntry (layoutOf 2) t 2 0) + (sizeList (listOf t 3) + (sizeList (listOf t 4) + (sizeList (listOf t 5) + (sizeList (listOf t 6) + 0)))))
+  unfolding told heapLen sizeBody sizeEntry listOf countOf layoutOf toldEntry imageOf seatOf
+  heap-parts = sym (ap heapLen (told-all t b ok))
 
-pub span-parts : (t : List ℕ) → Bytes t → spanBody (meaning t .lists) ≡ getD t 87 0 * 32 + (getD t 95 0 * 128 + (getD t 103 0 * 64 + (getD t 111 0 * 32 + 0)))
-unfolding spanBody meaning readBody hfi ssns security discovery
-span-parts t b =
-    rw (
-      length-readList t b hfi (getD t 87 0) (num t 80 4) (num t 84 2),
-      length-readList t b ssns (getD t 95 0) (num t 88 4) (num t 92 2),
-      length-readList t b security (getD t 103 0) (num t 96 4) (num t 100 2),
-      length-readList t b discovery (getD t 111 0) (num t 104 4) (num t 108 2),
-    )
-    refl
+  pub span-parts : spanBody (meaning t .lists) ≡ countOf t 3 * 32 + (countOf t 4 * 128 + (countOf t 5 * 64 + (countOf t 6 * 32 + 0)))
+  unfolding told spanBody countOf hfi ssns security discovery
+  span-parts =
+      sym (ap (λ (m : Meaning). spanBody (m .lists)) (told-all t b ok))
+      ∙ rw (
+        length-told hfi t 3 (countAt t 87) 1,
+        length-told ssns t 4 (countAt t 95) 1,
+        length-told security t 5 (countAt t 103) 1,
+        length-told discovery t 6 (countAt t 111) 1,
+      )
+      refl

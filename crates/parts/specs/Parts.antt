@@ -2,20 +2,20 @@
 use mathlib.Core.Path.{_≡_}
 use mathlib.Core.Bool.{true}
 use mathlib.Core.List.{List, [], _∷_, _++_}
-use Prim.Native.Nat.{ℕ, _+_}
+use Prim.Native.Nat.{ℕ, _+_, _-_}
 use lib.ListN.{length, getD}
 use Rattle.table.specs.declared.Place.{Place}
-use Rattle.table.specs.Bytes.{pick, part, num, Edit, edit}
+use Rattle.table.specs.Bytes.{pick, part, Edit, edit}
 use Rattle.table.specs.Layout.{Layout, Slots, Entry, baseOf, offsets}
 use Rattle.table.specs.FixedLayouts.{layoutOf}
-use Rattle.table.specs.Objects.{readSlots, readList, sizeOf, patched, heapOf}
+use Rattle.table.specs.Objects.{readSlots, sizeOf, patched, heapOf}
 use Rattle.table.specs.Reads.{seat, hasPlain, placeAt}
 use Rattle.laws.specs.Fields.{imageIn}
 use Rattle.writer.specs.Stores.{refNum}
 use Rattle.reads.specs.declared.seats.Seat.{Seat}
 use Rattle.reads.specs.declared.seats.Seat.the-variants.{Nowhere, At}
 use Rattle.reads.specs.Seats.{heapRecord}
-use Rattle.reads.specs.Told.{innerKind}
+use Rattle.reads.specs.Told.{innerKind, toldList, countOf}
 
 -- what one reference names: its first byte, its length, and the bytes that it takes with all that it names itself
 pub record Part : Type 0 where
@@ -36,9 +36,12 @@ pub record OneObject (k : ℕ) : Type 0 where
 unfoldable pub slotsIn : (l : Layout) → List ℕ → ℕ → Slots (l .refs)
 slotsIn l t a = readSlots t a (imageIn l t a) (l .refs)
 
--- the list of layout l whose entry in the control record stands at c
-unfoldable pub listIn : (l : Layout) → List ℕ → ℕ → List (Entry l)
-listIn l t c = readList l t (num t c 4) (num t (c + 4) 2) (getD t (c + 7) 0)
+-- the list of kind k, as it is read position by position; and what is left of it behind the first i
+unfoldable pub listOf : List ℕ → (k : ℕ) → List (Entry (layoutOf k))
+listOf t k = toldList (layoutOf k) t k 1 (countOf t k)
+
+abbrev pub listFrom : List ℕ → (k : ℕ) → ℕ → ℕ → List (Entry (layoutOf k))
+listFrom t k n i = toldList (layoutOf k) t k (i + 1) (n - i)
 
 -- an object takes its length
 abbrev pub objectPart : Place → Part

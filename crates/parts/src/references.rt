@@ -1,48 +1,16 @@
 // The references of a record of an accepted table: the length of what they name, and how many bytes it takes to lay that anew.
 use reads::seats::Seat;
-use table::Need;
-use table::Security;
+use seat_reads::objects::object_len;
 ghost use mathlib.Core.Path.{_≡_};
-ghost use mathlib.Core.Bool.{true, false};
-ghost use Prim.Native.Nat.{_+_, _≤_};
-ghost use lib.ListN.{length};
-ghost use Rattle.table.specs.Layout.{baseOf};
-ghost use Rattle.table.specs.FixedLayouts.{layoutOf, security};
-ghost use Rattle.table.specs.Objects.{under, sizeOf};
-ghost use Rattle.table.specs.Reads.{seat, placeAt, hasPlain, needAt};
-ghost use Rattle.laws.specs.Fields.{imageIn};
+ghost use mathlib.Core.Bool.{true};
+ghost use Prim.Native.Nat.{_≤_};
+ghost use Rattle.table.specs.FixedLayouts.{layoutOf};
+ghost use Rattle.table.specs.Objects.{sizeOf};
 ghost use Rattle.reader.specs.Accepted.{Accepted};
 ghost use Rattle.reads.specs.declared.seats.Seat.the-variants.{At};
 ghost use Rattle.reads.specs.Seats.{Seated, Held};
 ghost use Rattle.reads.specs.Told.{innerKind};
 ghost use Rattle.parts.specs.Parts.{OneObject, slotsIn, recordPart, partAt};
-
-// Whether the reference at `p` of the security record at `a` counts.
-fn counts(t: &[u8], a: usize, p: usize) -> bool
-    requires { ⌜ a + 64 ≤ length (now t) ⌝ }
-    ensures { λ r. ⌜ r ≡ under (needAt p (security .refs) (imageIn security (now (t .entry)) a)) false true ⌝ }
-{
-    let need = needs::security_need(t, a, p);
-    match need {
-        Need::Ignored => false,
-        Need::Optional => true,
-        Need::Required => true,
-    }
-}
-
-// The length of the object that the reference at `p` names. Only a security record ignores references to objects.
-pub fn object_len(t: &[u8], kind: u8, a: usize, p: usize) -> usize
-    requires { ⌜ (a + baseOf (layoutOf kind) ≤ length (now t)) × (hasPlain p (layoutOf kind .refs) ≡ true) ⌝ }
-    ensures { λ r. ⌜ (r ≡ placeAt (now (t .entry)) p (seat (layoutOf kind) a true) .len) × (r ≤ 65535) ⌝ }
-{
-    if kind != Security::ID {
-        return wire::u16_at(t, a + p + 4);
-    }
-    if counts(t, a, p) {
-        return wire::u16_at(t, a + p + 4);
-    }
-    0
-}
 
 // A heap record has one reference, to an object, which is laid behind it.
 fn held_span(t: &[u8], kind: u8, a: usize) -> usize

@@ -3,3 +3,4 @@ pub mod SeatLaws
 pub mod ReadLaws
 pub mod ObjectLaws
 pub mod MeaningLaws
+pub mod EntryLaws

@@ -33,7 +33,7 @@ use Rattle.reads.specs.Told.{imageOf, innerKind, toldNest, toldSlots, to
 length-padded : (xs : List ℕ) → length xs ≤ 128 → length (padded 128 xs) ≡ 128
 length-padded xs h = simp (length-append, length-replicate) (omega arith)
 
-image-front : (l : Layout) (t : List ℕ) (a : ℕ) → take (baseOf l) (padded 128 (image (l .shape .keep) (drop a t))) ≡ image (l .shape .keep) (drop a t)
+pub image-front : (l : Layout) (t : List ℕ) (a : ℕ) → take (baseOf l) (padded 128 (image (l .shape .keep) (drop a t))) ≡ image (l .shape .keep) (drop a t)
 image-front l t a =
     let x = image (l .shape .keep) (drop a t) in
     ap (λ (n : ℕ). take n (padded 128 x)) (sym (length-image (l .shape .keep) (drop a t))) ∙ take-append-seam x (replicate (128 - length x) 0)
@@ -123,13 +123,13 @@ module _ (t : List ℕ) (k n : ℕ) (l : Layout) (a : ℕ) (s : seatOf t k n ≡
       under (need here) (gone x) (pick (eqb (num t (a + p + 4) 2) 0) (gone x) (rec y (readSlots t (num t (a + p) 4) y own) x))
 
   -- the references of rs are among those of l and count alike; its heap records read as they stand
-  abbrev Among : Refs → Type 0
+  abbrev pub Among : Refs → Type 0
   Among none = 0 ≤ k
   Among (plain p need rule rest) = (hasPlain p (l .refs) ≡ true) × (needAt p (l .refs) here ≡ need here) × Among rest
   Among (nest p need shape own rest) =
       ((x : Slots rest) → _≡_ {A = Slots (nest p need shape own rest)} (toldNest (imageOf t (innerKind k) n) (toldSlots t (innerKind k) n own) x) (nestOf p need shape own rest x)) × Among rest
 
-  slots-told : (rs : Refs) → Among rs → toldSlots t k n rs ≡ readSlots t a here rs
+  pub slots-told : (rs : Refs) → Among rs → toldSlots t k n rs ≡ readSlots t a here rs
   unfolding toldSlots readSlots
   slots-told none g = refl
   slots-told (plain p need rule rest) g =
@@ -153,22 +153,22 @@ entry-unused t k n l a s v = rw (s, v) refl
 -- ---- each kind
 
 module _ (t : List ℕ) (n a : ℕ) where
-  info-told : seatOf t 7 n ≡ seat info a true → toldSlots t 7 n (info .refs) ≡ readSlots t a (image (info .shape .keep) (drop a t)) (info .refs)
+  pub info-told : seatOf t 7 n ≡ seat info a true → toldSlots t 7 n (info .refs) ≡ readSlots t a (image (info .shape .keep) (drop a t)) (info .refs)
   info-told s = slots-told t 7 n info a s (info .refs) (unfold info in (refl, refl, omega arith))
 
-  extended-told : seatOf t 9 n ≡ seat extended a true → toldSlots t 9 n (extended .refs) ≡ readSlots t a (image (extended .shape .keep) (drop a t)) (extended .refs)
+  pub extended-told : seatOf t 9 n ≡ seat extended a true → toldSlots t 9 n (extended .refs) ≡ readSlots t a (image (extended .shape .keep) (drop a t)) (extended .refs)
   extended-told s = slots-told t 9 n extended a s (extended .refs) (unfold extended in (refl, refl, omega arith))
 
 module _ (t : List ℕ) (n a : ℕ) where
-  host-among : (s : seatOf t 2 n ≡ seat host a true) → Among t 2 n host a s (host .refs)
+  pub host-among : (s : seatOf t 2 n ≡ seat host a true) → Among t 2 n host a s (host .refs)
   unfolding host
   host-among s = (refl, refl, omega arith)
 
-  hfi-among : (s : seatOf t 3 n ≡ seat hfi a true) → Among t 3 n hfi a s (hfi .refs)
+  pub hfi-among : (s : seatOf t 3 n ≡ seat hfi a true) → Among t 3 n hfi a s (hfi .refs)
   unfolding hfi seatOf
   hfi-among s = ((λ x. nest-told t 7 n info (a + 16) 16 _ none x Required (ap (heapSeat info 16 t) s) (λ f. info-told t n (num t (a + 16) 4) f)), omega arith)
 
-  ssns-among : (s : seatOf t 4 n ≡ seat ssns a true) → Among t 4 n ssns a s (ssns .refs)
+  pub ssns-among : (s : seatOf t 4 n ≡ seat ssns a true) → Among t 4 n ssns a s (ssns .refs)
   unfolding ssns seatOf
   ssns-among s = (
     refl,
@@ -188,11 +188,11 @@ module _ (t : List ℕ) (n a : ℕ) where
     ),
   )
 
-  security-among : (s : seatOf t 5 n ≡ seat security a true) → Among t 5 n security a s (security .refs)
+  pub security-among : (s : seatOf t 5 n ≡ seat security a true) → Among t 5 n security a s (security .refs)
   unfolding security
   security-among s = (refl, refl, (refl, refl, (refl, refl, (refl, refl, (refl, refl, (refl, refl, omega arith))))))
 
-  discovery-among : (s : seatOf t 6 n ≡ seat discovery a true) → Among t 6 n discovery a s (discovery .refs)
+  pub discovery-among : (s : seatOf t 6 n ≡ seat discovery a true) → Among t 6 n discovery a s (discovery .refs)
   unfolding discovery
   discovery-among s = (refl, refl, (refl, refl, omega arith))
 
@@ -238,7 +238,7 @@ module _ (t : List ℕ) (b : Bytes t) (ok : Accepted t) where
       ∙ whole (l .shape .keep) t 0 q h e (b (0 + q))
       ∙ ap (λ (i : ℕ). getD t i 0) (zero-add q)
 
-  counted : (q : ℕ) → T (ltb q 128) → getD (control .shape .keep) q (low 1) ≡ low 256 → countAt t q ≡ getD t q 0
+  pub counted : (q : ℕ) → T (ltb q 128) → getD (control .shape .keep) q (low 1) ≡ low 256 → countAt t q ≡ getD t q 0
   unfolding imageOf seatOf control
   counted q h e = front-byte control q h e
 
@@ -262,7 +262,7 @@ module _ (t : List ℕ) (b : Bytes t) (ok : Accepted t) where
   unfolding header
   oem-within j h = rw (lt-ltb (10 + j) 64 (omega arith)) tt
 
-  oem-told : part (imageOf t 0 0 .bytes) 10 26 ≡ part t 10 26
+  pub oem-told : part (imageOf t 0 0 .bytes) 10 26 ≡ part t 10 26
   unfolding imageOf seatOf
   oem-told =
       let x = padded 128 (image (header .shape .keep) (drop 0 t)) in

@@ -44,6 +44,14 @@ toldList l t k n (suc m) = toldEntry l t k n ∷ toldList l t k (suc n) m
 abbrev pub countAt : List ℕ → ℕ → ℕ
 countAt t q = getD (imageOf t 1 0 .bytes) q 0
 
+-- of the list of kind k
+unfoldable pub countOf : List ℕ → ℕ → ℕ
+countOf t k = pick (eqb k 3) (countAt t 87) (pick (eqb k 4) (countAt t 95) (pick (eqb k 5) (countAt t 103) (pick (eqb k 6) (countAt t 111) 0)))
+
+-- header bytes 10 to 35, which are its fields
+unfoldable pub oemOf : List ℕ → List ℕ
+oemOf t = part (imageOf t 0 0 .bytes) 10 26
+
 unfoldable pub told : List ℕ → Meaning
 told t = record {
   oem = part (imageOf t 0 0 .bytes) 10 26;

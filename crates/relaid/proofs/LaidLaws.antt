@@ -7,7 +7,7 @@ use native.Mathlib.Numerals.{add-one}
 use native.Mathlib.Omega.{arith}
 use lib.ListN.{length, getD, drop, length-drop}
 use lib.Seq.{drop-cons, drop-length, getD-drop}
-use Rattle.table.specs.Bytes.{splice, part, num, Edit, apply}
+use Rattle.table.specs.Bytes.{splice, part, Edit, apply}
 use Rattle.table.specs.Layout.{baseOf}
 use Rattle.table.specs.FixedLayouts.{layoutOf}
 use Rattle.table.specs.Objects.{stores, patched, heapOf}
@@ -21,9 +21,11 @@ use Rattle.writer.proofs.RecordLaws.{length-ref}
 use Rattle.reader.specs.Accepted.{Accepted}
 use Rattle.reads.specs.declared.seats.Seat.the-variants.{At}
 use Rattle.reads.specs.Seats.{Seated}
-use Rattle.parts.specs.Parts.{Part, refsOf, OneObject, slotsIn, partAt, recordPart, bytesAt, recordBytes, storesOver, objectsOver}
-use Rattle.parts.proofs.PartLaws.{stored-all, heaped-all, single, plain-part, place-start}
-use Rattle.parts.proofs.LengthLaws.{bytes-long, object-bytes, one-heaped}
+use Rattle.reads.proofs.ObjectLaws.{seat-room}
+use Rattle.images.proofs.Laws.{part-long}
+use Rattle.parts.specs.Parts.{refsOf, OneObject, slotsIn, partAt, recordPart, bytesAt, recordBytes, storesOver, objectsOver}
+use Rattle.parts.proofs.PartLaws.{stored-all, heaped-all, single, plain-bytes}
+use Rattle.parts.proofs.LengthLaws.{bytes-long, object-span, one-heaped}
 use Rattle.relaid.specs.Laid.{laid, applyAt}
 
 -- ---- stores into a record that is laid
@@ -126,26 +128,27 @@ module _ (t : List ℕ) (ok : Accepted t) (k a : ℕ) (s : Seated t (layoutOf k)
       let e = stored-all t ok k a s h in
       at-inside (stores h (slotsIn (layoutOf k) t a)) x d y (subst (λ (es : List Edit). Below (length y) es) (sym e) (subst (λ (n : ℕ). Below n (storesOver t k a h (refsOf k))) (sym l) (refs-below t k a 0 h))) (omega (arith, l))
 
-  -- ---- an object by its numbers
+  -- ---- an object
 
-  module _ (p : ℕ) (e : hasPlain p (layoutOf k .refs) ≡ true) (len : ℕ) (q : len ≡ placeAt t p (seat (layoutOf k) a true) .len) where
-    abbrev here : Part
-    here = partAt t k a p
+  module _ (p : ℕ) (e : hasPlain p (layoutOf k .refs) ≡ true) where
+    abbrev named : List ℕ
+    named = part t (placeAt t p (seat (layoutOf k) a true) .at) (placeAt t p (seat (layoutOf k) a true) .len)
 
-    pub object-len : len ≡ here .len
-    object-len = q ∙ sym (ap (λ (x : Part). x .len) (plain-part t ok k a s p e))
+    pub object-laid : (xs : List ℕ) → xs ≡ named → (h : ℕ) → xs ≡ bytesAt t k a h p
+    object-laid xs q h = q ∙ sym (plain-bytes t ok k a s h p e)
 
-    pub object-size : len ≡ here .span
-    object-size = q ∙ sym (ap (λ (x : Part). x .span) (plain-part t ok k a s p e))
+    module _ (len : ℕ) (q : len ≡ placeAt t p (seat (layoutOf k) a true) .len) where
+      long : len ≡ length named
+      long = q ∙ sym (part-long t (placeAt t p (seat (layoutOf k) a true) .at) (placeAt t p (seat (layoutOf k) a true) .len) (seat-room t ok p k (seat (layoutOf k) a true) (refl, s)))
 
-    pub object-none : len ≡ 0 → (h : ℕ) → bytesAt t k a h p ≡ []
-    object-none z h = object-bytes t ok k a s h p e ∙ ap (λ (n : ℕ). part t (here .at) n) (sym object-len ∙ z)
+      pub object-size : len ≡ partAt t k a p .span
+      object-size = long ∙ ap length (object-laid named refl 0) ∙ bytes-long t ok k a s 0 p
 
-    pub object-from : (len ≡ 0 → ⊥) → num t (a + p) 4 ≡ here .at
-    object-from z = sym (place-start t (layoutOf k) a p e (λ y. z (q ∙ y))) ∙ sym (ap (λ (x : Part). x .at) (plain-part t ok k a s p e))
+      pub object-len : len ≡ partAt t k a p .len
+      object-len = object-size ∙ object-span t ok k a s p e
 
-    pub object-laid : (from : ℕ) → from ≡ num t (a + p) 4 → (len ≡ 0 → ⊥) → (h : ℕ) → part t from len ≡ bytesAt t k a h p
-    object-laid from f z h = ap₂ (part t) (f ∙ object-from z) object-len ∙ sym (object-bytes t ok k a s h p e)
+      pub object-none : len ≡ 0 → (h : ℕ) → bytesAt t k a h p ≡ []
+      object-none z h = sym (object-laid named refl h) ∙ ap (λ (n : ℕ). part t (placeAt t p (seat (layoutOf k) a true) .at) n) (sym q ∙ z)
 
   -- ---- a heap record with its one object
 

@@ -1,14 +1,15 @@
 // What a reference names, laid anew where the heap goes on, and the reference to it.
 use parts::references::inner_kind;
-use parts::references::object_len;
 use reads::seats::Seat;
+use seat_reads::objects::object_bytes;
+use seat_reads::objects::object_len;
 use writer::records::put_slot;
 use writer::stores::copy_into;
 ghost use mathlib.Core.Path.{_≡_};
 ghost use mathlib.Core.Bool.{true};
 ghost use Prim.Native.Nat.{_+_, _≤_};
 ghost use lib.ListN.{length};
-ghost use Rattle.table.specs.Bytes.{part, splice};
+ghost use Rattle.table.specs.Bytes.{splice};
 ghost use Rattle.table.specs.Layout.{baseOf};
 ghost use Rattle.table.specs.FixedLayouts.{layoutOf};
 ghost use Rattle.table.specs.Reads.{hasPlain};
@@ -19,15 +20,6 @@ ghost use Rattle.reads.specs.declared.seats.Seat.the-variants.{At};
 ghost use Rattle.reads.specs.Seats.{Seated, Held};
 ghost use Rattle.parts.specs.Parts.{OneObject, recordPart, partAt, recordBytes, bytesAt};
 ghost use Rattle.relaid.specs.Laid.{laid};
-
-// `len` bytes of the table.
-fn copy_part(out: &mut [u8], u: usize, t: &[u8], from: usize, len: usize)
-    requires { ⌜ (from + len ≤ length (now t)) × (u + len ≤ length (now out)) ⌝ }
-    ensures { λ r. ⌜ now (out .exit) ≡ splice (now (out .entry)) u (part (now (t .entry)) from len) ⌝ }
-{
-    let end = from + len;
-    copy_into(out, u, &t[from..end]);
-}
 
 // A record's image, into its own part of `out`.
 pub fn put_record(out: &mut [u8], d: usize, t: &[u8], kind: u8, a: usize)
@@ -49,7 +41,7 @@ fn lay_object(out: &mut [u8], r: usize, h: usize, t: &[u8], kind: u8, a: usize, 
     if len == 0 {
         return h;
     }
-    copy_part(out, h, t, wire::u32_at(t, a + p), len);
+    copy_into(out, h, object_bytes(t, kind, a, p, len));
     h + len
 }
 

@@ -1,19 +1,21 @@
 // Records laid anew, each with what it names behind all that was laid before.
 use crate::objects::lay_reference;
 use crate::objects::put_record;
-use parts::sizes::is_used;
+use reads::seats::Seat;
+use reads::seats::seat_of;
 use writer::stores::fill_zero;
 ghost use mathlib.Core.Path.{_≡_};
 ghost use mathlib.Core.Bool.{true};
 ghost use Prim.Native.Nat.{_+_, _≤_};
-ghost use lib.ListN.{length};
+ghost use lib.ListN.{length, replicate};
 ghost use Rattle.table.specs.Bytes.{splice};
 ghost use Rattle.table.specs.Layout.{baseOf};
 ghost use Rattle.table.specs.FixedLayouts.{layoutOf};
-ghost use Rattle.table.specs.Objects.{sizeOf, stores, patched, heapOf, readEntry, sizeEntry, recEntry, heapEntry};
+ghost use Rattle.table.specs.Objects.{sizeOf, stores, patched, heapOf, sizeEntry, recEntry, heapEntry};
 ghost use Rattle.laws.specs.Fields.{imageIn};
 ghost use Rattle.reader.specs.Accepted.{Accepted};
-ghost use Rattle.reads.specs.Seats.{Seated, Entered};
+ghost use Rattle.reads.specs.Seats.{Seated};
+ghost use Rattle.reads.specs.Told.{toldEntry};
 ghost use Rattle.parts.specs.Parts.{slotsIn};
 ghost use Rattle.relaid.specs.Laid.{laid, applyAt};
 
@@ -44,15 +46,28 @@ fn lay_used(out: &mut [u8], d: usize, u: usize, t: &[u8], kind: u8, a: usize) ->
     lay_named(out, d, u, t, kind, a)
 }
 
-// Any record; an unused one is zeros and names nothing.
-pub fn lay_entry(out: &mut [u8], d: usize, u: usize, t: &[u8], kind: u8, a: usize) -> usize
-    requires { ⌜ Accepted (now t) × Entered (now t) kind a ⌝ }
-    requires { ⌜ (d + baseOf (layoutOf kind) ≤ u) × (u + sizeEntry (readEntry (layoutOf kind) (now t) a) ≤ length (now out)) × (u + sizeEntry (readEntry (layoutOf kind) (now t) a) ≤ 65536) ⌝ }
-    ensures { λ r. ⌜ (r ≡ u + sizeEntry (readEntry (layoutOf kind) (now (t .entry)) a)) × (now (out .exit) ≡ laid (now (out .entry)) d (recEntry u (readEntry (layoutOf kind) (now (t .entry)) a)) u (heapEntry u (readEntry (layoutOf kind) (now (t .entry)) a))) ⌝ }
+// An unused record is zeros and names nothing.
+fn lay_unused(out: &mut [u8], d: usize, u: usize, kind: u8) -> usize
+    requires { ⌜ d + baseOf (layoutOf kind) ≤ length (now out) ⌝ }
+    ensures { λ r. ⌜ (r ≡ u) × (now (out .exit) ≡ splice (now (out .entry)) d (replicate (baseOf (layoutOf kind)) 0)) ⌝ }
 {
-    if is_used(t, kind, a) {
-        return lay_used(out, d, u, t, kind, a);
-    }
     fill_zero(out, d, kinds::base_size(kind));
     u
+}
+
+// The record of a kind and position at `d`, and what it names from `u` on.
+pub fn lay_entry(out: &mut [u8], d: usize, u: usize, t: &[u8], kind: u8, n: usize) -> usize
+    requires { ⌜ Accepted (now t) ⌝ }
+    requires { ⌜ (d + baseOf (layoutOf kind) ≤ u) × (u + sizeEntry (toldEntry (layoutOf kind) (now t) kind n) ≤ length (now out)) × (u + sizeEntry (toldEntry (layoutOf kind) (now t) kind n) ≤ 65536) ⌝ }
+    ensures { λ r. ⌜ (r ≡ u + sizeEntry (toldEntry (layoutOf kind) (now (t .entry)) kind n)) × (now (out .exit) ≡ laid (now (out .entry)) d (recEntry u (toldEntry (layoutOf kind) (now (t .entry)) kind n)) u (heapEntry u (toldEntry (layoutOf kind) (now (t .entry)) kind n))) ⌝ }
+{
+    let s = seat_of(t, kind, n);
+    match s {
+        Seat::Nowhere => lay_unused(out, d, u, kind),
+        Seat::At { at, used } => if used {
+            lay_used(out, d, u, t, kind, at)
+        } else {
+            lay_unused(out, d, u, kind)
+        },
+    }
 }

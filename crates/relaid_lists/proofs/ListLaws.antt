@@ -3,31 +3,32 @@ use mathlib.Core.Path.{_≡_, refl, sym, ap, ap₂, _∙_}
 use mathlib.Core.List.{List, [], _∷_}
 use Prim.Native.Nat.{ℕ, _+_, _*_, _≤_}
 use native.Mathlib.Omega.{arith}
-use lib.ListN.{length, getD, length-append}
+use lib.ListN.{length, length-append}
 use Rattle.table.specs.Layout.{Entry}
 use Rattle.table.specs.FixedLayouts.{layoutOf, hfi, ssns, security, discovery}
-use Rattle.table.specs.Objects.{readBody, sizeList, sizeBody, spanBody, recsList, heapList, recsBody, heapBody}
-use Rattle.table.specs.Meaning.{meaning}
+use Rattle.table.specs.Objects.{sizeList, sizeBody, spanBody, recsList, heapList, recsBody, heapBody}
+use Rattle.table.specs.Meaning.{Meaning, meaning}
 use Rattle.laws.specs.Fields.{Bytes}
 use Rattle.reader.specs.Accepted.{Accepted}
-use Rattle.reads.proofs.SeatLaws.{hfis, ssnss, securities, discoveries}
-use Rattle.parts.specs.Parts.{listIn}
+use Rattle.reads.specs.Told.{told, countOf}
+use Rattle.reads.proofs.MeaningLaws.{told-all}
+use Rattle.parts.specs.Parts.{listOf}
 use Rattle.parts.proofs.PartLaws.{span-parts}
 use Rattle.relaid.specs.Laid.{laid}
 use Rattle.relaid_lists.proofs.RunLaws.{Piece, piece, recsOf, heapsOf, run-laid, link, list-recs, list-heaps}
 
 module _ (t : List ℕ) (b : Bytes t) (ok : Accepted t) (u : ℕ) where
   abbrev es3 : List (Entry (layoutOf 3))
-  es3 = listIn (layoutOf 3) t 80
+  es3 = listOf t 3
 
   abbrev es4 : List (Entry (layoutOf 4))
-  es4 = listIn (layoutOf 4) t 88
+  es4 = listOf t 4
 
   abbrev es5 : List (Entry (layoutOf 5))
-  es5 = listIn (layoutOf 5) t 96
+  es5 = listOf t 5
 
   abbrev es6 : List (Entry (layoutOf 6))
-  es6 = listIn (layoutOf 6) t 104
+  es6 = listOf t 6
 
   abbrev u4 : ℕ
   u4 = u + sizeList es3
@@ -46,41 +47,41 @@ module _ (t : List ℕ) (b : Bytes t) (ok : Accepted t) (u : ℕ) where
       ∷ piece (recsList u6 es6) (heapList u6 es6)
       ∷ []
 
-  long3 : length (recsList u es3) ≡ getD t 87 0 * 32
+  long3 : length (recsList u es3) ≡ countOf t 3 * 32
   unfolding layoutOf hfi
-  long3 = list-recs t ok 3 80 (hfis t ok) u
+  long3 = list-recs t ok 3 u
 
-  long4 : length (recsList u4 es4) ≡ getD t 95 0 * 128
+  long4 : length (recsList u4 es4) ≡ countOf t 4 * 128
   unfolding layoutOf ssns
-  long4 = list-recs t ok 4 88 (ssnss t ok) u4
+  long4 = list-recs t ok 4 u4
 
-  long5 : length (recsList u5 es5) ≡ getD t 103 0 * 64
+  long5 : length (recsList u5 es5) ≡ countOf t 5 * 64
   unfolding layoutOf security
-  long5 = list-recs t ok 5 96 (securities t ok) u5
+  long5 = list-recs t ok 5 u5
 
-  long6 : length (recsList u6 es6) ≡ getD t 111 0 * 32
+  long6 : length (recsList u6 es6) ≡ countOf t 6 * 32
   unfolding layoutOf discovery
-  long6 = list-recs t ok 6 104 (discoveries t ok) u6
+  long6 = list-recs t ok 6 u6
 
   pub size-body : sizeBody (meaning t .lists) ≡ sizeList es3 + (sizeList es4 + (sizeList es5 + (sizeList es6 + 0)))
-  unfolding sizeBody meaning readBody listIn layoutOf
-  size-body = refl
+  unfolding sizeBody told listOf countOf layoutOf
+  size-body = sym (ap (λ (m : Meaning). sizeBody (m .lists)) (told-all t b ok))
 
   recs-body : recsOf lists ≡ recsBody u (meaning t .lists)
-  unfolding recsBody meaning readBody listIn layoutOf
-  recs-body = refl
+  unfolding recsBody told listOf countOf layoutOf
+  recs-body = ap (λ (m : Meaning). recsBody u (m .lists)) (told-all t b ok)
 
   heap-body : heapsOf lists ≡ heapBody u (meaning t .lists)
-  unfolding heapBody meaning readBody listIn layoutOf
-  heap-body = refl
+  unfolding heapBody told listOf countOf layoutOf
+  heap-body = ap (λ (m : Meaning). heapBody u (m .lists)) (told-all t b ok)
 
   recs-length : length (recsOf lists) ≡ spanBody (meaning t .lists)
-  recs-length = simp length-append (omega (arith, long3, long4, long5, long6, span-parts t b))
+  recs-length = simp length-append (omega (arith, long3, long4, long5, long6, span-parts t b ok))
 
   heaps-length : length (heapsOf lists) ≡ sizeBody (meaning t .lists)
   heaps-length =
       simp length-append
-      (omega (arith, list-heaps t ok 3 80 (hfis t ok) u, list-heaps t ok 4 88 (ssnss t ok) u4, list-heaps t ok 5 96 (securities t ok) u5, list-heaps t ok 6 104 (discoveries t ok) u6, size-body))
+      (omega (arith, list-heaps t ok 3 u, list-heaps t ok 4 u4, list-heaps t ok 5 u5, list-heaps t ok 6 u6, size-body))
 
   pub body-recs-long : length (recsBody u (meaning t .lists)) ≡ spanBody (meaning t .lists)
   body-recs-long = ap length (sym recs-body) ∙ recs-length
@@ -90,16 +91,16 @@ module _ (t : List ℕ) (b : Bytes t) (ok : Accepted t) (u : ℕ) where
 
   -- one list behind the other
   pub lists-laid : (x y3 y4 y5 y6 : List ℕ) (d4 d5 d6 h4 h5 h6 : ℕ) → 160 + spanBody (meaning t .lists) ≤ u → u + sizeBody (meaning t .lists) ≤ length x
-      → d4 ≡ 160 + getD t 87 0 * 32 → d5 ≡ d4 + getD t 95 0 * 128 → d6 ≡ d5 + getD t 103 0 * 64
+      → d4 ≡ 160 + countOf t 3 * 32 → d5 ≡ d4 + countOf t 4 * 128 → d6 ≡ d5 + countOf t 5 * 64
       → y3 ≡ laid x 160 (recsList u es3) u (heapList u es3) → h4 ≡ u4
       → y4 ≡ laid y3 d4 (recsList h4 es4) h4 (heapList h4 es4) → h5 ≡ h4 + sizeList es4
       → y5 ≡ laid y4 d5 (recsList h5 es5) h5 (heapList h5 es5) → h6 ≡ h5 + sizeList es5
       → y6 ≡ laid y5 d6 (recsList h6 es6) h6 (heapList h6 es6)
       → y6 ≡ laid x 160 (recsBody u (meaning t .lists)) u (heapBody u (meaning t .lists))
   lists-laid x y3 y4 y5 y6 d4 d5 d6 h4 h5 h6 below room e4 e5 e6 s3 q4 s4 q5 s5 q6 s6 =
-      let g3 = list-heaps t ok 3 80 (hfis t ok) u in
-      let g4 = list-heaps t ok 4 88 (ssnss t ok) u4 in
-      let g5 = list-heaps t ok 5 96 (securities t ok) u5 in
+      let g3 = list-heaps t ok 3 u in
+      let g4 = list-heaps t ok 4 u4 in
+      let g5 = list-heaps t ok 5 u5 in
       run-laid lists x 160 u y6 (omega (arith, recs-length)) (omega (arith, heaps-length)) (
         y3,
         s3,

@@ -1,25 +1,53 @@
-use Rattle.parts.proofs.PartLaws.{entry-used, entry-unused}
-use Rattle.table.specs.Objects.{sizeEntry}
-use Rattle.table.specs.FixedLayouts.{layoutOf}
-use lib.Dec.{lit≤}
 use mathlib.Core.Path.{sym, ap, _∙_}
+use mathlib.Core.Bool.{true}
+use lib.Dec.{lit≤}
+use Rattle.table.specs.FixedLayouts.{layoutOf}
+use Rattle.table.specs.Reads.{seat}
+use Rattle.table.specs.Objects.{sizeEntry}
+use Rattle.parts.specs.Parts.{slotsIn}
+use Rattle.reads.specs.Seats.{asSeat}
+use Rattle.reads.proofs.EntryLaws.{seated-at, entry-nowhere, entry-off, entry-on}
+use Rattle.table.proofs.Rules.{picks}
 use borrow.Author.Needs.{needs}
 use Rattle.parts.proofs.sizes.entry_size.Statement.{statement}
 use Rattle.parts.proofs.sizes.entry_size.Tie as tie
+use Rattle.parts.proofs.sizes.entry_size.Reads as reads
+use Rattle.parts.proofs.sizes.entry_size.Lts as lts
+use Rattle.parts.proofs.references.named_size.Reads as named-size-reads
+use Rattle.reads.proofs.seats.seat_of.Reads as seat-of-reads
 
-is-used-requires : tie.Need-is-used-requires
-is-used-requires c κs = search needs
+seat-of-requires : tie.Need-seat-of-requires
+seat-of-requires c κs = search needs
+
+enum-told : tie.Need-enum-told
+enum-told c = search needs
+
+enum-known-s : tie.Need-enum-known-s
+enum-known-s c = search needs
 
 named-size-requires : tie.Need-named-size-requires
-named-size-requires c κs = let s = c .before .before .before in (s .pre .0, rw (sym (c .before .is-used .ensures) ∙ c .if1 .taken) at (s .pre .1 .seated))
+named-size-requires c κs = let s = c .before .before .before .before .before .before in (s .pre, seated-at (s .args .t .now) (s .pre) (s .args .kind) (s .args .n) (c .before .before .s .given .0 .0) true (sym (c .before .before .before .before .seat-of .ensures) ∙ ap (asSeat (layoutOf (s .args .kind))) (c .before .before .s .given .1) ∙ ap (seat (layoutOf (s .args .kind)) (c .before .before .s .given .0 .0)) (c .if1 .taken)))
 
 returns : tie.Need-returns
 unfolding sizeEntry
-returns c = let a = c .before .before .before .before .args in (c .named-size .ensures .0 ∙ sym (ap sizeEntry (entry-used (a .t .now) (layoutOf (a .kind)) (a .a) (sym (c .before .before .is-used .ensures) ∙ c .before .if1 .taken))), c .named-size .ensures .1)
+returns c = let s = c .before .before .before .before in (sym (ap sizeEntry (entry-nowhere (s .args .t .now) (s .args .kind) (s .args .n) (sym (c .before .before .seat-of .ensures) ∙ ap (asSeat (layoutOf (s .args .kind))) (c .enum-told .given .1)))), lit≤ tt)
 
 returns-2 : tie.Need-returns-2
+unfolding sizeEntry slotsIn
+returns-2 c = let s = c .before .before .before .before .before .before .before in (c .named-size .ensures .0 ∙ sym (ap sizeEntry (entry-on (s .args .t .now) (s .args .kind) (s .args .n) (c .before .before .before .s .given .0 .0) (sym (c .before .before .before .before .before .seat-of .ensures) ∙ ap (asSeat (layoutOf (s .args .kind))) (c .before .before .before .s .given .1) ∙ ap (seat (layoutOf (s .args .kind)) (c .before .before .before .s .given .0 .0)) (c .before .if1 .taken)))), c .named-size .ensures .1)
+
+returns-3 : tie.Need-returns-3
 unfolding sizeEntry
-returns-2 c = let a = c .before .before .before .args in (sym (ap sizeEntry (entry-unused (a .t .now) (layoutOf (a .kind)) (a .a) (sym (c .before .is-used .ensures) ∙ c .if1 .left))), lit≤ tt)
+returns-3 c = let s = c .before .before .before .before .before .before in (sym (ap sizeEntry (entry-off (s .args .t .now) (s .args .kind) (s .args .n) (c .before .before .s .given .0 .0) (sym (c .before .before .before .before .seat-of .ensures) ∙ ap (asSeat (layoutOf (s .args .kind))) (c .before .before .s .given .1) ∙ ap (seat (layoutOf (s .args .kind)) (c .before .before .s .given .0 .0)) (c .if1 .left)))), lit≤ tt)
 
 pub entry-size-spec : {M : Type 1} → statement M
-entry-size-spec = tie.close (tie.spec is-used-requires named-size-requires returns returns-2)
+entry-size-spec =
+    tie.close
+    (tie.spec
+    seat-of-requires
+    enum-told
+    enum-known-s
+    named-size-requires
+    returns
+    returns-2
+    returns-3)

@@ -1,13 +1,13 @@
+use Rattle.reads.specs.Told.{toldEntry}
+use Rattle.table.specs.Layout.{Entry}
 use mathlib.Core.Path.{_≡_, refl, ap, _∙_}
 use Prim.Native.Nat.{ℕ, _+_, _-_}
 use native.Mathlib.Omega.{arith}
 use Rattle.table.specs.FixedLayouts.{layoutOf, host}
-use Rattle.table.specs.Objects.{readEntry, sizeOf, sizeEntry, recEntry, heapEntry}
-use Rattle.laws.specs.Fields.{Bytes}
+use Rattle.table.specs.Objects.{sizeOf, sizeEntry, recEntry, heapEntry}
 use Rattle.laws.specs.ListWalk.{base-small}
 use Rattle.parts.specs.Parts.{slotsIn}
-use Rattle.reader.proofs.AcceptedLaws.{laid}
-use Rattle.reads.proofs.SeatLaws.{header-seated, host-entered}
+use Rattle.reads.proofs.SeatLaws.{header-seated}
 use Rattle.relaid.specs.Laid.{laid as both}
 use Rattle.rewriter.proofs.FormLaws.{form-length, heap-length, front-late, form-laid}
 use borrow.Author.Needs.{needs}
@@ -24,33 +24,28 @@ sub-lay-front : tie.Need-sub-lay-front
 sub-lay-front c = search needs
 
 lay-front-requires : tie.Need-lay-front-requires
-lay-front-requires c κs = let s = c .before .before .before .before .before .before .before in let a = s .args in let t = a .t .now in let ok = s .pre .0 .0 in let en = s .pre .0 .1 in let ek = s .pre .0 .2 in let fl = form-length t (λ i. omega (arith, c .before .before .before .before .before .shared-slice-known .given i)) ok in let hl = heap-length t (λ i. omega (arith, c .before .before .before .before .before .shared-slice-known .given i)) ok in (omega (arith, laid t ok .lent), omega (arith, en, ek, fl, s .pre .1, c .before .before .before .lay-named .kept .0))
-
-u32-at-requires : tie.Need-u32-at-requires
-u32-at-requires c κs = omega (arith, laid (c .before .before .before .before .before .before .before .before .before .before .before .args .t .now) (c .before .before .before .before .before .before .before .before .before .before .before .pre .0 .0) .lent)
+lay-front-requires c κs = let s = c .before .before .before .before .before .before .before in let a = s .args in let t = a .t .now in let ok = s .pre .0 .0 in let en = s .pre .0 .1 in let ek = s .pre .0 .2 in let fl = form-length t (λ i. omega (arith, c .before .before .before .before .before .shared-slice-known .given i)) ok in let hl = heap-length t (λ i. omega (arith, c .before .before .before .before .before .shared-slice-known .given i)) ok in (ok, omega (arith, en, ek, fl, s .pre .1, c .before .before .before .lay-named .kept .0))
 
 lay-entry-requires : tie.Need-lay-entry-requires
 unfolding layoutOf host
-lay-entry-requires c κs = let s = c .before .before .before .before .before .before .before .before .before .before .before .before in let a = s .args in let t = a .t .now in let ok = s .pre .0 .0 in let en = s .pre .0 .1 in let ek = s .pre .0 .2 in let fl = form-length t (λ i. omega (arith, c .before .before .before .before .before .before .before .before .before .before .shared-slice-known .given i)) ok in let hl = heap-length t (λ i. omega (arith, c .before .before .before .before .before .before .before .before .before .before .shared-slice-known .given i)) ok in let g = c .before .before .before .before .before .before .before .before .lay-named .ensures .0 in let w = c .u32-at .ensures .0 in let z = ap (λ (i : ℕ). sizeEntry (readEntry (layoutOf 2) t i)) w in
-    ((ok, rw w (host-entered t ok)), (omega (arith, en, ek, fl, hl, g), omega (arith, en, ek, fl, hl, g, z, s .pre .1, c .before .before .before .before .lay-front .kept .0, c .before .before .before .before .before .before .before .before .lay-named .kept .0), omega (arith, en, ek, fl, hl, g, z, s .pre .1)))
+lay-entry-requires c κs = let s = c .before .before .before .before .before .before .before .before .before .before .before in let a = s .args in let t = a .t .now in let ok = s .pre .0 .0 in let en = s .pre .0 .1 in let ek = s .pre .0 .2 in let fl = form-length t (λ i. omega (arith, c .before .before .before .before .before .before .before .before .before .shared-slice-known .given i)) ok in let hl = heap-length t (λ i. omega (arith, c .before .before .before .before .before .before .before .before .before .shared-slice-known .given i)) ok in let g = c .before .before .before .before .before .before .before .lay-named .ensures .0 in (ok, (omega (arith, en, ek, fl, hl, g), omega (arith, en, ek, fl, hl, g, s .pre .1, c .before .before .before .lay-front .kept .0, c .before .before .before .before .before .before .before .lay-named .kept .0), omega (arith, en, ek, fl, hl, g, s .pre .1)))
 
 lay-lists-requires : tie.Need-lay-lists-requires
-lay-lists-requires c κs = let s = c .before .before .before .before .before .before .before .before .before .before .before .before .before .before .before .before in let a = s .args in let t = a .t .now in let ok = s .pre .0 .0 in let en = s .pre .0 .1 in let ek = s .pre .0 .2 in let fl = form-length t (λ i. omega (arith, c .before .before .before .before .before .before .before .before .before .before .before .before .before .before .shared-slice-known .given i)) ok in let hl = heap-length t (λ i. omega (arith, c .before .before .before .before .before .before .before .before .before .before .before .before .before .before .shared-slice-known .given i)) ok in let g = c .before .before .before .before .before .before .before .before .before .before .before .before .lay-named .ensures .0 in let w = c .before .before .before .before .u32-at .ensures .0 in let z = ap (λ (i : ℕ). sizeEntry (readEntry (layoutOf 2) t i)) w in let p = c .before .before .before .lay-entry in
-    (ok, (omega (arith, en, ek, fl, hl, g, z, p .ensures .0), omega (arith, en, ek, fl, hl, g, z, p .ensures .0, s .pre .1, p .kept .0, c .before .before .before .before .before .before .before .before .lay-front .kept .0, c .before .before .before .before .before .before .before .before .before .before .before .before .lay-named .kept .0), omega (arith, en, ek, fl, hl, g, z, p .ensures .0, s .pre .1)))
+lay-lists-requires c κs = let s = c .before .before .before .before .before .before .before .before .before .before .before .before .before .before .before in let a = s .args in let t = a .t .now in let ok = s .pre .0 .0 in let en = s .pre .0 .1 in let ek = s .pre .0 .2 in let fl = form-length t (λ i. omega (arith, c .before .before .before .before .before .before .before .before .before .before .before .before .before .shared-slice-known .given i)) ok in let hl = heap-length t (λ i. omega (arith, c .before .before .before .before .before .before .before .before .before .before .before .before .before .shared-slice-known .given i)) ok in let g = c .before .before .before .before .before .before .before .before .before .before .before .lay-named .ensures .0 in let p = c .before .before .before .lay-entry in (ok, (omega (arith, en, ek, fl, hl, g, p .ensures .0), omega (arith, en, ek, fl, hl, g, p .ensures .0, s .pre .1, p .kept .0, c .before .before .before .before .before .before .before .lay-front .kept .0, c .before .before .before .before .before .before .before .before .before .before .before .lay-named .kept .0), omega (arith, en, ek, fl, hl, g, p .ensures .0, s .pre .1)))
 
 same-length : tie.Need-same-length
 same-length c = search needs
 
 returns : tie.Need-returns
-returns c = let s = c .before .before .before .before .before .before .before .before .before .before .before .before .before .before .before .before .before .before .before in let a = s .args in let t = a .t .now in let ok = s .pre .0 .0 in let en = s .pre .0 .1 in let ek = s .pre .0 .2 in let fl = form-length t (λ i. omega (arith, c .before .before .before .before .before .before .before .before .before .before .before .before .before .before .before .before .before .shared-slice-known .given i)) ok in let hl = heap-length t (λ i. omega (arith, c .before .before .before .before .before .before .before .before .before .before .before .before .before .before .before .before .before .shared-slice-known .given i)) ok in let b : Bytes t = λ i. omega (arith, c .before .before .before .before .before .before .before .before .before .before .before .before .before .before .before .before .before .shared-slice-known .given i) in
-    let n = c .before .before .before .before .before .before .before .before .before .before .before .before .before .before .before .lay-named in let f = c .before .before .before .before .before .before .before .before .before .before .before .lay-front in let p = c .before .before .before .before .before .before .lay-entry in let w = c .before .before .before .before .before .before .before .u32-at in
+returns c = let s = c .before .before .before .before .before .before .before .before .before .before .before .before .before .before .before .before .before .before in let a = s .args in let t = a .t .now in let ok = s .pre .0 .0 in let en = s .pre .0 .1 in let ek = s .pre .0 .2 in let fl = form-length t (λ i. omega (arith, c .before .before .before .before .before .before .before .before .before .before .before .before .before .before .before .before .shared-slice-known .given i)) ok in let hl = heap-length t (λ i. omega (arith, c .before .before .before .before .before .before .before .before .before .before .before .before .before .before .before .before .shared-slice-known .given i)) ok in let n = c .before .before .before .before .before .before .before .before .before .before .before .before .before .before .lay-named in let f = c .before .before .before .before .before .before .before .before .before .before .lay-front in let p = c .before .before .before .before .before .before .lay-entry in
     let h : ℕ = a .n - a .k in
     let d : ℕ = n .result - h in
     let ed : d ≡ sizeOf (slotsIn (layoutOf 0) t 0) = omega (arith, n .ensures .0) in
     let hb : n .result ≡ h + d = omega (arith, n .ensures .0) in
-    form-laid t b ok (a .n) (a .k) en ek (a .out .now) _ (f .last .0) (p .last .0) (c .before .before .lay-lists .last .0) h d (w .result) (p .result) (s .pre .1 .0) refl ed (w .ensures .0) refl
-    (front-late t b ok (a .n) (a .k) en ek (a .out .now) (n .last .0) (f .last .0) h d (omega (arith, en, ek, fl)) (omega (arith, en, ek, fl, hl, s .pre .1)) (n .ensures .1) (f .ensures))
-    (p .ensures .1 ∙ ap (λ (v : ℕ). both (f .last .0) 128 (recEntry v (readEntry (layoutOf 2) t (w .result))) v (heapEntry v (readEntry (layoutOf 2) t (w .result)))) hb) (p .ensures .0 ∙ ap (λ (v : ℕ). v + sizeEntry (readEntry (layoutOf 2) t (w .result))) hb) (c .before .before .lay-lists .ensures)
+    let own : Entry (layoutOf 2) = toldEntry (layoutOf 2) t 2 0 in
+    form-laid t (λ i. omega (arith, c .before .before .before .before .before .before .before .before .before .before .before .before .before .before .before .before .shared-slice-known .given i)) ok (a .n) (a .k) en ek (a .out .now) _ (f .last .0) (p .last .0) (c .before .before .lay-lists .last .0) h d (p .result) (s .pre .1 .0) refl ed refl
+    (front-late t (λ i. omega (arith, c .before .before .before .before .before .before .before .before .before .before .before .before .before .before .before .before .shared-slice-known .given i)) ok (a .n) (a .k) en ek (a .out .now) (n .last .0) (f .last .0) h d (omega (arith, en, ek, fl)) (omega (arith, en, ek, fl, hl, s .pre .1)) (n .ensures .1) (f .ensures))
+    (p .ensures .1 ∙ ap (λ (v : ℕ). both (f .last .0) 128 (recEntry v own) v (heapEntry v own)) hb) (p .ensures .0 ∙ ap (λ (v : ℕ). v + sizeEntry own) hb) (c .before .before .lay-lists .ensures)
 
 pub lay-form-spec : {M : Type 1} → statement M
 lay-form-spec =
@@ -60,7 +55,6 @@ lay-form-spec =
     lay-named-requires
     sub-lay-front
     lay-front-requires
-    u32-at-requires
     lay-entry-requires
     lay-lists-requires
     same-length

@@ -74,7 +74,7 @@ seal-requires c κs = let s = c .before .before .before .before .before .before 
     let p = room-passed _ _ (sym (ap (λ (x : Answer). x .number) (c .before .before .before .before .before .before .before .before .room-fault .ensures)) ∙ c .before .before .before .before .before .before .if2 .left) in
     let g = signature-here t b ok n (k .result) en (k .ensures .0) (o .result) (o .ensures .0) in
     let f = ap (take n) (y .ensures) ∙ take-front (laidOut (meaning t) n 0 (k .result)) (s .args .out .now) n (en ∙ sym (laid-length t b ok n (k .result))) in
-    ((omega arith, omega (arith, p .1, y .kept .0), ok), (g .0, omega (arith, o .ensures .1), λ some. ap (λ (x : List ℕ). part x (n - k .result) (o .result)) f ∙ g .1 some))
+    ((omega arith, omega (arith, p .1, y .kept .0), ok), (g .0, ap (λ (x : List ℕ). part x (n - k .result) (o .result)) f ∙ g .1))
 
 same-length : tie.Need-same-length
 same-length c = search needs

@@ -6,10 +6,10 @@ use native.Mathlib.Nat.{sub-zero}
 use lib.ListN.{length, take, drop, length-drop}
 use lib.Seq.{take-all}
 use Rattle.table.specs.Bytes.{total}
-use Rattle.sealing.proofs.SumLaws.{total-parts}
+use Rattle.seat_reads.proofs.SumLaws.{total-parts}
 use borrow.Author.Needs.{needs}
-use Rattle.sealing.proofs.sum_but.Statement.{statement}
-use Rattle.sealing.proofs.sum_but.Tie as tie
+use Rattle.seat_reads.proofs.sums.sum_but.Statement.{statement}
+use Rattle.seat_reads.proofs.sums.sum_but.Tie as tie
 
 add-end : tie.Need-add-end
 add-end c = search needs

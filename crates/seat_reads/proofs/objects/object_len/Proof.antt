@@ -7,9 +7,9 @@ use borrow.Author.Tests.{ne-eqb}
 use Rattle.table.specs.Layout.{image, baseOf}
 use Rattle.table.specs.FixedLayouts.{layoutOf, security}
 use Rattle.reads.proofs.ObjectLaws.{plain-fits}
-use Rattle.parts.proofs.PartLaws.{place-len, never-ignored, security-len}
-use Rattle.parts.proofs.references.object_len.Statement.{statement}
-use Rattle.parts.proofs.references.object_len.Tie as tie
+use Rattle.seat_reads.proofs.ObjectLaws.{place-len, never-ignored, security-len}
+use Rattle.seat_reads.proofs.objects.object_len.Statement.{statement}
+use Rattle.seat_reads.proofs.objects.object_len.Tie as tie
 
 add-u16-at : tie.Need-add-u16-at
 add-u16-at c = let s = c .before .before in omega (arith, plain-fits (s .args .kind) (s .args .p) (s .pre .1), s .pre .0)

@@ -1,7 +1,7 @@
 use mathlib.Core.Path.{refl, sym}
 use borrow.Author.Needs.{needs}
-use Rattle.parts.proofs.references.counts.Statement.{statement}
-use Rattle.parts.proofs.references.counts.Tie as tie
+use Rattle.seat_reads.proofs.objects.counts.Statement.{statement}
+use Rattle.seat_reads.proofs.objects.counts.Tie as tie
 
 security-need-requires : tie.Need-security-need-requires
 security-need-requires c κs = search needs

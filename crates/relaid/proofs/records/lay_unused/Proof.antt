@@ -1,0 +1,27 @@
+use Rattle.table.specs.Bytes.{splice}
+use lib.ListN.{replicate}
+use Prim.Native.Nat.{ℕ}
+use mathlib.Core.Path.{refl, ap, _∙_}
+use Rattle.table.proofs.Rules.{picks}
+use borrow.Author.Needs.{needs}
+use Rattle.relaid.proofs.records.lay_unused.Statement.{statement}
+use Rattle.relaid.proofs.records.lay_unused.Tie as tie
+use Rattle.relaid.proofs.records.lay_unused.Reads as reads
+use Rattle.relaid.proofs.records.lay_unused.Lts as lts
+use Rattle.kinds.proofs.base_size.Reads as base-size-reads
+use Rattle.writer.proofs.stores.fill_zero.Reads as fill-zero-reads
+
+base-size-requires : tie.Need-base-size-requires
+base-size-requires c κs = search needs
+
+fill-zero-requires : tie.Need-fill-zero-requires
+fill-zero-requires c κs = search needs
+
+same-length : tie.Need-same-length
+same-length c = search needs
+
+returns : tie.Need-returns
+returns c = let a = c .before .before .before .before .before .before .args in (refl, c .before .before .fill-zero .ensures ∙ ap (λ (n : ℕ). splice (a .out .now) (a .d) (replicate n 0)) (c .before .before .before .base-size .ensures))
+
+pub lay-unused-spec : {M : Type 1} → statement M
+lay-unused-spec = tie.close (tie.spec base-size-requires fill-zero-requires same-length returns)

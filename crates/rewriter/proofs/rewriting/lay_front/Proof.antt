@@ -1,0 +1,46 @@
+use Rattle.table.proofs.Rules.{picks}
+use borrow.Author.Needs.{needs}
+use Rattle.rewriter.proofs.rewriting.lay_front.Statement.{statement}
+use Rattle.rewriter.proofs.rewriting.lay_front.Tie as tie
+use Rattle.rewriter.proofs.rewriting.lay_front.Reads as reads
+use Rattle.rewriter.proofs.rewriting.lay_front.Lts as lts
+use Rattle.front.proofs.write_front.Reads as write-front-reads
+use Rattle.seat_reads.proofs.counts.count_byte.Reads as count-byte-reads
+use Rattle.seat_reads.proofs.counts.oem.Reads as oem-reads
+
+count-byte-requires : tie.Need-count-byte-requires
+count-byte-requires c κs = search needs
+
+count-byte-requires-2 : tie.Need-count-byte-requires-2
+count-byte-requires-2 c κs = search needs
+
+count-byte-requires-3 : tie.Need-count-byte-requires-3
+count-byte-requires-3 c κs = search needs
+
+count-byte-requires-4 : tie.Need-count-byte-requires-4
+count-byte-requires-4 c κs = search needs
+
+oem-requires : tie.Need-oem-requires
+oem-requires c κs = search needs
+
+write-front-requires : tie.Need-write-front-requires
+write-front-requires c κs = search needs
+
+same-length : tie.Need-same-length
+same-length c = search needs
+
+returns : tie.Need-returns
+returns c = rw (← c .before .before .before .oem .ensures .0, ← c .before .before .before .before .before .before .before .before .count-byte .ensures, ← c .before .before .before .before .before .before .before .count-byte2 .ensures, ← c .before .before .before .before .before .before .count-byte3 .ensures, ← c .before .before .before .before .before .count-byte4 .ensures) (c .before .before .write-front .ensures)
+
+pub lay-front-spec : {M : Type 1} → statement M
+lay-front-spec =
+    tie.close
+    (tie.spec
+    count-byte-requires
+    count-byte-requires-2
+    count-byte-requires-3
+    count-byte-requires-4
+    oem-requires
+    write-front-requires
+    same-length
+    returns)

@@ -1,0 +1,2 @@
+pub mod ObjectLaws
+pub mod SumLaws

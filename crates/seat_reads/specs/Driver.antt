@@ -1,0 +1,10 @@
+-- The driver signature. Definitions only.
+use mathlib.Core.Bool.{true}
+use mathlib.Core.List.{List}
+use Prim.Native.Nat.{ℕ}
+use Rattle.table.specs.Bytes.{part}
+use Rattle.table.specs.FixedLayouts.{layoutOf}
+use Rattle.table.specs.Reads.{seat, placeAt}
+
+abbrev pub driverOf : List ℕ → List ℕ
+driverOf t = part t (placeAt t 44 (seat (layoutOf 0) 0 true) .at) (placeAt t 44 (seat (layoutOf 0) 0 true) .len)

@@ -1,0 +1,41 @@
+// How many records each list has, and the header's bytes.
+use crate::objects::part_of;
+use table::Discovery;
+use table::Hfi;
+use table::Security;
+use table::Ssns;
+ghost use mathlib.Core.Path.{_≡_};
+ghost use Prim.Native.Nat.{_<_};
+ghost use lib.ListN.{length};
+ghost use Rattle.reader.specs.Accepted.{Accepted};
+ghost use Rattle.reads.specs.Told.{countOf, oemOf};
+
+// The count of the list of a kind, a field of the control record.
+pub fn count_byte(t: &[u8], kind: u8) -> u8
+    requires { ⌜ Accepted (now t) ⌝ }
+    ensures { λ r. ⌜ r ≡ countOf (now (t .entry)) kind ⌝ }
+{
+    match kind {
+        Hfi::ID => t[87],
+        Ssns::ID => t[95],
+        Security::ID => t[103],
+        Discovery::ID => t[111],
+        _ => 0,
+    }
+}
+
+// The same as a number of positions.
+pub fn count_of(t: &[u8], kind: u8) -> usize
+    requires { ⌜ Accepted (now t) ⌝ }
+    ensures { λ r. ⌜ (r ≡ countOf (now (t .entry)) kind) × (r < 256) ⌝ }
+{
+    wire::wide(count_byte(t, kind))
+}
+
+// Bytes 10 to 35 of the header, all of them fields.
+pub fn oem(t: &[u8]) -> &[u8]
+    requires { ⌜ Accepted (now t) ⌝ }
+    ensures { λ r. ⌜ (now r ≡ oemOf (now (t .entry))) × (length (now r) ≡ 26) ⌝ }
+{
+    part_of(t, 10, 26)
+}

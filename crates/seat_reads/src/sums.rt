@@ -1,0 +1,48 @@
+// Sums of bytes. Where the driver signature is longer than all else in the table, it is not gone over: the table's own bytes add up to 0, so the
+// signature's sum is known by that of the others.
+use crate::objects::object_part;
+ghost use mathlib.Core.Path.{_≡_};
+ghost use Prim.Native.Nat.{_+_, _%_, _≤_};
+ghost use lib.ListN.{length};
+ghost use Rattle.table.specs.Bytes.{part, total};
+ghost use Rattle.reader.specs.Accepted.{Accepted};
+ghost use Rattle.seat_reads.specs.Driver.{driverOf};
+
+// The sum of all bytes.
+pub fn sum_of(b: &[u8]) -> u8
+    ensures { λ r. ⌜ r ≡ total (now (b .entry)) % 256 ⌝ }
+{
+    wire::sum8(b)
+}
+
+// The sum of all bytes but `len` of them from `at` on.
+pub fn sum_but(b: &[u8], at: usize, len: usize) -> u8
+    requires { ⌜ at + len ≤ length (now b) ⌝ }
+    ensures { λ r. ⌜ (r + total (part (now (b .entry)) at len)) % 256 ≡ total (now (b .entry)) % 256 ⌝ }
+{
+    let end = at + len;
+    let n = b.len();
+    let before = wire::sum8(&b[0..at]);
+    let behind = wire::sum8(&b[end..n]);
+    std::num::wrapping_add_u8(before, behind)
+}
+
+// The sum of the driver signature.
+pub fn driver_sum(t: &[u8]) -> u8
+    requires { ⌜ Accepted (now t) ⌝ }
+    ensures { λ r. ⌜ r ≡ total (driverOf (now (t .entry))) % 256 ⌝ }
+{
+    let x = object_part(t, 0, 0, 44);
+    let d = x.len();
+    let n = wire::u32_at(t, 4);
+    let at = wire::u32_at(t, 44);
+    // Never so in an accepted table: its objects lie within its own length. What inner calls know of them is that they lie in the caller's bytes.
+    if at + d > n {
+        return wire::sum8(x);
+    }
+    if d <= n - d {
+        return wire::sum8(x);
+    }
+    let rest = sum_but(&t[0..n], at, d);
+    std::num::wrapping_sub_u8(0, rest)
+}
