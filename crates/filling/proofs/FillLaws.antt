@@ -18,7 +18,7 @@ use Rattle.table.specs.Objects.{sizeOf, heapOf, patched, under}
 use Rattle.table.specs.Rules.{Test, test, answer, firstFail, firstOf}
 use Rattle.table.specs.Builder.{outcome, envOf, fill, fillAnswer, fitsNeed, isShort, mayHave, mayLack, next, placeOf, placed, roomTests, slotsRule, toldImage, toldSlots, waits}
 use Rattle.laws.specs.Fields.{imageIn}
-use Rattle.laws.specs.Refusals.{Free}
+use Rattle.laws.specs.Refusals.{asks-none}
 use Rattle.writer.specs.Stores.{storesFrom, Room}
 use Rattle.writer.proofs.RecordLaws.{Told, many, written}
 use Rattle.told.specs.Marks.{marked}
@@ -41,17 +41,17 @@ pub and-true : (c : Bool) → (c && true) ≡ c
 and-true true = refl
 and-true false = refl
 
-pub slots-fine : {rs : Refs} (e : Env) (img : List ℕ) (ss : Slots rs) → Free rs → slotsRule e img ss ≡ pick (allFine img ss) 0 11
+pub slots-fine : {rs : Refs} (e : Env) (img : List ℕ) (ss : Slots rs) → slotsRule e img ss ≡ pick (allFine img ss) 0 11
 unfolding slotsRule
-slots-fine e img nil f = refl
-slots-fine e img (bytes {need = need} b ss) f =
+slots-fine e img nil = refl
+slots-fine e img (bytes {need = need} {content = content} b ss) =
     let here : Bool = fitsNeed (need img) b && isShort b in
-    ap₂ (λ (x y : ℕ). firstOf (firstOf (pick here 0 11) x) y) (f .0 e b) (slots-fine e img ss (f .1))
+    ap₂ (λ (x y : ℕ). firstOf (firstOf (pick here 0 11) x) y) (asks-none content e b) (slots-fine e img ss)
     ∙ ap (λ (x : ℕ). firstOf x (pick (allFine img ss) 0 11)) (both-fine here true ∙ ap (λ (c : Bool). pick c 0 11) (and-true here))
     ∙ both-fine here (allFine img ss)
-slots-fine e img (gone {need = need} ss) f = ap (firstOf (pick (mayLack (need img)) 0 11)) (slots-fine e img ss (f .1)) ∙ both-fine (mayLack (need img)) (allFine img ss)
-slots-fine e img (rec {need = need} img′ own ss) f =
-    ap₂ (λ (x y : ℕ). firstOf (firstOf (pick (mayHave (need img)) 0 11) x) y) (slots-fine e img′ own (f .0)) (slots-fine e img ss (f .1))
+slots-fine e img (gone {need = need} ss) = ap (firstOf (pick (mayLack (need img)) 0 11)) (slots-fine e img ss) ∙ both-fine (mayLack (need img)) (allFine img ss)
+slots-fine e img (rec {need = need} img′ own ss) =
+    ap₂ (λ (x y : ℕ). firstOf (firstOf (pick (mayHave (need img)) 0 11) x) y) (slots-fine e img′ own) (slots-fine e img ss)
     ∙ ap (λ (x : ℕ). firstOf x (pick (allFine img ss) 0 11)) (both-fine (mayHave (need img)) (allFine img′ own))
     ∙ both-fine (mayHave (need img) && allFine img′ own) (allFine img ss)
 
@@ -74,7 +74,7 @@ told-slots l s buf img ss ps ns ws m n h t c e f =
     (ap (λ (i : ℕ). apply img (storesFrom ps ns ws (s .used) 0 i)) (sym c) ∙ written ss ps ns ws img (s .used) t)
 
 module _ (l : Layout) (s : State) (buf x b : List ℕ) (objects : Slots (l .refs)) (fine : Bool) (a : Answer) (eb : b ≡ marked (l .shape) (s .position) x)
-    (ea : a ≡ firstFail (judgeTests l s (imageIn l b 0) fine)) (free : Free (l .refs)) where
+    (ea : a ≡ firstFail (judgeTests l s (imageIn l b 0) fine)) where
   abbrev img : List ℕ
   img = toldImage (l .shape) (s .position) x
 
@@ -89,7 +89,7 @@ module _ (l : Layout) (s : State) (buf x b : List ℕ) (objects : Slots (l .refs
 
   module _ (ef : fine ≡ allFine img kept) where
     number : slotsRule (envOf s) img kept ≡ pick fine 0 11
-    number = slots-fine (envOf s) img kept free ∙ ap (λ (c : Bool). pick c 0 11) (sym ef)
+    number = slots-fine (envOf s) img kept ∙ ap (λ (c : Bool). pick c 0 11) (sym ef)
 
     rests : List Test
     rests = roomTests (s .used + sizeOf kept) (length buf)

@@ -69,9 +69,8 @@ pub fn write_control(part: &mut [u8], c: Counts)
 {
     // ID, revision 1.0, a reserved byte, the record's own length, flags: valid, a reserved byte.
     let lead = [table::Control::ID, 1, 0, 0, 64, 0, 1, 0];
-    // Header and control record together are this long.
-    let host = table::Control::SIZE;
-    let hfi = host + table::Host::SIZE;
+    let host = table::FRONT;
+    let hfi = table::SHORTEST;
     let ssns = hfi + (c.hfi as usize) * table::Hfi::SIZE;
     let security = ssns + (c.ssns as usize) * table::Ssns::SIZE;
     let discovery = security + (c.security as usize) * table::Security::SIZE;

@@ -4,15 +4,12 @@ use Prim.Native.Nat.{ℕ, _+_, _<_}
 use lib.ListN.{getD}
 use Rattle.table.specs.declared.Region.{Region}
 use Rattle.table.specs.Bytes.{num}
-use Rattle.table.specs.Layout.{region}
+use Rattle.table.specs.Layout.{region, referenceAt}
 use Rattle.head.specs.declared.Entry.{Entry}
 use Rattle.head.specs.declared.Head.{Head}
 
 abbrev pub longRegion : List ℕ → ℕ → Region
 longRegion t a = region (num t a 4) (num t (a + 4) 4)
-
-abbrev pub shortRegion : List ℕ → ℕ → Region
-shortRegion t a = region (num t a 4) (num t (a + 4) 2)
 
 abbrev pub entryIn : List ℕ → ℕ → Entry
 entryIn t c = record { at = num t c 4; step = num t (c + 4) 2; version = getD t (c + 6) 0; count = getD t (c + 7) 0 }
@@ -28,7 +25,7 @@ headOf t = record {
   controlminor = getD t 66 0;
   csl = num t 68 2;
   flags = getD t 70 0;
-  host = shortRegion t 72;
+  host = referenceAt t 72;
   hostversion = getD t 78 0;
   heap = longRegion t 36;
   hfi = entryIn t 80;

@@ -1,9 +1,10 @@
 // Header and control record, read once into a struct by value, so that no test reads the table anew.
+use table::Control;
 use table::Region;
 ghost use mathlib.Core.Path.{_≡_};
 ghost use Prim.Native.Nat.{_+_, _≤_};
 ghost use lib.ListN.{length};
-ghost use Rattle.head.specs.Head.{longRegion, shortRegion, entryIn, headOf, Narrow, NarrowRegion, NarrowEntry};
+ghost use Rattle.head.specs.Head.{longRegion, entryIn, headOf, Narrow, NarrowRegion, NarrowEntry};
 
 // A list as the control record has it: where it starts, how long each record is, their version and their number.
 pub struct Entry {
@@ -44,17 +45,6 @@ pub fn region_at(t: &[u8], at: usize) -> Region
     }
 }
 
-// An offset with a length of two bytes, as every reference has it.
-pub fn reference_at(t: &[u8], at: usize) -> Region
-    requires { ⌜ at + 6 ≤ length (now t) ⌝ }
-    ensures { λ r. ⌜ (r ≡ shortRegion (now (t .entry)) at) × NarrowRegion r ⌝ }
-{
-    Region {
-        at: wire::u32_at(t, at),
-        len: wire::u16_at(t, at + 4),
-    }
-}
-
 pub fn entry_at(t: &[u8], at: usize) -> Entry
     requires { ⌜ at + 8 ≤ length (now t) ⌝ }
     ensures { λ r. ⌜ (r ≡ entryIn (now (t .entry)) at) × NarrowEntry r ⌝ }
@@ -81,12 +71,12 @@ pub fn head_of(t: &[u8]) -> Head
         controlminor: t[66],
         csl: wire::u16_at(t, 68),
         flags: t[70],
-        host: reference_at(t, 72),
+        host: wire::reference_at(t, Control::HOST),
         hostversion: t[78],
         heap: region_at(t, 36),
-        hfi: entry_at(t, 80),
-        ssns: entry_at(t, 88),
-        security: entry_at(t, 96),
-        discovery: entry_at(t, 104),
+        hfi: entry_at(t, Control::HFI_LIST),
+        ssns: entry_at(t, Control::SSNS_LIST),
+        security: entry_at(t, Control::SECURITY_LIST),
+        discovery: entry_at(t, Control::DISCOVERY_LIST),
     }
 }

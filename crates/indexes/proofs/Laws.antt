@@ -14,7 +14,7 @@ use Rattle.table.specs.declared.Region.{Region}
 use Rattle.table.specs.declared.Need.the-variants.{Optional}
 use Rattle.table.specs.Bytes.{pick, part, num, every}
 use Rattle.table.specs.declared.Need.{Need}
-use Rattle.table.specs.Layout.{Env, Refs, plain, image, region, Layout, slotAt}
+use Rattle.table.specs.Layout.{Content, Env, Layout, Refs, image, plain, region, slotAt}
 use Rattle.table.specs.FixedLayouts.{layoutOf, header, control, host, hfi, ssns, security, discovery, info, extended, noKind, zeroOr}
 use Rattle.table.specs.Objects.{readSlots, readBody, usedIn, under}
 use Rattle.table.specs.Rules.{firstOf, refRule, plainRule, refsRule, reaches, ruled}
@@ -151,12 +151,12 @@ module _ (f : ℕ → Bool) (x : List ℕ) (i : ℕ) where
   every-none h = rw (drop-of-length-le x h)
 
 -- its reference, as the record's references have passed
-plain-passes : (heap : Region) (e : Env) (t : List ℕ) (a : ℕ) (img : List ℕ) (p : ℕ) (need : List ℕ → Need) (rule : Env → List ℕ → ℕ) (rest : Refs) → refsRule heap e t a img (plain p need rule rest) ≡ 0
+plain-passes : (heap : Region) (e : Env) (t : List ℕ) (a : ℕ) (img : List ℕ) (p : ℕ) (need : List ℕ → Need) (content : Content) (rest : Refs) → refsRule heap e t a img (plain p need content rest) ≡ 0
     → (refRule heap (need img) (num t (a + p) 4) (num t (a + p + 4) 2) ≡ 0) × (refsRule heap e t a img rest ≡ 0)
 unfolding refsRule
-plain-passes heap e t a img p need rule rest z =
-    let u = first-of (plainRule heap (need img) rule e t (a + p)) (refsRule heap e t a img rest) z in
-    (first-of (refRule heap (need img) (num t (a + p) 4) (num t (a + p + 4) 2)) (under (need img) 0 (ruled rule e (part t (num t (a + p) 4) (num t (a + p + 4) 2)))) (u .0) .0, u .1)
+plain-passes heap e t a img p need content rest z =
+    let u = first-of (plainRule heap (need img) content e t (a + p)) (refsRule heap e t a img rest) z in
+    (first-of (refRule heap (need img) (num t (a + p) 4) (num t (a + p + 4) 2)) (under (need img) 0 (ruled content e (part t (num t (a + p) 4) (num t (a + p + 4) 2)))) (u .0) .0, u .1)
 
 secondary-passed : (heap : Region) (t : List ℕ) (a pos : ℕ) → RefsPass 4 heap t a pos → refRule heap Optional (num t (a + 48) 4) (num t (a + 48 + 4) 2) ≡ 0
 unfolding refsFault layoutOf ssns

@@ -15,13 +15,13 @@ ghost use lib.ListN.{length, take};
 ghost use Rattle.table.specs.Layout.{offsets, baseOf};
 ghost use Rattle.table.specs.FixedLayouts.{layoutOf};
 
-// How many bytes a record of this kind has; in a table it may be longer.
+// How many bytes a record of this kind has; in a table it may be longer. The control record is read from the table's first byte on.
 pub fn base_size(kind: u8) -> usize
     ensures { λ r. ⌜ r ≡ baseOf (layoutOf kind) ⌝ }
 {
     match kind {
         Header::ID => Header::SIZE,
-        Control::ID => Control::SIZE,
+        Control::ID => table::FRONT,
         Host::ID => Host::SIZE,
         Hfi::ID => Hfi::SIZE,
         Ssns::ID => Ssns::SIZE,

@@ -10,8 +10,8 @@ use lib.Dec.{T, leb, eqb, leb→le, eqb→eq, lit<}
 use mir.Facts.{and-yes, yes-and}
 use Rattle.table.specs.declared.State.{State}
 use Rattle.table.specs.Bytes.{pick, same, splice}
-use Rattle.table.specs.Layout.{Body, Entry, Env, Layout, Refs, Slots, baseOf, blank, bytes, env, nil, pairsRight, unused}
-use Rattle.table.specs.FixedLayouts.{anyBytes, discovery, header, hfi, host, listKinds, security, ssns}
+use Rattle.table.specs.Layout.{Body, Entry, Env, Layout, Refs, Slots, anything, baseOf, blank, bytes, env, nil, pairsRight, unused}
+use Rattle.table.specs.FixedLayouts.{discovery, header, hfi, host, listKinds, security, ssns}
 use Rattle.table.specs.Objects.{countIn, heapBody, heapEntry, heapOf, patched, recEntry, sizeBody, sizeEntry, sizeOf, spanBody}
 use Rattle.table.specs.Rules.{firstOf, ruled, test}
 use Rattle.table.specs.Meaning.{Meaning, behind, controlBytes, driverRef, formLength, headBack, headFront, heapAt, heapLen, laidOut, limit}
@@ -83,8 +83,8 @@ pub record Open (buf : List ℕ) (s : State) (b : List ℕ) (m : Meaning) : Type
 header-fit : (e : Env) (sig : Slots (header .refs)) → slotsRule e [] sig ≡ 0 → Fit e [] sig
 unfolding header slotsRule
 header-fit e (bytes b nil) r =
-    let u = first-of (firstOf (pick (isShort b) 0 11) (ruled anyBytes e b)) 0 r in
-    let v = first-of (pick (isShort b) 0 11) (ruled anyBytes e b) (u .0) in
+    let u = first-of (firstOf (pick (isShort b) 0 11) (ruled anything e b)) 0 r in
+    let v = first-of (pick (isShort b) 0 11) (ruled anything e b) (u .0) in
     let k : length b ≤ 65535 = leb→le (length b) 65535 (pick-of (isShort b) 11 (lit< tt) (v .0)) in
     (record { need = tt; lawful = rw (v .1) tt; short = omega arith }, tt)
 

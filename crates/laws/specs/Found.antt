@@ -193,10 +193,10 @@ module _ (t : List ℕ) (b : (i : ℕ) → getD t i 0 < 256) where
       → refsRule heap v t a img rs ≡ 0 → At t heap a img (readSlots t a img rs)
   unfolding refsRule readSlots
   refs-found heap k ks q a v img none o l e = tt
-  refs-found heap k ks q a v img (plain p need rule rest) o l e =
+  refs-found heap k ks q a v img (plain p need content rest) o l e =
       let u = first-of _ _ e in
       let w = first-of _ _ (u .0) in
-      let o′ = plain-next q p ks need rule rest o in (
+      let o′ = plain-next q p ks need content rest o in (
         plain-found heap (need img) (a + p) k (omega (arith, ok-inside q p ks rest o′)) (w .0),
         refs-found heap k ks (p + 6) a v img rest o′ l (u .1),
       )

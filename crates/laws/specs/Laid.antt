@@ -65,9 +65,9 @@ pub laid-at : {rs : Refs} (ks : List Keep) (q : ℕ) (t : List ℕ) (heap : Regi
     → T (okRefs q ks rs) → Fit v img ss → Inside heap h (sizeOf ss) → AllHold t a (stores h ss) → Holds t h (heapOf h ss) → At t heap a img ss
 unfolding stores heapOf sizeOf
 laid-at ks q t heap a h v img nil o f i s g = tt
-laid-at ks q t heap a h v img (bytes {p = p} {need = need} {rule = rule} {rest = rest} b ss) o f i s g = (
+laid-at ks q t heap a h v img (bytes {p = p} {need = need} {content = content} {rest = rest} b ss) o f i s g = (
   under-any (need img) (plain-at t heap (a + p) h b (f .0 .short) (omega arith) (s .0) (holds-left t h b (heapOf (h + length b) ss) g)),
-  laid-at ks (p + 6) t heap a (h + length b) v img ss (plain-next q p ks need rule rest o) (f .1) (omega arith) (s .1) (holds-right t h b (heapOf (h + length b) ss) g),
+  laid-at ks (p + 6) t heap a (h + length b) v img ss (plain-next q p ks need content rest o) (f .1) (omega arith) (s .1) (holds-right t h b (heapOf (h + length b) ss) g),
 )
 laid-at ks q t heap a h v img (gone {p = p} {need = need} {shape = shape} {own = own} {rest = rest} ss) o f i s g =
     (under-any (need img) (s .0), laid-at ks (p + 6) t heap a h v img ss (nest-next q p ks need shape own rest o) (f .1) i (s .1) g)

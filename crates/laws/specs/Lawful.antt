@@ -6,7 +6,7 @@ use Prim.Native.Nat.{ℕ, suc, _+_, _*_, _%_, _<_}
 use lib.ListN.{length, getD, take, drop}
 use lib.Dec.{T, leb, ltb, eqb}
 use Rattle.table.specs.declared.Need.{Need}
-use Rattle.table.specs.Layout.{Body, Entry, Env, Keep, Layout, Refs, Shape, Slots, baseOf, bytes, env, gone, image, isRight, isValid, low, more, nest, nil, none, plain, rec, sel, stop, unused, used}
+use Rattle.table.specs.Layout.{Body, Content, Entry, Env, Keep, Layout, Refs, Shape, Slots, baseOf, bytes, env, gone, image, isRight, isValid, low, more, nest, nil, none, plain, rec, sel, stop, unused, used}
 use Rattle.table.specs.Objects.{countIn, isUsed, usedIn}
 use Rattle.table.specs.Rules.{isSound, ruled}
 use Rattle.table.specs.Meaning.{Meaning}
@@ -38,7 +38,7 @@ okKeep ks (sel f d m₀ m₁) =
 
 abbrev pub okRefs : ℕ → List Keep → Refs → Bool
 okRefs q ks none = leb q (length ks)
-okRefs q ks (plain p need rule rest) = (leb q p && allKeep isNone (take 6 (drop p ks))) && okRefs (p + 6) ks rest
+okRefs q ks (plain p need content rest) = (leb q p && allKeep isNone (take 6 (drop p ks))) && okRefs (p + 6) ks rest
 okRefs q ks (nest p need shape own rest) =
     ((leb q p && allKeep isNone (take 6 (drop p ks))) && okRefs (p + 6) ks rest)
     && ((allKeep (okKeep (shape .keep)) (shape .keep) && okRefs 0 (shape .keep) own) && (ltb (length (shape .keep)) 65536 && ltb 0 (length (shape .keep))))
@@ -53,9 +53,9 @@ allOk (l ∷ ls) = okLayout l && allOk ls
 
 -- ---- a lawful meaning
 
-pub record FitBytes (n : Need) (rule : Env → List ℕ → ℕ) (e : Env) (b : List ℕ) : Type 0 where
+pub record FitBytes (n : Need) (content : Content) (e : Env) (b : List ℕ) : Type 0 where
   pub need : T (fitsNeed n b)
-  pub lawful : T (eqb (ruled rule e b) 0)
+  pub lawful : T (eqb (ruled content e b) 0)
   pub short : length b < 65536
 
 pub record FitRec (n : Need) (shape : Shape) (e : Env) (img : List ℕ) : Type 0 where
@@ -66,7 +66,7 @@ pub record FitRec (n : Need) (shape : Shape) (e : Env) (img : List ℕ) : Type 0
 -- the objects of a record whose image is img
 abbrev pub Fit : {rs : Refs} → Env → List ℕ → Slots rs → Type 0
 Fit e img nil = Unit {0}
-Fit e img (bytes {need = need} {rule = rule} b ss) = FitBytes (need img) rule e b × Fit e img ss
+Fit e img (bytes {need = need} {content = content} b ss) = FitBytes (need img) content e b × Fit e img ss
 Fit e img (gone {need = need} ss) = T (mayLack (need img)) × Fit e img ss
 Fit e img (rec {need = need} {shape = shape} img′ own ss) = FitRec (need img) shape e img′ × Fit e img′ own × Fit e img ss
 

@@ -15,8 +15,8 @@ use Rattle.table.specs.declared.Need.{Need}
 use Rattle.table.specs.declared.Need.the-variants.{Ignored, Optional, Required}
 use Rattle.table.specs.declared.State.{State}
 use Rattle.table.specs.Bytes.{num, part, pick}
-use Rattle.table.specs.Layout.{Body, Entry, Env, Layout, Refs, Slots, bytes, env, gone, image, isRight, more, nest, nil, none, pairsRight, plain, rec, stop, unused, used}
-use Rattle.table.specs.FixedLayouts.{anyBytes, discovery, extended, header, hfi, host, info, listKinds, security, ssns}
+use Rattle.table.specs.Layout.{Body, Content, Entry, Env, Layout, Refs, Slots, anything, bytes, env, gone, image, isRight, more, namedAt, nest, nil, none, pairsRight, plain, rec, stop, unused, used}
+use Rattle.table.specs.FixedLayouts.{discovery, extended, header, hfi, host, info, listKinds, security, ssns}
 use Rattle.table.specs.Objects.{countIn, sizeOf, under, usedIn}
 use Rattle.table.specs.Rules.{Test, answer, bodyRule, done, entryRule, first, firstFail, firstOf, isSound, listRule, reaches, refRule, refsRule, ruled, test, usedRule}
 use Rattle.table.specs.Meaning.{Meaning, formLength, limit, meaning}
@@ -69,37 +69,10 @@ own-past r k i xs j t = go (eqb r 0) refl
 
 -- ---- the numbers of objects and of the reader
 
--- no further rule of an object gives a number
-abbrev pub Free : Refs → Type 0
-Free none = Unit {0}
-Free (plain p need rule rest) = ((e : Env) (b : List ℕ) → ruled rule e b ≡ 0) × Free rest
-Free (nest p need shape own rest) = Free own × Free rest
-
-pub any-free : (e : Env) (b : List ℕ) → ruled anyBytes e b ≡ 0
-any-free e [] = refl
-any-free e (b ∷ bs) = refl
-
-abbrev pub AllFree : List Layout → Type 0
-AllFree [] = Unit {0}
-AllFree (l ∷ ls) = Free (l .refs) × AllFree ls
-
-pub header-free : Free (header .refs)
-unfolding header
-header-free = (any-free, tt)
-
-pub host-free : Free (host .refs)
-unfolding host
-host-free = (any-free, tt)
-
-pub lists-free : AllFree listKinds
-unfolding hfi ssns security discovery info extended
-lists-free = (
-  ((any-free, tt), tt),
-  (
-    (any-free, (any-free, (any-free, (any-free, ((any-free, tt), tt))))),
-    ((any-free, (any-free, (any-free, (any-free, (any-free, (any-free, tt)))))), ((any-free, (any-free, tt)), tt)),
-  ),
-)
+-- no content asks for a number
+pub asks-none : (c : Content) (e : Env) (b : List ℕ) → ruled c e b ≡ 0
+asks-none anything e [] = refl
+asks-none anything e (b ∷ bs) = refl
 
 -- r is 0 or n
 pub record ZeroOr (n r : ℕ) : Type 0 where
@@ -124,14 +97,14 @@ zero-first {n} {x} {y} t u = go (eqb x 0)
     go false = t
 
 -- the builder's rule of told objects gives 0 or 11
-slots-number : {rs : Refs} (e : Env) (img : List ℕ) (ss : Slots rs) → Free rs → ZeroOr 11 (slotsRule e img ss)
+slots-number : {rs : Refs} (e : Env) (img : List ℕ) (ss : Slots rs) → ZeroOr 11 (slotsRule e img ss)
 unfolding slotsRule
-slots-number e img nil f = zero-is 11 0 refl
-slots-number e img (bytes {need = need} {rule = rule} b ss) f =
-    zero-first (zero-first (zero-pick (fitsNeed (need img) b && isShort b) 11) (zero-is 11 (ruled rule e b) (f .0 e b))) (slots-number e img ss (f .1))
-slots-number e img (gone {need = need} ss) f = zero-first (zero-pick (mayLack (need img)) 11) (slots-number e img ss (f .1))
-slots-number e img (rec {need = need} img′ own ss) f =
-    zero-first (zero-first (zero-pick (mayHave (need img)) 11) (slots-number e img′ own (f .0))) (slots-number e img ss (f .1))
+slots-number e img nil = zero-is 11 0 refl
+slots-number e img (bytes {need = need} {content = content} b ss) =
+    zero-first (zero-first (zero-pick (fitsNeed (need img) b && isShort b) 11) (zero-is 11 (ruled content e b) (asks-none content e b))) (slots-number e img ss)
+slots-number e img (gone {need = need} ss) = zero-first (zero-pick (mayLack (need img)) 11) (slots-number e img ss)
+slots-number e img (rec {need = need} img′ own ss) =
+    zero-first (zero-first (zero-pick (mayHave (need img)) 11) (slots-number e img′ own)) (slots-number e img ss)
 
 -- so it is no other number
 not-other : (r j : ℕ) → T (not (eqb 0 j)) → T (not (eqb 11 j)) → ZeroOr 11 r → T (not (eqb r j))
@@ -254,11 +227,11 @@ outcome-answer a s s′ b b′ = go (eqb (a .number) 0)
     go false = refl
 
 -- host, HFI, SSNS, security and discovery
-pub fill-refuses : (l : Layout) → Free (l .refs) → (s : State) (space : ℕ) (img : List ℕ) (ss : Slots (l .refs))
+pub fill-refuses : (l : Layout) (s : State) (space : ℕ) (img : List ℕ) (ss : Slots (l .refs))
     → Refuses (fillAnswer l s space img ss .number) (waits s (l .kind)) (pairsRight (l .shape) img) (leb (s .used + sizeOf ss) limit) (leb (s .used + sizeOf ss) space)
     (slotsRule (envOf s) img ss)
 unfolding fillAnswer
-fill-refuses l f s space img ss = refuses _ _ _ _ (slotsRule (envOf s) img ss) (l .kind) (s .position) (slots-number (envOf s) img ss f)
+fill-refuses l s space img ss = refuses _ _ _ _ (slotsRule (envOf s) img ss) (l .kind) (s .position) (slots-number (envOf s) img ss)
 
 -- begin has no two-bit fields
 pub begin-refuses : (s : State) (b oem cs : List ℕ) (sig : Slots (header .refs))
@@ -266,7 +239,7 @@ pub begin-refuses : (s : State) (b oem cs : List ℕ) (sig : Slots (header .refs
     (slotsRule (env (countOf listKinds cs) 0) [] sig)
 unfolding begin
 begin-refuses s b oem cs sig =
-    rw (outcome-answer _ s _ b _) (refuses _ true _ _ (slotsRule (env (countOf listKinds cs) 0) [] sig) 0 0 (slots-number (env (countOf listKinds cs) 0) [] sig header-free))
+    rw (outcome-answer _ s _ b _) (refuses _ true _ _ (slotsRule (env (countOf listKinds cs) 0) [] sig) 0 0 (slots-number (env (countOf listKinds cs) 0) [] sig))
 
 -- an unused position has neither fields nor objects
 pub leave-refuses : (s : State) (b : List ℕ) → Refuses (leave s b .step .answer .number) (waits s (s .turn) && leb 1 (s .position)) true true (leb (s .used) (length b)) 0
@@ -302,29 +275,29 @@ ref-below heap Ignored off len = below-is 0 tt
 ref-below heap Optional off len = below-pick (eqb off 0 && eqb len 0) (below-is 0 tt) (below-pick (reaches heap off len) (below-is 0 tt) (below-is 11 tt))
 ref-below heap Required off len = below-pick (reaches heap off len) (below-is 0 tt) (below-is 11 tt)
 
-refs-below : (heap : Region) (e : Env) (t : List ℕ) (a : ℕ) (img : List ℕ) (rs : Refs) → Free rs → Below14 (refsRule heap e t a img rs)
+refs-below : (heap : Region) (e : Env) (t : List ℕ) (a : ℕ) (img : List ℕ) (rs : Refs) → Below14 (refsRule heap e t a img rs)
 unfolding refsRule
-refs-below heap e t a img none f = below-is 0 tt
-refs-below heap e t a img (plain p need rule rest) f =
+refs-below heap e t a img none = below-is 0 tt
+refs-below heap e t a img (plain p need content rest) =
     below-first
     (below-first (ref-below heap (need img) (num t (a + p) 4) (num t (a + p + 4) 2))
-    (below-under (need img) (subst Below14 (sym (f .0 e (part t (num t (a + p) 4) (num t (a + p + 4) 2)))) (below-is 0 tt))))
-    (refs-below heap e t a img rest (f .1))
-refs-below heap e t a img (nest p need shape own rest) f =
+    (below-under (need img) (subst Below14 (sym (asks-none content e (namedAt t (a + p)))) (below-is 0 tt))))
+    (refs-below heap e t a img rest)
+refs-below heap e t a img (nest p need shape own rest) =
     below-first
     (below-first (ref-below heap (need img) (num t (a + p) 4) (num t (a + p + 4) 2))
     (below-under (need img)
     (below-pick (eqb (num t (a + p + 4) 2) 0) (below-is 0 tt)
     (below-first
     (below-pick (leb (length (shape .keep)) (num t (a + p + 4) 2) && isSound shape e (image (shape .keep) (drop (num t (a + p) 4) t))) (below-is 0 tt) (below-is 12 tt))
-    (refs-below heap e t (num t (a + p) 4) (image (shape .keep) (drop (num t (a + p) 4) t)) own (f .0))))))
-    (refs-below heap e t a img rest (f .1))
+    (refs-below heap e t (num t (a + p) 4) (image (shape .keep) (drop (num t (a + p) 4) t)) own)))))
+    (refs-below heap e t a img rest)
 
-used-below : (l : Layout) → Free (l .refs) → (named : ℕ → ℕ → Bool) (heap : Region) (e : Env) (t : List ℕ) (a : ℕ) (img : List ℕ) (ss : Slots (l .refs)) → Below14 (usedRule l named heap e t a img ss)
+used-below : (l : Layout) (named : ℕ → ℕ → Bool) (heap : Region) (e : Env) (t : List ℕ) (a : ℕ) (img : List ℕ) (ss : Slots (l .refs)) → Below14 (usedRule l named heap e t a img ss)
 unfolding usedRule
-used-below l f named heap e t a img ss =
+used-below l named heap e t a img ss =
     below-first (below-pick (isRight (l .shape) e img) (below-is 0 tt) (below-is 10 tt))
-    (below-first (refs-below heap e t a img (l .refs) f) (below-pick (l .names named img ss) (below-is 0 tt) (below-is 13 tt)))
+    (below-first (refs-below heap e t a img (l .refs)) (below-pick (l .names named img ss) (below-is 0 tt) (below-is 13 tt)))
 
 answer-below : (n k i : ℕ) (y : Answer) → Below14 n → Below14 (y .number) → Below14 (pick (eqb n 0) y (answer n k i) .number)
 answer-below n k i y t u = go (eqb n 0)
@@ -340,32 +313,32 @@ both-below x y t u = go (eqb (x .number) 0)
     go true = u
     go false = t
 
-list-below : (l : Layout) → Free (l .refs) → (named : ℕ → ℕ → Bool) (count : ℕ → ℕ) (heap : Region) (pos : ℕ) (t : List ℕ) (a step : ℕ) (es : List (Entry l))
+list-below : (l : Layout) (named : ℕ → ℕ → Bool) (count : ℕ → ℕ) (heap : Region) (pos : ℕ) (t : List ℕ) (a step : ℕ) (es : List (Entry l))
     → Below14 (listRule l named count heap pos t a step es .number)
 unfolding listRule entryRule
-list-below l f named count heap pos t a step [] = below-is 0 tt
-list-below l f named count heap pos t a step (unused ∷ es) = list-below l f named count heap (suc pos) t (a + step) step es
-list-below l f named count heap pos t a step (used img ss ∷ es) =
-    answer-below (usedRule l named heap (env count pos) t a img ss) (l .kind) pos (listRule l named count heap (suc pos) t (a + step) step es) (used-below l f named heap (env count pos) t a img ss)
-    (list-below l f named count heap (suc pos) t (a + step) step es)
+list-below l named count heap pos t a step [] = below-is 0 tt
+list-below l named count heap pos t a step (unused ∷ es) = list-below l named count heap (suc pos) t (a + step) step es
+list-below l named count heap pos t a step (used img ss ∷ es) =
+    answer-below (usedRule l named heap (env count pos) t a img ss) (l .kind) pos (listRule l named count heap (suc pos) t (a + step) step es) (used-below l named heap (env count pos) t a img ss)
+    (list-below l named count heap (suc pos) t (a + step) step es)
 
-body-below : {ls : List Layout} → AllFree ls → (named : ℕ → ℕ → Bool) (count : ℕ → ℕ) (heap : Region) (t : List ℕ) (c : ℕ) (b : Body ls) → Below14 (bodyRule named count heap t c b .number)
+body-below : {ls : List Layout} (named : ℕ → ℕ → Bool) (count : ℕ → ℕ) (heap : Region) (t : List ℕ) (c : ℕ) (b : Body ls) → Below14 (bodyRule named count heap t c b .number)
 unfolding bodyRule
-body-below f named count heap t c stop = below-is 0 tt
-body-below f named count heap t c (more {l = l} es rest) =
-    both-below (listRule l named count heap 1 t (num t c 4) (num t (c + 4) 2) es) (bodyRule named count heap t (c + 8) rest) (list-below l (f .0) named count heap 1 t (num t c 4) (num t (c + 4) 2) es)
-    (body-below (f .1) named count heap t (c + 8) rest)
+body-below named count heap t c stop = below-is 0 tt
+body-below named count heap t c (more {l = l} es rest) =
+    both-below (listRule l named count heap 1 t (num t c 4) (num t (c + 4) 2) es) (bodyRule named count heap t (c + 8) rest) (list-below l named count heap 1 t (num t c 4) (num t (c + 4) 2) es)
+    (body-below named count heap t (c + 8) rest)
 
 host-below : (t : List ℕ) (named : ℕ → ℕ → Bool) (count : ℕ → ℕ) (e : Entry host) → Below14 (hostRule t named count e .number)
 unfolding hostRule
 host-below t named count unused = below-is 10 tt
 host-below t named count (used img ss) =
-    answer-below (usedRule host named (heapIn t) (env count 0) t (num t 72 4) img ss) 2 0 done (used-below host host-free named (heapIn t) (env count 0) t (num t 72 4) img ss) (below-is 0 tt)
+    answer-below (usedRule host named (heapIn t) (env count 0) t (num t 72 4) img ss) 2 0 done (used-below host named (heapIn t) (env count 0) t (num t 72 4) img ss) (below-is 0 tt)
 
 driver-below : (t : List ℕ) (count : ℕ → ℕ) → Below14 (driverRule t count .number)
 unfolding driverRule
 driver-below t count =
-    answer-below (refsRule (heapIn t) (env count 0) t 0 [] (header .refs)) 0 0 done (refs-below (heapIn t) (env count 0) t 0 [] (header .refs) header-free) (below-is 0 tt)
+    answer-below (refsRule (heapIn t) (env count 0) t 0 [] (header .refs)) 0 0 done (refs-below (heapIn t) (env count 0) t 0 [] (header .refs)) (below-is 0 tt)
 
 -- every test gives a number below 14
 abbrev allBelow : List Test → Bool
@@ -390,7 +363,7 @@ check-below t =
     let count : ℕ → ℕ = countIn (m .lists) in
     both-below (firstFail (tests t)) _ (tests-below (tests t) tt)
     (both-below (driverRule t count) _ (driver-below t count)
-    (both-below (hostRule t named count (m .owner)) _ (host-below t named count (m .owner)) (body-below lists-free named count (heapIn t) t 80 (m .lists)))) .below
+    (both-below (hostRule t named count (m .owner)) _ (host-below t named count (m .owner)) (body-below named count (heapIn t) t 80 (m .lists)))) .below
 
 -- ---- finish: 15, 14, else what the reader says (y) of the finished bytes
 

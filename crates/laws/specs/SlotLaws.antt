@@ -9,7 +9,7 @@ use lib.Seq.{getD-drop}
 use lib.Dec.{T, leb, ltb, leb→le, ltb→lt}
 use mir.Facts.{and-yes}
 use Rattle.table.specs.declared.Need.{Need}
-use Rattle.table.specs.Layout.{Env, Keep, Refs, Shape, Slots, bytes, gone, image, low, nest, nil, none, plain, rec}
+use Rattle.table.specs.Layout.{Content, Env, Keep, Refs, Shape, Slots, bytes, gone, image, low, nest, nil, none, plain, rec}
 use Rattle.table.specs.Objects.{heapOf, patched, ref6, refFor, sizeOf, stores}
 use Rattle.laws.specs.Lawful.{Fit, allKeep, okKeep, okRefs, topOf}
 use Rattle.laws.specs.ByteLaws.{Holds, holds-getD}
@@ -48,8 +48,8 @@ nest-own q p ks need shape own rest t =
     let b = and-yes (ltb (length (shape .keep)) 65536) _ (w .1) in
     record { keeps = a .0; refs = a .1; short = ltb→lt (length (shape .keep)) 65536 (b .0); some = ltb→lt 0 (length (shape .keep)) (b .1) }
 
-pub plain-next : (q p : ℕ) (ks : List Keep) (need : List ℕ → Need) (rule : Env → List ℕ → ℕ) (rest : Refs) → T (okRefs q ks (plain p need rule rest)) → T (okRefs (p + 6) ks rest)
-plain-next q p ks need rule rest t = and-yes (leb q p && dead ks p 6) _ t .1
+pub plain-next : (q p : ℕ) (ks : List Keep) (need : List ℕ → Need) (content : Content) (rest : Refs) → T (okRefs q ks (plain p need content rest)) → T (okRefs (p + 6) ks rest)
+plain-next q p ks need content rest t = and-yes (leb q p && dead ks p 6) _ t .1
 
 pub nest-next : (q p : ℕ) (ks : List Keep) (need : List ℕ → Need) (shape : Shape) (own rest : Refs)
     → T (okRefs q ks (nest p need shape own rest)) → T (okRefs (p + 6) ks rest)
@@ -98,8 +98,8 @@ length-fixed ks img e = ap length (sym e) ∙ length-image ks img
 pub length-heap : {rs : Refs} (ks : List Keep) (q h : ℕ) (e : Env) (img : List ℕ) (ss : Slots rs) → T (okRefs q ks rs) → Fit e img ss → length (heapOf h ss) ≡ sizeOf ss
 unfolding heapOf sizeOf
 length-heap ks q h e img nil t f = refl
-length-heap ks q h e img (bytes {p = p} {need = need} {rule = rule} {rest = rest} b ss) t f =
-    length-append b (heapOf (h + length b) ss) ∙ ap (λ (n : ℕ). length b + n) (length-heap ks (p + 6) (h + length b) e img ss (plain-next q p ks need rule rest t) (f .1))
+length-heap ks q h e img (bytes {p = p} {need = need} {content = content} {rest = rest} b ss) t f =
+    length-append b (heapOf (h + length b) ss) ∙ ap (λ (n : ℕ). length b + n) (length-heap ks (p + 6) (h + length b) e img ss (plain-next q p ks need content rest t) (f .1))
 length-heap ks q h e img (gone {p = p} {need = need} {shape = shape} {own = own} {rest = rest} ss) t f =
     length-heap ks (p + 6) h e img ss (nest-next q p ks need shape own rest t) (f .1)
 length-heap ks q h e img (rec {p = p} {need = need} {shape = shape} {own = own} {rest = rest} img′ own′ ss) t f =
@@ -113,7 +113,7 @@ length-heap ks q h e img (rec {p = p} {need = need} {shape = shape} {own = own} 
 -- the first reference lies inside
 pub ok-inside : (q p : ℕ) (ks : List Keep) (rest : Refs) → T (okRefs (p + 6) ks rest) → p + 6 ≤ length ks
 ok-inside q p ks none t = leb→le (p + 6) (length ks) t
-ok-inside q p ks (plain p′ need rule rest) t =
+ok-inside q p ks (plain p′ need content rest) t =
     let u = and-yes (leb (p + 6) p′ && dead ks p′ 6) (okRefs (p′ + 6) ks rest) t in
     let l : p + 6 ≤ p′ = leb→le (p + 6) p′ (and-yes (leb (p + 6) p′) (dead ks p′ 6) (u .0) .0) in
     omega (arith, ok-inside q p′ ks rest (u .1))

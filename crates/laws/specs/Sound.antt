@@ -14,7 +14,7 @@ use Rattle.table.specs.declared.Region.{Region}
 use Rattle.table.specs.declared.Need.{Need}
 use Rattle.table.specs.declared.Need.the-variants.{Ignored, Optional, Required}
 use Rattle.table.specs.Bytes.{num, odd, part, pick, val}
-use Rattle.table.specs.Layout.{Entry, Env, Keep, Layout, Refs, Shape, Slots, env, gone, image, isRight, nest, none, plain, rec, unused, used}
+use Rattle.table.specs.Layout.{Content, Entry, Env, Keep, Layout, Refs, Shape, Slots, env, gone, image, isRight, nest, none, plain, rec, unused, used}
 use Rattle.table.specs.Objects.{readBody, readEntry, readList, readSlots, under}
 use Rattle.table.specs.Rules.{answer, bodyRule, done, entryRule, first, firstOf, isSound, listRule, reaches, refRule, refsRule, ruled, usedRule}
 use Rattle.table.specs.Builder.{fitsNeed, mayHave}
@@ -85,11 +85,11 @@ module _ (t : List ℕ) (b : (i : ℕ) → getD t i 0 < 256) where
   nonempty Required (y ∷ ys) k h = tt
 
   -- what passes as a plain reference fits
-  plain-fits : (heap : Region) (n : Need) (rule : Env → List ℕ → ℕ) (v : Env) (off len : ℕ) → Bounded heap → len < 65536
-      → refRule heap n off len ≡ 0 → under n 0 (ruled rule v (part t off len)) ≡ 0 → FitBytes n rule v (under n [] (part t off len))
-  plain-fits heap Ignored rule v off len k l e f = record { need = tt; lawful = tt; short = lit< tt }
-  plain-fits heap Optional rule v off len k l e f = record { need = tt; lawful = rw f tt; short = short-part off len l }
-  plain-fits heap Required rule v off len k l e f =
+  plain-fits : (heap : Region) (n : Need) (content : Content) (v : Env) (off len : ℕ) → Bounded heap → len < 65536
+      → refRule heap n off len ≡ 0 → under n 0 (ruled content v (part t off len)) ≡ 0 → FitBytes n content v (under n [] (part t off len))
+  plain-fits heap Ignored content v off len k l e f = record { need = tt; lawful = tt; short = lit< tt }
+  plain-fits heap Optional content v off len k l e f = record { need = tt; lawful = rw f tt; short = short-part off len l }
+  plain-fits heap Required content v off len k l e f =
       let u = part-there heap off len k (pick-of (reaches heap off len) 11 (lit< tt) e) in
       record { need = nonempty Required (part t off len) (omega arith) tt; lawful = rw f tt; short = short-part off len l }
 
@@ -119,11 +119,11 @@ module _ (t : List ℕ) (b : (i : ℕ) → getD t i 0 < 256) where
       → refsRule heap v t a img rs ≡ 0 → Fit v img (readSlots t a img rs)
   unfolding refsRule readSlots
   refs-fit heap k ks q a v img none o e = tt
-  refs-fit heap k ks q a v img (plain p need rule rest) o e =
+  refs-fit heap k ks q a v img (plain p need content rest) o e =
       let u = first-of _ _ e in
       let w = first-of _ _ (u .0) in (
-        plain-fits heap (need img) rule v (num t (a + p) 4) (num t (a + p + 4) 2) k (num-bound (a + p + 4) 2) (w .0) (w .1),
-        refs-fit heap k ks (p + 6) a v img rest (plain-next q p ks need rule rest o) (u .1),
+        plain-fits heap (need img) content v (num t (a + p) 4) (num t (a + p + 4) 2) k (num-bound (a + p + 4) 2) (w .0) (w .1),
+        refs-fit heap k ks (p + 6) a v img rest (plain-next q p ks need content rest o) (u .1),
       )
   refs-fit heap k ks q a v img (nest p need shape own rest) o e =
       let u = first-of _ _ e in

@@ -58,8 +58,8 @@ rec-back Required false y x t u = refl
 pub read-at : {rs : Refs} (t : List ℕ) (heap : Region) (a : ℕ) (v : Env) (img : List ℕ) (ss : Slots rs) → Fit v img ss → At t heap a img ss → readSlots t a img rs ≡ ss
 unfolding readSlots
 read-at t heap a v img nil f s = refl
-read-at t heap a v img (bytes {p = p} {need = need} {rule = rule} {rest = rest} b ss) f s =
-    ap₂ (λ (x : List ℕ) (y : Slots rest). bytes {p = p} {need = need} {rule = rule} x y)
+read-at t heap a v img (bytes {p = p} {need = need} {content = content} {rest = rest} b ss) f s =
+    ap₂ (λ (x : List ℕ) (y : Slots rest). bytes {p = p} {need = need} {content = content} x y)
     (slot-back (need img) b _ (f .0 .need) (plain-read t heap (a + p) b) (s .0))
     (read-at t heap a v img ss (f .1) (s .1))
 read-at t heap a v img (gone {p = p} {need = need} {shape = shape} {own = own} {rest = rest} ss) f s =
@@ -149,10 +149,10 @@ rule-back Required x f s = f s
 pub pass-at : {rs : Refs} (t : List ℕ) (heap : Region) (a : ℕ) (v : Env) (img : List ℕ) (ss : Slots rs) → Fit v img ss → At t heap a img ss → refsRule heap v t a img rs ≡ 0
 unfolding refsRule
 pass-at t heap a v img nil f s = refl
-pass-at t heap a v img (bytes {p = p} {need = need} {rule = rule} b ss) f s =
+pass-at t heap a v img (bytes {p = p} {need = need} {content = content} b ss) f s =
     first-zero _ _
     (first-zero _ _ (ref-plain t heap (need img) (a + p) b (f .0 .need) (s .0))
-    (rule-back (need img) _ (λ g. ap (ruled rule v) (plain-read t heap (a + p) b g) ∙ eqb→eq (ruled rule v b) 0 (f .0 .lawful)) (s .0)))
+    (rule-back (need img) _ (λ g. ap (ruled content v) (plain-read t heap (a + p) b g) ∙ eqb→eq (ruled content v b) 0 (f .0 .lawful)) (s .0)))
     (pass-at t heap a v img ss (f .1) (s .1))
 pass-at t heap a v img (gone {p = p} {need = need} ss) f s =
     first-zero _ _

@@ -255,7 +255,7 @@ noPairs (p ∷ ps) = false
 -- what a heap record is told has two bytes or one for its owner's position, and no two-bit fields
 abbrev pub okTold : ℕ → Refs → Bool
 okTold n none = true
-okTold n (plain p need rule rest) = okTold n rest
+okTold n (plain p need content rest) = okTold n rest
 okTold n (nest p need shape own rest) = (okMarks shape n && (leb 1 (shape .index .len) && noPairs (shape .pairs))) && (okTold n own && okTold n rest)
 
 -- the told bytes of a heap record are as many as its kind has
@@ -299,7 +299,7 @@ pub told-fit : {rs : Refs} (e : Env) → e .position < 256 → (img : List ℕ) 
     → slotsRule e img (toldSlots (e .position) img ss) ≡ 0 → Fit e img (toldSlots (e .position) img ss)
 unfolding slotsRule toldSlots
 told-fit e k img nil t z r = tt
-told-fit e k img (bytes {need = need} {rule = rule} b ss) t z r =
+told-fit e k img (bytes {need = need} {content = content} b ss) t z r =
     let u = first-of _ _ r in
     let v = first-of _ _ (u .0) in
     let b′ : List ℕ = under (need img) [] b in

@@ -18,7 +18,6 @@ use Rattle.table.specs.Objects.{under, sizeOf, heapOf, patched, stores, refFor}
 use Rattle.table.specs.Rules.{firstFail}
 use Rattle.table.specs.Builder.{Outcome, waits, toldImage, toldSlots}
 use Rattle.laws.specs.Fields.{imageIn, length-imageIn}
-use Rattle.laws.specs.Refusals.{lists-free}
 use Rattle.writer.specs.Stores.{storesFrom, refNum}
 use Rattle.writer.proofs.StoreLaws.{concat}
 use Rattle.writer.proofs.RecordLaws.{Told, many, ref-for}
@@ -57,7 +56,7 @@ module _ (s : State) (buf x b i c name : List ℕ) (a : Answer) (eb : b ≡ mark
 
   pub hfi-refused : (a .number ≡ 0 → ⊥) → (record { answer = a; state = s } ≡ tellHfi s buf x i name .step) × (buf ≡ tellHfi s buf x i name .buffer)
   unfolding tellHfi layoutOf
-  hfi-refused z = fill-refused hfi s buf x b (hfiTold i name) (Fine Optional name) a eb ea (lists-free .0) hfi-fine z
+  hfi-refused z = fill-refused hfi s buf x b (hfiTold i name) (Fine Optional name) a eb ea hfi-fine z
 
   length₇ : length (imageIn info c 0) ≡ 128
   unfolding info
@@ -75,7 +74,7 @@ module _ (s : State) (buf x b i c name : List ℕ) (a : Answer) (eb : b ≡ mark
   hfi-done z ps ns ws m v ev e k en ew =
       let w : v ≡ splice img₇ 104 (refFor (s .used + 128) name) =
       held-piece (imageIn info c 0) name 104 (s .used + 128) 128 v ev (sym length₇) (omega (arith, length₇)) ∙ ap (λ (y : List ℕ). splice y 104 (refFor (s .used + 128) name)) told₇ in
-      fill-done hfi s buf x b (hfiTold i name) (Fine Optional name) a eb ea (lists-free .0) hfi-fine z ps ns ws m (128 + length name) (v ++ (name ++ []))
+      fill-done hfi s buf x b (hfiTold i name) (Fine Optional name) a eb ea hfi-fine z ps ns ws m (128 + length name) (v ++ (name ++ []))
       (offset-at ps (16 ∷ []) m 0 e (omega arith), length-at ns _ 0 en, lit< tt, length-at ws _ 0 ew ∙ omega arith, tt) (sym k) (omega arith)
       (ap (λ (y : List ℕ). y ++ (name ++ [])) w ∙ sym (append-nil (splice img₇ 104 (refFor (s .used + 128) name) ++ (name ++ []))))
 
@@ -202,7 +201,7 @@ module _ (s : State) (buf x b address service others nqn e c path : List ℕ) (a
     pub ssns-refused : (a .number ≡ 0 → ⊥)
         → (record { answer = a; state = s } ≡ tellSsns s buf x address service others nqn e path .step) × (buf ≡ tellSsns s buf x address service others nqn e path .buffer)
     unfolding tellSsns layoutOf
-    ssns-refused z = fill-refused ssns s buf x b (ssnsTold address service others nqn e path) (fine₄ (imageIn ssns b 0)) a eb ea (lists-free .1 .0) ssns-fine z
+    ssns-refused z = fill-refused ssns s buf x b (ssnsTold address service others nqn e path) (fine₄ (imageIn ssns b 0)) a eb ea ssns-fine z
 
     pub ssns-passed : a .number ≡ 0 → (waits s (layoutOf 4 .kind) ≡ true) × (length address ≤ 65535) × (length service ≤ 65535) × (length others ≤ 65535) × (length nqn ≤ 65535)
         × (length (under (ownNeed (imageIn ssns b 0)) [] path) ≤ 65535)
@@ -227,7 +226,7 @@ module _ (s : State) (buf x b address service others nqn e c path : List ℕ) (a
         let laid : (img own : List ℕ) → Outcome =
         λ img own.
         told ssns s buf (sizeOf (ssnsSlots img address service others nqn own path)) (patched (s .used) img (ssnsSlots img address service others nqn own path)) (heapOf (s .used) (ssnsSlots img address service others nqn own path)) in
-        ap₂ laid told₄ told₉ ∙ sym (fill-passed ssns s buf x b (ssnsTold address service others nqn e path) (fine₄ (imageIn ssns b 0)) a eb ea (lists-free .1 .0) ssns-fine z)
+        ap₂ laid told₄ told₉ ∙ sym (fill-passed ssns s buf x b (ssnsTold address service others nqn e path) (fine₄ (imageIn ssns b 0)) a eb ea ssns-fine z)
 
 pub not-own : (img : List ℕ) (f : ℕ) → f ≡ num img 3 2 → f / 16 % 2 ≡ 0 → Ignored ≡ ownNeed img
 unfolding ownNeed

@@ -19,7 +19,6 @@ use Rattle.table.specs.Rules.{answer, firstFail}
 use Rattle.table.specs.Builder.{begin, begun, endOf, recordsEnd, countOf, empty, isShort, opened, allUnused, roomTests, sameState, slotsRule}
 use Rattle.laws.specs.Blank.{AllBlank, lengthsOf, fit-unused, blank-recs, blank-heap, blank-size}
 use Rattle.laws.specs.Turns.{end-is}
-use Rattle.laws.specs.Refusals.{header-free}
 use Rattle.front.specs.declared.Counts.{Counts}
 use Rattle.front.specs.Front.{headerFor, controlFor}
 use Rattle.writer.proofs.StoreLaws.{concat}
@@ -99,7 +98,7 @@ module _ (oem : List ℕ) (c : Counts) (small : SmallCounts c) (signature : List
 
 number-is : (e : Env) (signature : List ℕ) → slotsRule e [] (headerTold signature) ≡ pick (isShort signature) 0 11
 unfolding headerTold header
-number-is e signature = slots-fine e [] (headerTold signature) header-free ∙ ap (λ (c : Bool). pick c 0 11) (and-true (isShort signature))
+number-is e signature = slots-fine e [] (headerTold signature) ∙ ap (λ (c : Bool). pick c 0 11) (and-true (isShort signature))
 
 module _ (s : State) (b oem cs signature : List ℕ) where
   pub begin-again : sameState s empty ≡ false → (record { answer = answer 15 0 0; state = s } ≡ beginWith s b oem cs signature .step) × (b ≡ beginWith s b oem cs signature .buffer)

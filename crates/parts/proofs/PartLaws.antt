@@ -77,7 +77,7 @@ module _ (t : List ℕ) (ok : Accepted t) (k a : ℕ) (s : Seated t (layoutOf k)
   -- the references of rs are among those of kind k
   abbrev Fits : Refs → Type 0
   Fits none = 0 ≤ k
-  Fits (plain p need rule rest) = (hasPlain p (layoutOf k .refs) ≡ true) × (needAt p (layoutOf k .refs) here ≡ need here) × Fits rest
+  Fits (plain p need content rest) = (hasPlain p (layoutOf k .refs) ≡ true) × (needAt p (layoutOf k .refs) here ≡ need here) × Fits rest
   Fits (nest p need shape own rest) =
       (hasPlain p (layoutOf k .refs) ≡ false) × ((x : Slots rest) → Laid t (innerKind k) (heapRecord t k a) p need shape own rest x (nestOf p need shape own rest x)) × Fits rest
 
@@ -116,7 +116,7 @@ module _ (t : List ℕ) (ok : Accepted t) (k a : ℕ) (s : Seated t (layoutOf k)
   slots-sized : (rs : Refs) → Fits rs → sizeOf (readSlots t a here rs) ≡ spansOver t k a (offsets rs)
   unfolding sizeOf readSlots spansOver
   slots-sized none g = refl
-  slots-sized (plain p need rule rest) g =
+  slots-sized (plain p need content rest) g =
       ap₂ _+_ (ap length (object-at p (need here) (g .0) (g .1)) ∙ named-long p ∙ sym (ap (λ (q : Part). q .span) (plain-part p (g .0)))) (slots-sized rest (g .2))
   slots-sized (nest p need shape own rest) g =
       g .1 (readSlots t a here rest) .sized ∙ ap₂ _+_ (sym (ap (λ (q : Part). q .span) (nest-part p (g .0)))) (slots-sized rest (g .2))
@@ -124,7 +124,7 @@ module _ (t : List ℕ) (ok : Accepted t) (k a : ℕ) (s : Seated t (layoutOf k)
   slots-stored : (rs : Refs) → Fits rs → (h : ℕ) → stores h (readSlots t a here rs) ≡ storesOver t k a h (offsets rs)
   unfolding stores readSlots storesOver
   slots-stored none g h = refl
-  slots-stored (plain p need rule rest) g h =
+  slots-stored (plain p need content rest) g h =
       let b : List ℕ = under (need here) [] (part t (num t (a + p) 4) (num t (a + p + 4) 2)) in
       let e : length b ≡ placeAt t p (seat (layoutOf k) a true) .len = ap length (object-at p (need here) (g .0) (g .1)) ∙ named-long p in
       ap₂ (λ (r : List ℕ) (es : List Edit). edit p r ∷ es) (sym (ref-for h b)) (slots-stored rest (g .2) (h + length b))
@@ -138,7 +138,7 @@ module _ (t : List ℕ) (ok : Accepted t) (k a : ℕ) (s : Seated t (layoutOf k)
   slots-heaped : (rs : Refs) → Fits rs → (h : ℕ) → heapOf h (readSlots t a here rs) ≡ objectsOver t k a h (offsets rs)
   unfolding heapOf readSlots objectsOver
   slots-heaped none g h = refl
-  slots-heaped (plain p need rule rest) g h =
+  slots-heaped (plain p need content rest) g h =
       let b : List ℕ = under (need here) [] (part t (num t (a + p) 4) (num t (a + p + 4) 2)) in
       let o : b ≡ named p = object-at p (need here) (g .0) (g .1) in
       ap₂ (λ (r u : List ℕ). r ++ u) (o ∙ sym (plain-bytes h p (g .0))) (slots-heaped rest (g .2) (h + length b))

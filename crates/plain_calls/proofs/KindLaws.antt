@@ -18,7 +18,6 @@ use Rattle.table.specs.Reads.{needAt}
 use Rattle.table.specs.Rules.{firstFail}
 use Rattle.table.specs.Builder.{waits, toldImage, toldSlots}
 use Rattle.laws.specs.Fields.{imageIn}
-use Rattle.laws.specs.Refusals.{host-free, lists-free}
 use Rattle.writer.specs.Stores.{storesFrom, Room}
 use Rattle.writer.proofs.StoreLaws.{concat}
 use Rattle.told.specs.Marks.{marked}
@@ -68,13 +67,13 @@ module _ (s : State) (buf x b nqn : List ℕ) (a : Answer) (eb : b ≡ marked (l
 
   pub host-refused : (a .number ≡ 0 → ⊥) → (record { answer = a; state = s } ≡ tellHost s buf x nqn .step) × (buf ≡ tellHost s buf x nqn .buffer)
   unfolding tellHost layoutOf
-  host-refused z = fill-refused host s buf x b (hostTold nqn) (Fine Required nqn) a eb ea host-free host-fine z
+  host-refused z = fill-refused host s buf x b (hostTold nqn) (Fine Required nqn) a eb ea host-fine z
 
   pub host-done : a .number ≡ 0 → (ps : List ℕ) (m : ℕ) → take m ps ≡ offsets (layoutOf 2 .refs) → m ≡ length (offsets (layoutOf 2 .refs))
       → laidPlain 2 s buf b ps m nqn [] [] [] [] [] ≡ tellHost s buf x nqn
   unfolding tellHost layoutOf host hostTold toldSlots sizeOf heapOf
   host-done z ps m e c =
-      fill-done host s buf x b (hostTold nqn) (Fine Required nqn) a eb ea host-free host-fine z ps _ _ m _ _
+      fill-done host s buf x b (hostTold nqn) (Fine Required nqn) a eb ea host-fine z ps _ _ m _ _
       (offset-at ps (18 ∷ []) m 0 e (omega arith), refl, refl, tt) (sym c) (six-long nqn [] [] [] [] [] ∙ omega arith) refl
 
 -- ---- a discovery record
@@ -88,14 +87,14 @@ module _ (s : State) (buf x b address nqn : List ℕ) (a : Answer) (eb : b ≡ m
 
   pub discovery-refused : (a .number ≡ 0 → ⊥) → (record { answer = a; state = s } ≡ tellDiscovery s buf x address nqn .step) × (buf ≡ tellDiscovery s buf x address nqn .buffer)
   unfolding tellDiscovery layoutOf
-  discovery-refused z = fill-refused discovery s buf x b (discoveryTold address nqn) (Fine Optional address && Fine Optional nqn) a eb ea (lists-free .1 .1 .1 .0) discovery-fine z
+  discovery-refused z = fill-refused discovery s buf x b (discoveryTold address nqn) (Fine Optional address && Fine Optional nqn) a eb ea discovery-fine z
 
   pub discovery-done : a .number ≡ 0 → (ps : List ℕ) (m : ℕ) → take m ps ≡ offsets (layoutOf 6 .refs) → m ≡ length (offsets (layoutOf 6 .refs))
       → laidPlain 6 s buf b ps m address nqn [] [] [] [] ≡ tellDiscovery s buf x address nqn
   unfolding tellDiscovery layoutOf discovery discoveryTold toldSlots sizeOf heapOf
   discovery-done z ps m e c =
       let at : (i : ℕ) → i < m → getD ps i 0 ≡ getD (6 ∷ 12 ∷ []) i 0 = λ i k. offset-at ps (6 ∷ 12 ∷ []) m i e k in
-      fill-done discovery s buf x b (discoveryTold address nqn) (Fine Optional address && Fine Optional nqn) a eb ea (lists-free .1 .1 .1 .0) discovery-fine z ps _ _ m _ _
+      fill-done discovery s buf x b (discoveryTold address nqn) (Fine Optional address && Fine Optional nqn) a eb ea discovery-fine z ps _ _ m _ _
       (at 0 (omega arith), refl, refl, (at 1 (omega arith), refl, refl, tt)) (sym c) (six-long address nqn [] [] [] [] ∙ omega arith) refl
 
 -- ---- a security record
@@ -120,7 +119,7 @@ module _ (s : State) (buf x b o₁ o₂ o₃ o₄ o₅ o₆ : List ℕ) (a : Ans
 
     pub security-refused : (a .number ≡ 0 → ⊥) → (record { answer = a; state = s } ≡ tellSecurity s buf x o₁ o₂ o₃ o₄ o₅ o₆ .step) × (buf ≡ tellSecurity s buf x o₁ o₂ o₃ o₄ o₅ o₆ .buffer)
     unfolding tellSecurity layoutOf
-    security-refused z = fill-refused security s buf x b (securityTold o₁ o₂ o₃ o₄ o₅ o₆) (securityFine (imageIn security b 0) o₁ o₂ o₃ o₄ o₅ o₆) a eb ea (lists-free .1 .1 .0) security-fine z
+    security-refused z = fill-refused security s buf x b (securityTold o₁ o₂ o₃ o₄ o₅ o₆) (securityFine (imageIn security b 0) o₁ o₂ o₃ o₄ o₅ o₆) a eb ea security-fine z
 
     pub security-passed : a .number ≡ 0 → (waits s (layoutOf 5 .kind) ≡ true) × (length (under (needFor b 6) [] o₁) ≤ 65535) × (length (under (needFor b 12) [] o₂) ≤ 65535) × (length (under (needFor b 18) [] o₃) ≤ 65535) × (length (under (needFor b 24) [] o₄) ≤ 65535) × (length (under (needFor b 30) [] o₅) ≤ 65535) × (length (under (needFor b 36) [] o₆) ≤ 65535)
     security-passed z =
@@ -143,5 +142,5 @@ module _ (s : State) (buf x b o₁ o₂ o₃ o₄ o₅ o₆ : List ℕ) (a : Ans
         let d₄ = g₄ ∙ kept 24 o₄ in
         let d₅ = g₅ ∙ kept 30 o₅ in
         let d₆ = g₆ ∙ kept 36 o₆ in
-        fill-done security s buf x b (securityTold o₁ o₂ o₃ o₄ o₅ o₆) (securityFine (imageIn security b 0) o₁ o₂ o₃ o₄ o₅ o₆) a eb ea (lists-free .1 .1 .0) security-fine z ps _ _ m _ _ (at 0 (omega arith), ap length d₁, ap length d₁, (at 1 (omega arith), ap length d₂, ap length d₂, (at 2 (omega arith), ap length d₃, ap length d₃, (at 3 (omega arith), ap length d₄, ap length d₄, (at 4 (omega arith), ap length d₅, ap length d₅, (at 5 (omega arith), ap length d₆, ap length d₆, tt))))))
+        fill-done security s buf x b (securityTold o₁ o₂ o₃ o₄ o₅ o₆) (securityFine (imageIn security b 0) o₁ o₂ o₃ o₄ o₅ o₆) a eb ea security-fine z ps _ _ m _ _ (at 0 (omega arith), ap length d₁, ap length d₁, (at 1 (omega arith), ap length d₂, ap length d₂, (at 2 (omega arith), ap length d₃, ap length d₃, (at 3 (omega arith), ap length d₄, ap length d₄, (at 4 (omega arith), ap length d₅, ap length d₅, (at 5 (omega arith), ap length d₆, ap length d₆, tt))))))
         (sym c) (six-long k₁ k₂ k₃ k₄ k₅ k₆ ∙ omega (arith, ap length d₁, ap length d₂, ap length d₃, ap length d₄, ap length d₅, ap length d₆)) (rw (d₁, d₂, d₃, d₄, d₅, d₆) refl)

@@ -125,15 +125,15 @@ module _ (t : List ℕ) (k n : ℕ) (l : Layout) (a : ℕ) (s : seatOf t k n ≡
   -- the references of rs are among those of l and count alike; its heap records read as they stand
   abbrev pub Among : Refs → Type 0
   Among none = 0 ≤ k
-  Among (plain p need rule rest) = (hasPlain p (l .refs) ≡ true) × (needAt p (l .refs) here ≡ need here) × Among rest
+  Among (plain p need content rest) = (hasPlain p (l .refs) ≡ true) × (needAt p (l .refs) here ≡ need here) × Among rest
   Among (nest p need shape own rest) =
       ((x : Slots rest) → _≡_ {A = Slots (nest p need shape own rest)} (toldNest (imageOf t (innerKind k) n) (toldSlots t (innerKind k) n own) x) (nestOf p need shape own rest x)) × Among rest
 
   pub slots-told : (rs : Refs) → Among rs → toldSlots t k n rs ≡ readSlots t a here rs
   unfolding toldSlots readSlots
   slots-told none g = refl
-  slots-told (plain p need rule rest) g =
-      ap₂ {A = List ℕ} {B = Slots rest} {C = Slots (plain p need rule rest)} (λ b ss. bytes b ss) (object-is t l a k n s p (need here) (g .0) (g .1)) (slots-told rest (g .2))
+  slots-told (plain p need content rest) g =
+      ap₂ {A = List ℕ} {B = Slots rest} {C = Slots (plain p need content rest)} (λ b ss. bytes b ss) (object-is t l a k n s p (need here) (g .0) (g .1)) (slots-told rest (g .2))
   slots-told (nest p need shape own rest) g =
       g .0 (toldSlots t k n rest) ∙ ap {A = Slots rest} {B = Slots (nest p need shape own rest)} (nestOf p need shape own rest) (slots-told rest (g .1))
 

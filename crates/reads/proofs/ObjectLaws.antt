@@ -35,12 +35,12 @@ use Rattle.reads.proofs.SeatLaws.{seats-good, heap-object, ref-inside}
 
 abbrev noPlain : Refs → Bool
 noPlain none = true
-noPlain (plain p need rule rest) = false
+noPlain (plain p need content rest) = false
 noPlain (nest p need shape own rest) = noPlain rest
 
 abbrev ordered : ℕ → Refs → Bool
 ordered n none = true
-ordered n (plain p need rule rest) = leb (p + 6) n && ordered n rest
+ordered n (plain p need content rest) = leb (p + 6) n && ordered n rest
 ordered n (nest p need shape own rest) = noPlain rest
 
 kinds-ordered : (k : ℕ) → T (ordered (baseOf (layoutOf k)) (layoutOf k .refs))
@@ -49,12 +49,12 @@ kinds-ordered = by-layout (λ l. T (ordered (baseOf l) (l .refs))) tt tt tt tt t
 
 none-plain : (q : ℕ) (rs : Refs) → T (noPlain rs) → hasPlain q rs ≡ true → ⊥
 none-plain q none t h = let z : false ≡ true = h in absurd (subst T (sym z) tt)
-none-plain q (plain p need rule rest) t h = absurd t
+none-plain q (plain p need content rest) t h = absurd t
 none-plain q (nest p need shape own rest) t h = none-plain q rest t h
 
 plain-in : (n q : ℕ) (rs : Refs) → T (ordered n rs) → hasPlain q rs ≡ true → q + 6 ≤ n
 plain-in n q none t h = absurd (none-plain q none tt h)
-plain-in n q (plain p need rule rest) t h =
+plain-in n q (plain p need content rest) t h =
     let u = and-yes (leb (p + 6) n) (ordered n rest) t in
     go (eqb q p) refl (leb→le (p + 6) n (u .0)) (λ g. plain-in n q rest (u .1) g) h
   where
@@ -97,9 +97,9 @@ plain-passes : (heap : Region) (e : Env) (t : List ℕ) (a : ℕ) (img : List �
     → refRule heap (needAt q rs img) (num t (a + q) 4) (num t (a + q + 4) 2) ≡ 0
 unfolding refsRule
 plain-passes heap e t a img n q none o z h = absurd (none-plain q none tt h)
-plain-passes heap e t a img n q (plain p need rule rest) o z h =
+plain-passes heap e t a img n q (plain p need content rest) o z h =
     let u = and-yes (leb (p + 6) n) (ordered n rest) o in
-    let v = first-of (plainRule heap (need img) rule e t (a + p)) (refsRule heap e t a img rest) z in
+    let v = first-of (plainRule heap (need img) content e t (a + p)) (refsRule heap e t a img rest) z in
     go (eqb q p) refl (first-of (refRule heap (need img) (num t (a + p) 4) (num t (a + p + 4) 2)) _ (v .0) .0) (λ g. plain-passes heap e t a img n q rest (u .1) (v .1) g) h
   where
     go : (c : Bool) → eqb q p ≡ c → refRule heap (need img) (num t (a + p) 4) (num t (a + p + 4) 2) ≡ 0

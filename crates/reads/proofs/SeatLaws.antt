@@ -12,7 +12,7 @@ use Rattle.table.specs.declared.Region.{Region}
 use Rattle.table.specs.declared.Need.{Need}
 use Rattle.table.specs.declared.Need.the-variants.{Ignored, Optional, Required}
 use Rattle.table.specs.Bytes.{pick, num}
-use Rattle.table.specs.Layout.{Layout, Shape, Env, Refs, plain, nest, baseOf, image}
+use Rattle.table.specs.Layout.{Content, Env, Layout, Refs, Shape, baseOf, image, nest, plain}
 use Rattle.table.specs.FixedLayouts.{layoutOf, header, control, host, hfi, ssns, security, discovery, info, extended, whenSet}
 use Rattle.table.specs.Objects.{under}
 use Rattle.table.specs.Rules.{firstOf, refRule, plainRule, nestRule, refsRule, isSound}
@@ -120,9 +120,9 @@ nest-passes t n shape e r inner z c some =
 
 -- the references of a record that pass, one by one
 module _ (heap : Region) (e : Env) (t : List ℕ) (a : ℕ) (img : List ℕ) (p : ℕ) (need : List ℕ → Need) (rest : Refs) where
-  plain-rest : (rule : Env → List ℕ → ℕ) → refsRule heap e t a img (plain p need rule rest) ≡ 0 → refsRule heap e t a img rest ≡ 0
+  plain-rest : (content : Content) → refsRule heap e t a img (plain p need content rest) ≡ 0 → refsRule heap e t a img rest ≡ 0
   unfolding refsRule
-  plain-rest rule z = first-of (plainRule heap (need img) rule e t (a + p)) (refsRule heap e t a img rest) z .1
+  plain-rest content z = first-of (plainRule heap (need img) content e t (a + p)) (refsRule heap e t a img rest) z .1
 
   nest-first : (shape : Shape) (own : Refs) → refsRule heap e t a img (nest p need shape own rest) ≡ 0
       → nestRule heap (need img) shape e t (a + p) (refsRule heap e t (num t (a + p) 4) (image (shape .keep) (drop (num t (a + p) 4) t)) own) ≡ 0

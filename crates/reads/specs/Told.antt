@@ -28,7 +28,7 @@ toldNest i own rest = pick (eqb (i .answer .number) 0) (rec (bytesOf i) own rest
 
 unfoldable pub toldSlots : List ℕ → ℕ → ℕ → (rs : Refs) → Slots rs
 toldSlots t k n none = nil
-toldSlots t k n (plain p need rule rest) = bytes (objectIn t k n p) (toldSlots t k n rest)
+toldSlots t k n (plain p need content rest) = bytes (objectIn t k n p) (toldSlots t k n rest)
 toldSlots t k n (nest p need shape own rest) = toldNest (imageOf t (innerKind k) n) (toldSlots t (innerKind k) n own) (toldSlots t k n rest)
 
 -- the record of kind k and position n, whose layout is l

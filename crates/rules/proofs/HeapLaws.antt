@@ -17,7 +17,6 @@ use Rattle.table.specs.Reads.{needAt}
 use Rattle.laws.specs.Fields.{imageIn, part-part}
 use Rattle.laws.specs.RefWalk.{ruleAt, plain-at, partRule, nest-ref}
 use Rattle.laws.specs.ListWalk.{envIn}
-use Rattle.laws.specs.Refusals.{any-free}
 use Rattle.references.specs.declared.Ref.the-variants.{Absent, Wrong, Part}
 use Rattle.references.specs.References.{refOf}
 use Rattle.rules.specs.Rules.{IsHeap, refFault}
@@ -154,15 +153,15 @@ pub ssns-plain : (heap : Region) (t : List ℕ) (a pos q : ℕ) → eqb q 60 ≡
 unfolding refFault layoutOf ssns
 ssns-plain heap t a pos q e =
     ap (λ (n : Need). refRule heap n (num t (a + q) 4) (num t (a + q + 4) 2)) (ssns-need (imageIn ssns t a) q)
-    ∙ sym (plain-at heap (envIn t pos) t a (imageIn ssns t a) (ssns .refs) q (unfold ssns extended in (any-free, (any-free, (any-free, (any-free, ((any-free, tt), tt)))))) (rw e tt))
+    ∙ sym (plain-at heap (envIn t pos) t a (imageIn ssns t a) (ssns .refs) q (rw e tt))
 
 pub security-plain : (heap : Region) (t : List ℕ) (a pos q : ℕ) → refRule heap (needAt q (security .refs) (imageIn security t a)) (num t (a + q) 4) (num t (a + q + 4) 2) ≡ refFault 5 heap t a pos q
 unfolding refFault layoutOf security
-security-plain heap t a pos q = sym (plain-at heap (envIn t pos) t a (imageIn security t a) (security .refs) q (any-free, (any-free, (any-free, (any-free, (any-free, (any-free, tt)))))) tt)
+security-plain heap t a pos q = sym (plain-at heap (envIn t pos) t a (imageIn security t a) (security .refs) q tt)
 
 header-plain : (heap : Region) (t : List ℕ) (a pos q : ℕ) → refRule heap (plainNeed 0 q) (num t (a + q) 4) (num t (a + q + 4) 2) ≡ refFault 0 heap t a pos q
 unfolding refFault layoutOf plainNeed header
-header-plain heap t a pos q = sym (plain-at heap (envIn t pos) t a (imageIn header t a) (header .refs) q (any-free, tt) tt)
+header-plain heap t a pos q = sym (plain-at heap (envIn t pos) t a (imageIn header t a) (header .refs) q tt)
 
 control-plain : (heap : Region) (t : List ℕ) (a pos q : ℕ) → refRule heap (plainNeed 1 q) (num t (a + q) 4) (num t (a + q + 4) 2) ≡ refFault 1 heap t a pos q
 unfolding refFault layoutOf plainNeed control ruleAt
@@ -170,11 +169,11 @@ control-plain heap t a pos q = refl
 
 host-plain : (heap : Region) (t : List ℕ) (a pos q : ℕ) → refRule heap (plainNeed 2 q) (num t (a + q) 4) (num t (a + q + 4) 2) ≡ refFault 2 heap t a pos q
 unfolding refFault layoutOf plainNeed host
-host-plain heap t a pos q = sym (plain-at heap (envIn t pos) t a (imageIn host t a) (host .refs) q (any-free, tt) tt)
+host-plain heap t a pos q = sym (plain-at heap (envIn t pos) t a (imageIn host t a) (host .refs) q tt)
 
 discovery-plain : (heap : Region) (t : List ℕ) (a pos q : ℕ) → refRule heap (plainNeed 6 q) (num t (a + q) 4) (num t (a + q + 4) 2) ≡ refFault 6 heap t a pos q
 unfolding refFault layoutOf plainNeed discovery
-discovery-plain heap t a pos q = sym (plain-at heap (envIn t pos) t a (imageIn discovery t a) (discovery .refs) q (any-free, (any-free, tt)) tt)
+discovery-plain heap t a pos q = sym (plain-at heap (envIn t pos) t a (imageIn discovery t a) (discovery .refs) q tt)
 
 -- the kinds that are left
 pub plain-left : (heap : Region) (t : List ℕ) (a pos q k : ℕ) → k ≤ 6 → (k ≡ 3 → ⊥) → (k ≡ 4 → ⊥) → (k ≡ 5 → ⊥)

@@ -50,12 +50,12 @@ module _ (t : List ℕ) (l : Layout) (a p : ℕ) (h : hasPlain p (l .refs) ≡ t
 -- references to objects that are never ignored
 abbrev Heeded : Refs → Type 0
 Heeded none = 0 ≤ 0
-Heeded (plain p need rule rest) = ((img : List ℕ) (x y : ℕ) → under (need img) x y ≡ y) × Heeded rest
+Heeded (plain p need content rest) = ((img : List ℕ) (x y : ℕ) → under (need img) x y ≡ y) × Heeded rest
 Heeded (nest p need shape own rest) = (hasPlain p rest ≡ false) × Heeded rest
 
 heeded-counts : (rs : Refs) → Heeded rs → (q : ℕ) (img : List ℕ) (x y : ℕ) → hasPlain q rs ≡ true → under (needAt q rs img) x y ≡ y
 heeded-counts none g q img x y h = absurd (true≢false (sym h))
-heeded-counts (plain p need rule rest) g q img x y h = go (eqb q p) h (heeded-counts rest (g .1) q img x y) where
+heeded-counts (plain p need content rest) g q img x y h = go (eqb q p) h (heeded-counts rest (g .1) q img x y) where
   go : (c : Bool) → pick c true (hasPlain q rest) ≡ true → (hasPlain q rest ≡ true → under (needAt q rest img) x y ≡ y) → under (pick c (need img) (needAt q rest img)) x y ≡ y
   go true e f = g .0 img x y
   go false e f = f e

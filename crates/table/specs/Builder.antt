@@ -164,8 +164,8 @@ isShort b = leb (length b) 65535
 -- the told objects by field in the reader's order: 0, 11 or an object's further number
 unfoldable pub slotsRule : {rs : Refs} → Env → List ℕ → Slots rs → ℕ
 slotsRule e img nil = 0
-slotsRule e img (bytes {need = need} {rule = rule} b ss) =
-    firstOf (firstOf (pick (fitsNeed (need img) b && isShort b) 0 11) (ruled rule e b)) (slotsRule e img ss)
+slotsRule e img (bytes {need = need} {content = content} b ss) =
+    firstOf (firstOf (pick (fitsNeed (need img) b && isShort b) 0 11) (ruled content e b)) (slotsRule e img ss)
 slotsRule e img (gone {need = need} ss) = firstOf (pick (mayLack (need img)) 0 11) (slotsRule e img ss)
 slotsRule e img (rec {need = need} img′ own ss) = firstOf (firstOf (pick (mayHave (need img)) 0 11) (slotsRule e img′ own)) (slotsRule e img ss)
 

@@ -7,11 +7,7 @@ use lib.Dec.{eqb}
 use Rattle.table.specs.declared.Need.{Need}
 use Rattle.table.specs.declared.Need.the-variants.{Ignored, Optional, Required}
 use Rattle.table.specs.Bytes.{pick, bits, every, edit}
-use Rattle.table.specs.Layout.{region, field, flags, onlyIf, blank, shaped, Env, Refs, none, plain, nest, Slots, slotAt, Layout}
-
--- the one place for a further rule of a present object's bytes: there is none
-abbrev pub anyBytes : Env → List ℕ → ℕ
-anyBytes e b = 0
+use Rattle.table.specs.Layout.{region, field, flags, onlyIf, blank, shaped, anything, Refs, none, plain, nest, Slots, slotAt, Layout}
 
 -- ---- when a reference counts
 
@@ -39,7 +35,7 @@ unfoldable pub header : Layout
 header = record {
   kind = 0;
   shape = shaped (blank 10 ∷ field 6 ∷ field 8 ∷ field 4 ∷ field 4 ∷ field 4 ∷ blank 28 ∷ []) [] (region 0 0) (region 0 0) [];
-  refs = plain 44 optional anyBytes none;
+  refs = plain 44 optional anything none;
   names = noNames;
 }
 
@@ -56,7 +52,7 @@ unfoldable pub host : Layout
 host = record {
   kind = 2;
   shape = shaped (field 1 ∷ flags 1 5 ∷ field 16 ∷ blank 14 ∷ []) (edit 0 (2 ∷ []) ∷ []) (region 0 0) (region 1 1) (3 ∷ []);
-  refs = plain 18 required anyBytes none;
+  refs = plain 18 required anything none;
   names = noNames;
 }
 
@@ -70,7 +66,7 @@ info = record {
       (field 1 ∷ field 1 ∷ field 1 ∷ field 1 ∷ field 2 ∷ flags 1 3 ∷ field 4 ∷ field 6 ∷ field 2 ∷ field 1 ∷ field 16 ∷ field 1 ∷ field 16 ∷ blank 1 ∷ field 2
       ∷ field 16 ∷ field 16 ∷ onlyIf 16 6 2 ∷ blank 24 ∷ [])
       (edit 0 (7 ∷ 1 ∷ 3 ∷ 1 ∷ []) ∷ []) (region 4 2) (region 6 1) [];
-  refs = plain 104 optional anyBytes none;
+  refs = plain 104 optional anything none;
   names = noNames;
 }
 
@@ -78,7 +74,7 @@ unfoldable pub extended : Layout
 extended = record {
   kind = 9;
   shape = shaped (field 1 ∷ field 1 ∷ field 2 ∷ flags 4 2 ∷ field 2 ∷ field 2 ∷ blank 6 ∷ []) (edit 0 (9 ∷ 1 ∷ []) ∷ []) (region 2 2) (region 4 4) [];
-  refs = plain 12 optional anyBytes none;
+  refs = plain 12 optional anything none;
   names = noNames;
 }
 
@@ -101,10 +97,10 @@ ssns = record {
       ∷ [])
       (edit 0 (4 ∷ []) ∷ edit 5 (3 ∷ []) ∷ []) (region 1 2) (region 3 2) (7 ∷ []);
   refs =
-      plain 10 required anyBytes
-      (plain 16 required anyBytes
-      (plain 48 optional anyBytes
-      (plain 54 required anyBytes (nest 60 (whenSet 3 2 4 4) (extended .shape) (extended .refs) none))));
+      plain 10 required anything
+      (plain 16 required anything
+      (plain 48 optional anything
+      (plain 54 required anything (nest 60 (whenSet 3 2 4 4) (extended .shape) (extended .refs) none))));
   names = λ used img ss.
       zeroOr (used 6) (getD img 8 0)
       && ((eqb (bits 3 2 2 2 img) 0 || used 5 (getD img 45 0))
@@ -116,12 +112,12 @@ security = record {
   kind = 5;
   shape = shaped (field 1 ∷ field 1 ∷ flags 2 12 ∷ flags 1 1 ∷ blank 59 ∷ []) (edit 0 (5 ∷ []) ∷ []) (region 1 1) (region 2 2) (1 ∷ 3 ∷ 5 ∷ 7 ∷ []);
   refs =
-      plain 6 (whenSet 2 2 8 7) anyBytes
-      (plain 12 (whenSet 2 2 4 3) anyBytes
-      (plain 18 (whenSet 2 2 9 9) anyBytes
-      (plain 24 (whenSet 2 2 10 10) anyBytes
-      (plain 30 (whenSet 2 2 11 11) anyBytes
-      (plain 36 (whenSet 4 1 0 0) anyBytes none)))));
+      plain 6 (whenSet 2 2 8 7) anything
+      (plain 12 (whenSet 2 2 4 3) anything
+      (plain 18 (whenSet 2 2 9 9) anything
+      (plain 24 (whenSet 2 2 10 10) anything
+      (plain 30 (whenSet 2 2 11 11) anything
+      (plain 36 (whenSet 4 1 0 0) anything none)))));
   names = noNames;
 }
 
@@ -129,7 +125,7 @@ unfoldable pub discovery : Layout
 discovery = record {
   kind = 6;
   shape = shaped (field 1 ∷ flags 1 1 ∷ field 1 ∷ field 1 ∷ field 1 ∷ blank 27 ∷ []) (edit 0 (6 ∷ []) ∷ []) (region 2 1) (region 1 1) [];
-  refs = plain 6 optional anyBytes (plain 12 optional anyBytes none);
+  refs = plain 6 optional anything (plain 12 optional anything none);
   names = λ used img ss. used 3 (getD img 3 0) && zeroOr (used 5) (getD img 4 0);
 }
 

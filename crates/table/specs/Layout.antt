@@ -30,6 +30,14 @@ image ks x = kept x ks x
 abbrev pub region : ℕ → ℕ → Region
 region a n = record { at = a; len = n }
 
+-- the reference that stands at place r: where what it names starts, and how long that is
+abbrev pub referenceAt : List ℕ → ℕ → Region
+referenceAt t r = region (num t r 4) (num t (r + 4) 2)
+
+-- the bytes that it names
+abbrev pub namedAt : List ℕ → ℕ → List ℕ
+namedAt t r = part t (referenceAt t r .at) (referenceAt t r .len)
+
 -- A stretch of a record: a field of so many bytes; one of which only the lowest bits count; one that counts only if a bit of another byte is set; or bytes
 -- that are no field: reserved ones and references
 pub data Stretch : Type 0 where
@@ -94,22 +102,30 @@ pairsRight s img = every (λ lo. not (eqb (bits (s .flags .at) (s .flags .len) (
 unfoldable pub isRight : Shape → Env → List ℕ → Bool
 isRight s e img = fixedRight (s .fixed) img && (eqb (num img (s .index .at) (s .index .len)) (e .position) && pairsRight s img)
 
+-- What an object's bytes are: today anything
+pub data Content : Type 0 where
+  anything : Content
+
+-- what a content asks of the bytes of a present object: 0, or the number returned
+abbrev pub ruleOf : Content → Env → List ℕ → ℕ
+ruleOf anything e b = 0
+
 -- The references of a record kind, by ascending offset: to an object of plain bytes, or to a heap record with references of its own. `need img` says whether
--- the reference counts, by the record's image; `rule e b` is a further rule of a present object's bytes (0: good, else the number returned)
+-- the reference counts, by the record's image
 pub data Refs : Type 0 where
   none : Refs
-  plain : (p : ℕ) (need : List ℕ → Need) (rule : Env → List ℕ → ℕ) (rest : Refs) → Refs
+  plain : (p : ℕ) (need : List ℕ → Need) (content : Content) (rest : Refs) → Refs
   nest : (p : ℕ) (need : List ℕ → Need) (shape : Shape) (own rest : Refs) → Refs
 
 abbrev pub offsets : Refs → List ℕ
 offsets none = []
-offsets (plain p need rule rest) = p ∷ offsets rest
+offsets (plain p need content rest) = p ∷ offsets rest
 offsets (nest p need shape own rest) = p ∷ offsets rest
 
 -- What the references of a kind give: the bytes of a plain object ([]: absent); of a heap record nothing, or its image and what its own references give
 pub data Slots : Refs → Type 0 where
   nil : Slots none
-  bytes : {p : ℕ} {need : List ℕ → Need} {rule : Env → List ℕ → ℕ} {rest : Refs} → List ℕ → Slots rest → Slots (plain p need rule rest)
+  bytes : {p : ℕ} {need : List ℕ → Need} {content : Content} {rest : Refs} → List ℕ → Slots rest → Slots (plain p need content rest)
   gone : {p : ℕ} {need : List ℕ → Need} {shape : Shape} {own rest : Refs} → Slots rest → Slots (nest p need shape own rest)
   rec : {p : ℕ} {need : List ℕ → Need} {shape : Shape} {own rest : Refs} → List ℕ → Slots own → Slots rest → Slots (nest p need shape own rest)
 

@@ -2,8 +2,8 @@
 use mathlib.Core.List.{List, [], _∷_, _++_}
 use Prim.Native.Nat.{ℕ, _+_}
 use lib.ListN.{replicate}
-use Rattle.table.specs.Bytes.{part, num, le, checksum}
-use Rattle.table.specs.Layout.{Slots, slotAt, baseOf, Entry, Body}
+use Rattle.table.specs.Bytes.{part, le, checksum}
+use Rattle.table.specs.Layout.{referenceAt, Slots, slotAt, baseOf, Entry, Body}
 use Rattle.table.specs.FixedLayouts.{header, host, listKinds}
 use Rattle.table.specs.Objects.{readSlots, readEntry, readBody, refFor, sizeOf, heapOf, sizeEntry, recEntry, heapEntry, sizeBody, recsBody, heapBody, spanBody, placesBody}
 
@@ -22,7 +22,7 @@ unfoldable pub meaning : List ℕ → Meaning
 meaning t = record {
   oem = part t 10 26;
   driver = readSlots t 0 [] (header .refs);
-  owner = readEntry host t (num t 72 4);
+  owner = readEntry host t (referenceAt t 72 .at);
   lists = readBody listKinds t 80;
 }
 

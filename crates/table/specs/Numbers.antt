@@ -7,7 +7,7 @@ use lib.Dec.{leb, eqb}
 use Rattle.table.specs.declared.Answer.{Answer}
 use Rattle.table.specs.declared.Region.{Region}
 use Rattle.table.specs.Bytes.{pick, num, odd, total}
-use Rattle.table.specs.Layout.{region, env, baseOf, Entry, unused, used}
+use Rattle.table.specs.Layout.{region, referenceAt, env, baseOf, Entry, unused, used}
 use Rattle.table.specs.FixedLayouts.{header, host, listKinds}
 use Rattle.table.specs.Objects.{usedIn, countIn}
 use Rattle.table.specs.Rules.{answer, done, first, Test, test, firstFail, inside, apartEach, consIf, listRegions, longEnough, versioned, refsRule, usedRule, bodyRule}
@@ -22,7 +22,7 @@ heapIn t = region (num t 36 4) (num t 40 4)
 
 -- the host, the nonempty lists, and the heap when its length is not zero
 unfoldable pub regions : List ℕ → List Region
-regions t = region (num t 72 4) (num t 76 2) ∷ listRegions listKinds t 80 (consIf (not (eqb (num t 40 4) 0)) (region (num t 36 4) (num t 40 4)) [])
+regions t = referenceAt t 72 ∷ listRegions listKinds t 80 (consIf (not (eqb (num t 40 4) 0)) (region (num t 36 4) (num t 40 4)) [])
 
 unfoldable pub tests : List ℕ → List Test
 tests t =
@@ -35,7 +35,7 @@ tests t =
     ∷ test (eqb (total (take size t) % 256) 0) 5 0 0
     ∷ test (eqb (getD t 8 0) 1 && minorRight (getD t 50 0)) 6 0 0
     ∷ test (eqb (getD t 64 0) 1 && (eqb (getD t 65 0) 1 && (minorRight (getD t 66 0) && (leb 64 csl && (leb (64 + csl) size && odd (getD t 70 0)))))) 7 1 0
-    ∷ test (leb (baseOf host) (num t 76 2) && (longEnough listKinds t 80 && (inside (64 + csl) size (regions t) && apartEach (regions t)))) 8 1 0
+    ∷ test (leb (baseOf host) (referenceAt t 72 .len) && (longEnough listKinds t 80 && (inside (64 + csl) size (regions t) && apartEach (regions t)))) 8 1 0
     ∷ test (eqb (getD t 78 0) 1 && versioned listKinds t 80) 9 1 0
     ∷ []
 
@@ -47,7 +47,7 @@ driverRule t count =
 unfoldable pub hostRule : List ℕ → (ℕ → ℕ → Bool) → (ℕ → ℕ) → Entry host → Answer
 hostRule t named count unused = answer 10 2 0
 hostRule t named count (used img ss) =
-    let n = usedRule host named (heapIn t) (env count 0) t (num t 72 4) img ss in
+    let n = usedRule host named (heapIn t) (env count 0) t (referenceAt t 72 .at) img ss in
     pick (eqb n 0) done (answer n 2 0)
 
 unfoldable pub records : List ℕ → Meaning → Answer

@@ -7,7 +7,7 @@ use lib.Dec.{eqb}
 use Rattle.table.specs.declared.Need.{Need}
 use Rattle.table.specs.declared.Need.the-variants.{Ignored, Optional, Required}
 use Rattle.table.specs.Bytes.{pick, part, num, le, Edit, edit, apply}
-use Rattle.table.specs.Layout.{image, isValid, Refs, none, plain, nest, Slots, nil, bytes, gone, rec, Layout, baseOf, Entry, unused, used, Body, stop, more}
+use Rattle.table.specs.Layout.{image, referenceAt, namedAt, isValid, Refs, none, plain, nest, Slots, nil, bytes, gone, rec, Layout, baseOf, Entry, unused, used, Body, stop, more}
 
 -- ---- reading
 
@@ -20,15 +20,15 @@ under Required absent x = x
 -- the objects of the record at a, whose image is img
 unfoldable pub readSlots : List ℕ → ℕ → List ℕ → (rs : Refs) → Slots rs
 readSlots t a img none = nil
-readSlots t a img (plain p need rule rest) =
-    bytes (under (need img) [] (part t (num t (a + p) 4) (num t (a + p + 4) 2))) (readSlots t a img rest)
+readSlots t a img (plain p need content rest) = bytes (under (need img) [] (namedAt t (a + p))) (readSlots t a img rest)
 readSlots t a img (nest p need shape own rest) =
-    let x = image (shape .keep) (drop (num t (a + p) 4) t) in
+    let r = referenceAt t (a + p) in
+    let x = image (shape .keep) (drop (r .at) t) in
     under (need img)
     (gone (readSlots t a img rest))
-    (pick (eqb (num t (a + p + 4) 2) 0)
+    (pick (eqb (r .len) 0)
     (gone (readSlots t a img rest))
-    (rec x (readSlots t (num t (a + p) 4) x own) (readSlots t a img rest)))
+    (rec x (readSlots t (r .at) x own) (readSlots t a img rest)))
 
 unfoldable pub readEntry : (l : Layout) → List ℕ → ℕ → Entry l
 readEntry l t a =

@@ -12,7 +12,7 @@ use Rattle.table.specs.declared.Image.{Image}
 use Rattle.table.specs.declared.Field.{Field}
 use Rattle.table.specs.declared.Place.{Place}
 use Rattle.table.specs.Bytes.{pick, part, num, padded}
-use Rattle.table.specs.Layout.{image, isValid, Refs, none, plain, nest, Layout, baseOf}
+use Rattle.table.specs.Layout.{image, referenceAt, isValid, Refs, none, plain, nest, Layout, baseOf}
 use Rattle.table.specs.FixedLayouts.{header, control, host, hfi, ssns, security, discovery, info, extended}
 use Rattle.table.specs.Objects.{under}
 use Rattle.table.specs.Rules.{answer, done}
@@ -32,14 +32,15 @@ listSeat l t c n =
 -- the need of the reference at q, which is plain or to a heap record
 abbrev pub needAt : ℕ → Refs → List ℕ → Need
 needAt q none img = Ignored
-needAt q (plain p need rule rest) img = pick (eqb q p) (need img) (needAt q rest img)
+needAt q (plain p need content rest) img = pick (eqb q p) (need img) (needAt q rest img)
 needAt q (nest p need shape own rest) img = pick (eqb q p) (need img) (needAt q rest img)
 
 -- the heap record of kind l that the owner's reference at q names
 abbrev pub heapSeat : Layout → ℕ → List ℕ → Seat → Seat
 heapSeat l q t nowhere = nowhere
 heapSeat l q t (seat owner a on) =
-    let here = under (needAt q (owner .refs) (image (owner .shape .keep) (drop a t))) nowhere (pick (eqb (num t (a + q + 4) 2) 0) nowhere (seat l (num t (a + q) 4) true)) in
+    let r = referenceAt t (a + q) in
+    let here = under (needAt q (owner .refs) (image (owner .shape .keep) (drop a t))) nowhere (pick (eqb (r .len) 0) nowhere (seat l (r .at) true)) in
     pick on here nowhere
 
 -- kinds 0 to 2 take position 0, the others a list's position, that of the owner for 7 and 9
@@ -47,7 +48,7 @@ unfoldable pub seatOf : List ℕ → ℕ → ℕ → Seat
 seatOf t k n =
     pick (eqb k 0) (pick (eqb n 0) (seat header 0 true) nowhere)
     (pick (eqb k 1) (pick (eqb n 0) (seat control 0 true) nowhere)
-    (pick (eqb k 2) (pick (eqb n 0) (seat host (num t 72 4) true) nowhere)
+    (pick (eqb k 2) (pick (eqb n 0) (seat host (referenceAt t 72 .at) true) nowhere)
     (pick (eqb k 3) (listSeat hfi t 80 n)
     (pick (eqb k 4) (listSeat ssns t 88 n)
     (pick (eqb k 5) (listSeat security t 96 n)
@@ -94,7 +95,7 @@ readField t k n q = pick (eqb (check t .number) 0) (fieldAt t q (seatOf t k n)) 
 
 abbrev pub hasPlain : ℕ → Refs → Bool
 hasPlain q none = false
-hasPlain q (plain p need rule rest) = pick (eqb q p) true (hasPlain q rest)
+hasPlain q (plain p need content rest) = pick (eqb q p) true (hasPlain q rest)
 hasPlain q (nest p need shape own rest) = hasPlain q rest
 
 abbrev pub noPlace : Answer → Place
@@ -102,7 +103,9 @@ noPlace a = record { answer = a; present = false; at = 0; len = 0 }
 
 -- what the reference at r names: the part from its offset on, of its length
 abbrev pub refPlace : List ℕ → ℕ → Place
-refPlace t r = pick (eqb (num t (r + 4) 2) 0) (noPlace done) (record { answer = done; present = true; at = num t r 4; len = num t (r + 4) 2 })
+refPlace t r =
+    let x = referenceAt t r in
+    pick (eqb (x .len) 0) (noPlace done) (record { answer = done; present = true; at = x .at; len = x .len })
 
 abbrev pub placeAt : List ℕ → ℕ → Seat → Place
 placeAt t q nowhere = noPlace (answer 16 0 0)

@@ -8,8 +8,8 @@ use Rattle.table.specs.declared.Answer.{Answer}
 use Rattle.table.specs.declared.Region.{Region}
 use Rattle.table.specs.declared.Need.{Need}
 use Rattle.table.specs.declared.Need.the-variants.{Ignored, Optional, Required}
-use Rattle.table.specs.Bytes.{pick, part, num}
-use Rattle.table.specs.Layout.{image, region, Shape, Env, env, isValid, isRight, Refs, none, plain, nest, Slots, Layout, baseOf, Entry, unused, used, Body, stop, more}
+use Rattle.table.specs.Bytes.{pick, num}
+use Rattle.table.specs.Layout.{image, region, referenceAt, namedAt, Content, ruleOf, Shape, Env, env, isValid, isRight, Refs, none, plain, nest, Slots, Layout, baseOf, Entry, unused, used, Body, stop, more}
 use Rattle.table.specs.Objects.{under}
 
 abbrev pub answer : ℕ → ℕ → ℕ → Answer
@@ -86,15 +86,16 @@ refRule heap Ignored off len = 0
 refRule heap Optional off len = pick (eqb off 0 && eqb len 0) 0 (pick (reaches heap off len) 0 11)
 refRule heap Required off len = pick (reaches heap off len) 0 11
 
--- the further rule speaks of present objects
-abbrev pub ruled : (Env → List ℕ → ℕ) → Env → List ℕ → ℕ
-ruled rule e [] = 0
-ruled rule e (b ∷ bs) = rule e (b ∷ bs)
+-- a content's rule speaks of present objects
+abbrev pub ruled : Content → Env → List ℕ → ℕ
+ruled content e [] = 0
+ruled content e (b ∷ bs) = ruleOf content e (b ∷ bs)
 
 -- the reference at r, under a need, to an object of plain bytes
-abbrev pub plainRule : Region → Need → (Env → List ℕ → ℕ) → Env → List ℕ → ℕ → ℕ
-plainRule heap n rule e t r =
-    firstOf (refRule heap n (num t r 4) (num t (r + 4) 2)) (under n 0 (ruled rule e (part t (num t r 4) (num t (r + 4) 2))))
+abbrev pub plainRule : Region → Need → Content → Env → List ℕ → ℕ → ℕ
+plainRule heap n content e t r =
+    let x = referenceAt t r in
+    firstOf (refRule heap n (x .at) (x .len)) (under n 0 (ruled content e (namedAt t r)))
 
 -- a heap record is valid and right: its owner's position is its index
 abbrev pub isSound : Shape → Env → List ℕ → Bool
@@ -103,18 +104,20 @@ isSound s e img = isValid s img && isRight s e img
 -- the reference at r, under a need, to a heap record, whose own references give `inner`
 abbrev pub nestRule : Region → Need → Shape → Env → List ℕ → ℕ → ℕ → ℕ
 nestRule heap n shape e t r inner =
-    firstOf (refRule heap n (num t r 4) (num t (r + 4) 2))
+    let x = referenceAt t r in
+    firstOf (refRule heap n (x .at) (x .len))
     (under n 0
-    (pick (eqb (num t (r + 4) 2) 0) 0
-    (firstOf (pick (leb (length (shape .keep)) (num t (r + 4) 2) && isSound shape e (image (shape .keep) (drop (num t r 4) t))) 0 12) inner)))
+    (pick (eqb (x .len) 0) 0
+    (firstOf (pick (leb (length (shape .keep)) (x .len) && isSound shape e (image (shape .keep) (drop (x .at) t))) 0 12) inner)))
 
 -- the references of a record in order, each with its heap record and that one's own: 0, 11, 12 or an object's further number
 unfoldable pub refsRule : Region → Env → List ℕ → ℕ → List ℕ → Refs → ℕ
 refsRule heap e t a img none = 0
-refsRule heap e t a img (plain p need rule rest) = firstOf (plainRule heap (need img) rule e t (a + p)) (refsRule heap e t a img rest)
+refsRule heap e t a img (plain p need content rest) = firstOf (plainRule heap (need img) content e t (a + p)) (refsRule heap e t a img rest)
 refsRule heap e t a img (nest p need shape own rest) =
+    let b = referenceAt t (a + p) .at in
     firstOf
-    (nestRule heap (need img) shape e t (a + p) (refsRule heap e t (num t (a + p) 4) (image (shape .keep) (drop (num t (a + p) 4) t)) own))
+    (nestRule heap (need img) shape e t (a + p) (refsRule heap e t b (image (shape .keep) (drop b t)) own))
     (refsRule heap e t a img rest)
 
 -- ---- records

@@ -15,6 +15,18 @@ pub use records::Info;
 pub use records::Security;
 pub use records::Ssns;
 
+// No table is longer.
+pub const LIMIT: usize = 65536;
+
+// The table's first four bytes, 4E 42 46 54, as a number.
+pub const SIGNATURE: usize = 0x5446424E;
+
+// Header and control record: where the host stands in the one form.
+pub const FRONT: usize = Header::SIZE + Control::SIZE;
+
+// With the host: where the lists start in the one form, and the least Length.
+pub const SHORTEST: usize = FRONT + Host::SIZE;
+
 // What every call answers: a number of document 01, and the kind and position of the record at fault.
 pub struct Answer {
     pub number: u8,

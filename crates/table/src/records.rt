@@ -1,4 +1,4 @@
-// The record kinds: what each is called in a table (ID) and how long it is there (SIZE), stated here and nowhere else in the code.
+// The record kinds: what each is called in a table (ID) and how long it is there (SIZE). Code elsewhere names these constants and writes no such number.
 // A record is held by its bytes in table layout, so that a caller's bytes can be taken as they are.
 
 // The table's first bytes. It has no ID of its own; reads ask for it by kind 0.
@@ -12,15 +12,36 @@ impl Header {
     pub const ID: u8 = 0;
 }
 
-// Its offsets are absolute, so it is read from the table's first byte on: header and control record together.
+// It stands behind the header. Its offsets are the table's, so that it is read from the table's first byte on.
 pub struct Control {
     pub bytes: [u8; Control::SIZE],
 }
 
 impl Control {
-    pub const SIZE: usize = 128;
+    pub const SIZE: usize = 64;
 
     pub const ID: u8 = 1;
+
+    // The reference to the host record.
+    pub const HOST: usize = 72;
+
+    // The entries of the four lists: each an offset, a record length, a version and a count.
+    pub const HFI_LIST: usize = 80;
+
+    pub const SSNS_LIST: usize = 88;
+
+    pub const SECURITY_LIST: usize = 96;
+
+    pub const DISCOVERY_LIST: usize = 104;
+
+    // The counts, each the last byte of its entry.
+    pub const HFI_COUNT: usize = 87;
+
+    pub const SSNS_COUNT: usize = 95;
+
+    pub const SECURITY_COUNT: usize = 103;
+
+    pub const DISCOVERY_COUNT: usize = 111;
 }
 
 pub struct Host {

@@ -1,8 +1,9 @@
 // The builder's states: whose turn it is, where its record stands, and which state comes behind it. Any state may be handed in, forged ones too.
-use table::Control;
 use table::Discovery;
+use table::FRONT;
 use table::Hfi;
-use table::Host;
+use table::LIMIT;
+use table::SHORTEST;
 use table::Security;
 use table::Ssns;
 use table::State;
@@ -35,8 +36,7 @@ pub fn count_of(s: State, kind: u16) -> usize
 pub fn records_end(s: State) -> usize
     ensures { λ r. ⌜ (r ≡ recordsEnd s) × (160 ≤ r) × (r ≤ 65440) ⌝ }
 {
-    Control::SIZE
-        + Host::SIZE
+    SHORTEST
         + (s.hfi as usize) * Hfi::SIZE
         + (s.ssns as usize) * Ssns::SIZE
         + (s.security as usize) * Security::SIZE
@@ -80,7 +80,7 @@ pub fn waits(s: State, kind: u16) -> bool
     if s.used < records_end(s) {
         return false;
     }
-    s.used <= 65536
+    s.used <= LIMIT
 }
 
 // The kind of the first list that is not empty, or finish.
@@ -157,7 +157,7 @@ pub fn finished(s: State) -> State
 fn list_start(s: State, kind: u8) -> usize
     ensures { λ r. ⌜ (r ≡ startOf 160 listKinds (counts s) kind) × (r ≤ 65440) ⌝ }
 {
-    let hfi = Control::SIZE + Host::SIZE;
+    let hfi = SHORTEST;
     let ssns = hfi + (s.hfi as usize) * Hfi::SIZE;
     let security = ssns + (s.ssns as usize) * Ssns::SIZE;
     let discovery = security + (s.security as usize) * Security::SIZE;
@@ -176,7 +176,7 @@ pub fn place_of(s: State, kind: u8) -> usize
     ensures { λ r. ⌜ (r ≡ definition.placeOf s (layoutOf kind)) × (r + baseOf (layoutOf kind) ≤ recordsEnd s) ⌝ }
 {
     if kind == 2 {
-        return Control::SIZE;
+        return FRONT;
     }
     let i = (s.position as usize) - 1;
     let start = list_start(s, kind);

@@ -1,8 +1,10 @@
-// Little-endian numbers in a table, and the sum of a table's bytes.
+// Little-endian numbers and references in a table, and the sum of a table's bytes.
+use table::Region;
 ghost use mathlib.Core.Path.{_≡_};
 ghost use Prim.Native.Nat.{_+_, _%_, _≤_, _<_};
 ghost use lib.ListN.{length};
 ghost use Rattle.table.specs.Bytes.{num, total};
+ghost use Rattle.table.specs.Layout.{referenceAt};
 
 // A byte as a number that offsets can be computed with. As a call it asks for no proof that the byte fits.
 pub fn wide(x: u8) -> usize
@@ -24,6 +26,17 @@ pub fn u32_at(t: &[u8], at: usize) -> usize
     ensures { λ r. ⌜ (r ≡ num (now (t .entry)) at 4) × (r < 4294967296) ⌝ }
 {
     u16_at(t, at) + 65536 * u16_at(t, at + 2)
+}
+
+// The reference that stands at `at`: where what it names starts, and how long that is. No other function reads one.
+pub fn reference_at(t: &[u8], at: usize) -> Region
+    requires { ⌜ at + 6 ≤ length (now t) ⌝ }
+    ensures { λ r. ⌜ (r ≡ referenceAt (now (t .entry)) at) × (r .at < 4294967296) × (r .len < 65536) ⌝ }
+{
+    Region {
+        at: u32_at(t, at),
+        len: u16_at(t, at + 4),
+    }
 }
 
 // The sum of all bytes modulo 256, which a u8 that wraps keeps by itself. The halves are summed side by side, so

@@ -10,9 +10,6 @@ use borrow.Author.Needs.{needs}
 use Rattle.front.proofs.write_control.Statement.{statement}
 use Rattle.front.proofs.write_control.Tie as tie
 
-add-hfi : tie.Need-add-hfi
-add-hfi c = search needs
-
 cast-ssns : tie.Need-cast-ssns
 cast-ssns c = search needs
 
@@ -100,7 +97,6 @@ pub write-control-spec : {M : Type 1} → statement M
 write-control-spec =
     tie.close
     (tie.spec
-    add-hfi
     cast-ssns
     mul-ssns
     add-ssns

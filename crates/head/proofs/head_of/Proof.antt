@@ -72,7 +72,7 @@ returns c =
       ),
       record {
         csl = s .u16-at .ensures .1;
-        host = h .reference-at .ensures .1;
+        host = (h .reference-at .ensures .1, omega (arith, h .reference-at .ensures .2));
         heap = e .before .region-at .ensures .1;
         hfi = e .entry-at .ensures .1;
         ssns = c .before .before .entry-at2 .ensures .1;

@@ -5,9 +5,6 @@ use borrow.Author.Needs.{needs}
 use Rattle.turns.proofs.list_start.Statement.{statement}
 use Rattle.turns.proofs.list_start.Tie as tie
 
-add-hfi : tie.Need-add-hfi
-add-hfi c = search needs
-
 cast-ssns : tie.Need-cast-ssns
 cast-ssns c = search needs
 
@@ -68,7 +65,6 @@ pub list-start-spec : {M : Type 1} → statement M
 list-start-spec =
     tie.close
     (tie.spec
-    add-hfi
     cast-ssns
     mul-ssns
     add-ssns

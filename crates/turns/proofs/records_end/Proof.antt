@@ -41,9 +41,6 @@ cast-result-4 c = search needs
 mul-result-4 : tie.Need-mul-result-4
 mul-result-4 c = search needs
 
-add-result-5 : tie.Need-add-result-5
-add-result-5 c = search needs
-
 returns : tie.Need-returns
 unfolding recordsEnd hfi ssns security discovery
 returns c = (omega arith, omega arith, omega (arith, c .struct-known4 .given, c .before .struct-known3 .given, c .before .before .struct-known2 .given, c .before .before .before .struct-known .given))
@@ -52,17 +49,16 @@ pub records-end-spec : {M : Type 1} → statement M
 records-end-spec =
     tie.close
     (tie.spec
-    add-result
     cast-result
     mul-result
-    add-result-2
+    add-result
     cast-result-2
     mul-result-2
-    add-result-3
+    add-result-2
     cast-result-3
     mul-result-3
-    add-result-4
+    add-result-3
     cast-result-4
     mul-result-4
-    add-result-5
+    add-result-4
     returns)

@@ -1,8 +1,6 @@
-use native.Mathlib.Omega.{arith}
-use Rattle.table.proofs.Rules.{picks}
 use borrow.Author.Needs.{needs}
-use Rattle.head.proofs.reference_at.Statement.{statement}
-use Rattle.head.proofs.reference_at.Tie as tie
+use Rattle.wire.proofs.reference_at.Statement.{statement}
+use Rattle.wire.proofs.reference_at.Tie as tie
 
 u32-at-requires : tie.Need-u32-at-requires
 u32-at-requires c κs = search needs
@@ -14,7 +12,7 @@ u16-at-requires : tie.Need-u16-at-requires
 u16-at-requires c κs = search needs
 
 returns : tie.Need-returns
-returns c = (cc, (search picks, omega (arith, c .u16-at .ensures .1)))
+returns c = (cc, search needs, search needs)
 
 pub reference-at-spec : {M : Type 1} → statement M
 reference-at-spec = tie.close (tie.spec u32-at-requires add-u16-at u16-at-requires returns)
