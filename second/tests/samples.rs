@@ -54,6 +54,7 @@ fn a_builder_run_makes_the_smallest_table() {
     assert!(buffer[162..].iter().all(|byte| *byte == 0xEE));
 }
 
+/// K11, call by call.
 #[test]
 fn all_counts_255_leave_room_for_96_bytes() {
     assert_eq!(records_end([255; 4]), 65_440);

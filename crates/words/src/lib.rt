@@ -7,10 +7,21 @@ use text::decimals::with_number;
 ghost use mathlib.Core.Path.{_≡_};
 ghost use mathlib.Core.List.{_++_};
 ghost use Prim.Native.Nat.{_+_, _≤_};
-ghost use lib.ListN.{take};
+ghost use lib.ListN.{length, take};
 ghost use Rattle.io.specs.Counts.{Counts};
+ghost use Rattle.table.specs.Meaning.{limit};
 ghost use Rattle.text.specs.Ascii.{ascii};
+ghost use Rattle.text.specs.Numerals.{numeral};
 ghost use Rattle.words.specs.Words.{meaningOf, kindOf, placeOf, faultLine};
+
+// A text that says how long a table may be.
+fn with_limit(t: Text, before: &[u8], behind: &[u8]) -> Text
+    requires { ⌜ Counts (t .len) (t .bytes) × (t .len + length (now before) + 20 + length (now behind) ≤ 128) ⌝ }
+    ensures { λ r. ⌜ (r .len ≤ t .len + length (now (before .entry)) + 20 + length (now (behind .entry))) × Counts (r .len) (r .bytes) × (take (r .len) (r .bytes) ≡ take (t .len) (t .bytes) ++ (now (before .entry) ++ (numeral limit ++ now (behind .entry)))) ⌝ }
+{
+    let number = with_number(with_bytes(t, before), table::LIMIT as u64);
+    with_bytes(number, behind)
+}
 
 fn with_meaning(t: Text, number: u8) -> Text
     requires { ⌜ Counts (t .len) (t .bytes) × (t .len + 69 ≤ 128) ⌝ }
@@ -21,7 +32,7 @@ fn with_meaning(t: Text, number: u8) -> Text
         1 => with_bytes(t, b"too few bytes"),
         2 => with_bytes(t, b"the signature is wrong"),
         3 => with_bytes(t, b"Length is outside what is lent"),
-        4 => with_bytes(t, b"Length is above 65536"),
+        4 => with_limit(t, b"Length is above ", b""),
         5 => with_bytes(t, b"the checksum is wrong"),
         6 => with_bytes(t, b"the header's revision is wrong"),
         7 => with_bytes(t, b"the control record is wrong"),
@@ -40,7 +51,7 @@ fn with_meaning(t: Text, number: u8) -> Text
         14 => with_bytes(t, b"the output is too short"),
         15 => with_bytes(t, b"a builder call out of turn or an impossible state"),
         16 => with_bytes(t, b"no such kind, position or field"),
-        17 => with_bytes(t, b"the output would pass 65536 bytes"),
+        17 => with_limit(t, b"the output would pass ", b" bytes"),
         _ => with_bytes(t, b"a fault with no name"),
     }
 }
