@@ -16,18 +16,18 @@ use Rattle.laws.specs.Positions.{check-placed}
 use Rattle.rewriter.proofs.AnswerLaws.{read-passed, read-refused}
 
 abbrev RewriteFits : Answer → ℕ → Type 0
-RewriteFits a n = (a .position < 256) × (pick (eqb (a .number) 0) n 0 ≤ 65536)
+RewriteFits a n = (a .position < 256) × (pick (eqb (a .number) 0) n 0 ≤ limit)
 
 room-fits : (n room : ℕ) → RewriteFits (firstFail (test (leb n limit) 17 0 0 ∷ test (leb n room) 14 0 0 ∷ [])) n
 unfolding limit
-room-fits n room = go (leb n 65536) (leb n room) refl where
-  go : (c d : Bool) → leb n 65536 ≡ c → RewriteFits (firstFail (test c 17 0 0 ∷ test d 14 0 0 ∷ [])) n
-  go true true e = (lit< tt, leb-true n 65536 e)
+room-fits n room = go (leb n limit) (leb n room) refl where
+  go : (c d : Bool) → leb n limit ≡ c → RewriteFits (firstFail (test c 17 0 0 ∷ test d 14 0 0 ∷ [])) n
+  go true true e = (lit< tt, leb-true n limit e)
   go true false e = (lit< tt, lit≤ tt)
   go false d e = (lit< tt, lit≤ tt)
 
-pub rewrite-fits : (t : List ℕ) → Bytes t → (room : ℕ) → (rewrite t room .answer .position < 256) × (rewrite t room .len ≤ 65536)
-unfolding rewrite
+pub rewrite-fits : (t : List ℕ) → Bytes t → (room : ℕ) → (rewrite t room .answer .position < 256) × (rewrite t room .len ≤ limit)
+unfolding rewrite limit
 rewrite-fits t b room = go (eqb (check t .number) 0) refl where
   n : ℕ
   n = formLength (meaning t)

@@ -7,6 +7,7 @@ ghost use mathlib.Core.Path.{_≡_};
 ghost use Prim.Native.Nat.{_<_, _≤_};
 ghost use lib.Dec.{eqb};
 ghost use Rattle.table.specs.Bytes.{pick};
+ghost use Rattle.table.specs.Meaning.{limit};
 ghost use Rattle.packing.specs.Packed.{packed, packedField, packedPlace, packedRewritten};
 
 // A list has at most 255 records, so no half of the number runs into the next.
@@ -40,7 +41,7 @@ pub fn pack_place(p: Place) -> u64
 }
 
 pub fn pack_rewritten(r: Rewritten) -> u64
-    requires { ⌜ (r .answer .position < 256) × (r .len ≤ 65536) ⌝ }
+    requires { ⌜ (r .answer .position < 256) × (r .len ≤ limit) ⌝ }
     ensures { λ p. ⌜ p ≡ packedRewritten r ⌝ }
 {
     let answer = pack(r.answer) as u64;

@@ -1,3 +1,4 @@
+use Rattle.table.specs.Meaning.{limit}
 use Rattle.packing.specs.Packed.{packedRewritten}
 use native.Mathlib.Omega.{arith}
 use borrow.Author.Needs.{needs}
@@ -11,9 +12,11 @@ cast-answer : tie.Need-cast-answer
 cast-answer c = search needs
 
 mul-result : tie.Need-mul-result
+unfolding limit
 mul-result c = search needs
 
 add-result : tie.Need-add-result
+unfolding limit
 add-result c = search needs
 
 returns : tie.Need-returns
