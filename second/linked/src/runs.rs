@@ -12,8 +12,8 @@ use second::state::{FINISHED, READY};
 use second::{form_length, Answer, Meaning, State};
 
 impl<F: Make> Comparison<'_, F> {
-    /// All lists full of unused records, which leaves 96 bytes for objects: a host name of 97 does not fit, nor does a
-    /// driver signature.
+    /// K11: all lists full of unused records, which leaves 96 bytes for objects. A host name of 97 does not fit, nor does
+    /// a driver signature.
     pub fn full_lists(&mut self) -> Result<(), String> {
         let too_long = Answer::plain(FORM_TOO_LONG);
         let mut kept = self.start(GREATEST_LENGTH);
