@@ -1,5 +1,11 @@
 // The columns' names, printed: for people, up to a width, those that users of `nvme nbft show` know, and words without a space for JSON. Those of
 // a kind stand in one line, in the order of its columns, with a bar between two.
+use table::Discovery;
+use table::Header;
+use table::Hfi;
+use table::Host;
+use table::Security;
+use table::Ssns;
 use values::print_string;
 ghost use Prim.Native.Nat.{_≤_};
 ghost use lib.ListN.{length};
@@ -51,24 +57,24 @@ fn print_name(names: &[u8], i: usize, width: usize) {
 // The name of column `i` of the records of a kind, for people.
 pub fn print_title(kind: u8, i: usize, width: usize) {
     match kind {
-        0 => print_name(
+        Header::ID => print_name(
             b"OEM ID|OEM Table ID|OEM Revision|Creator ID|Creator Revision|Driver Signature",
             i,
             width,
         ),
-        2 => print_name(b"Host ID|NQN|Flags", i, width),
-        3 => print_name(
+        Host::ID => print_name(b"Host ID|NQN|Flags", i, width),
+        Hfi::ID => print_name(
             b"Idx|Trsp|PCI Addr|MAC Addr|DHCP|IP Addr|Mask|Gateway|DNS",
             i,
             width,
         ),
-        4 => print_name(b"Idx|NQN|Trsp|Address|SvcId|HFIs", i, width),
-        5 => print_name(
+        Ssns::ID => print_name(b"Idx|NQN|Trsp|Address|SvcId|HFIs", i, width),
+        Security::ID => print_name(
             b"Idx|Flags|Channels|Auths|Ciphers|Groups|Hashes|Keypath",
             i,
             width,
         ),
-        6 => print_name(b"Idx|URI|NQN", i, width),
+        Discovery::ID => print_name(b"Idx|URI|NQN", i, width),
         _ => print_name(b"", i, width),
     }
 }
@@ -76,24 +82,24 @@ pub fn print_title(kind: u8, i: usize, width: usize) {
 // The same for JSON.
 pub fn print_key(kind: u8, i: usize) {
     match kind {
-        0 => print_name(
+        Header::ID => print_name(
             b"oem_id|oem_table_id|oem_revision|creator_id|creator_revision|driver_signature",
             i,
             0,
         ),
-        2 => print_name(b"host_id|nqn|flags", i, 0),
-        3 => print_name(
+        Host::ID => print_name(b"host_id|nqn|flags", i, 0),
+        Hfi::ID => print_name(
             b"index|transport|pci_address|mac_address|dhcp|ip_address|mask|gateway|dns",
             i,
             0,
         ),
-        4 => print_name(b"index|nqn|transport|address|service_id|hfis", i, 0),
-        5 => print_name(
+        Ssns::ID => print_name(b"index|nqn|transport|address|service_id|hfis", i, 0),
+        Security::ID => print_name(
             b"index|flags|channels|authentications|ciphers|groups|hashes|keypath",
             i,
             0,
         ),
-        6 => print_name(b"index|uri|nqn", i, 0),
+        Discovery::ID => print_name(b"index|uri|nqn", i, 0),
         _ => print_name(b"", i, 0),
     }
 }

@@ -1,6 +1,12 @@
 // Lines, words and sections of a text: where each begins and ends, without the blanks around it.
 use check::same;
 use separated::mark_from;
+use table::Discovery;
+use table::Header;
+use table::Hfi;
+use table::Host;
+use table::Security;
+use table::Ssns;
 ghost use Prim.Native.Nat.{_≤_, _<_};
 ghost use lib.ListN.{length};
 
@@ -78,16 +84,16 @@ fn of_kind(kind: u8, used: bool) -> Section {
 
 fn unused_section(line: &[u8]) -> Section {
     if same(line, b"[hfi unused]") {
-        return of_kind(3, false);
+        return of_kind(Hfi::ID, false);
     }
     if same(line, b"[subsystem unused]") {
-        return of_kind(4, false);
+        return of_kind(Ssns::ID, false);
     }
     if same(line, b"[security unused]") {
-        return of_kind(5, false);
+        return of_kind(Security::ID, false);
     }
     if same(line, b"[discovery unused]") {
-        return of_kind(6, false);
+        return of_kind(Discovery::ID, false);
     }
     of_kind(NO_KIND, false)
 }
@@ -95,22 +101,22 @@ fn unused_section(line: &[u8]) -> Section {
 // The section that a line begins.
 pub fn section_of(line: &[u8]) -> Section {
     if same(line, b"[header]") {
-        return of_kind(0, true);
+        return of_kind(Header::ID, true);
     }
     if same(line, b"[host]") {
-        return of_kind(2, true);
+        return of_kind(Host::ID, true);
     }
     if same(line, b"[hfi]") {
-        return of_kind(3, true);
+        return of_kind(Hfi::ID, true);
     }
     if same(line, b"[subsystem]") {
-        return of_kind(4, true);
+        return of_kind(Ssns::ID, true);
     }
     if same(line, b"[security]") {
-        return of_kind(5, true);
+        return of_kind(Security::ID, true);
     }
     if same(line, b"[discovery]") {
-        return of_kind(6, true);
+        return of_kind(Discovery::ID, true);
     }
     unused_section(line)
 }

@@ -1,4 +1,11 @@
 // What a line of a description tells, by its section and its first word: which field or object, and how its value is written.
+use table::Discovery;
+use table::Header;
+use table::Hfi;
+use table::Host;
+use table::Security;
+use table::Ssns;
+
 pub mod hfi; // transport info
 pub mod subsystem; // an SSNS record and its extended info
 
@@ -153,12 +160,12 @@ pub fn place_of(kind: u8, word: &[u8]) -> Place
     ensures { λ r. ⌜ Placed r ⌝ }
 {
     match kind {
-        0 => header_place(word),
-        2 => host_place(word),
-        3 => hfi_place(word),
-        4 => subsystem_place(word),
-        5 => security_place(word),
-        6 => discovery_place(word),
+        Header::ID => header_place(word),
+        Host::ID => host_place(word),
+        Hfi::ID => hfi_place(word),
+        Ssns::ID => subsystem_place(word),
+        Security::ID => security_place(word),
+        Discovery::ID => discovery_place(word),
         _ => nowhere(),
     }
 }

@@ -4,6 +4,7 @@ use front::Counts;
 use needs::security_need;
 use table::Discovery;
 use table::Extended;
+use table::Header;
 use table::Hfi;
 use table::Host;
 use table::Info;
@@ -30,9 +31,9 @@ fn is_dropped(kind: u8, at: usize, b: &[u8]) -> bool
     requires { ⌜ length (now b) ≡ 256 ⌝ }
 {
     match kind {
-        3 => is_server_dropped(at, b[134]),
-        4 => is_index_dropped(at, b[3]),
-        5 => is_object_dropped(at, b),
+        Hfi::ID => is_server_dropped(at, b[134]),
+        Ssns::ID => is_index_dropped(at, b[3]),
+        Security::ID => is_object_dropped(at, b),
         _ => false,
     }
 }
@@ -197,11 +198,11 @@ pub fn tell(out: &mut [u8], s: State, d: Draft, c: Counts, room: &[u8]) -> Step 
     }
     let kind = d.kind;
     match kind {
-        0 => tell_header(out, s, d, c, room),
-        2 => tell_host(out, s, d, room),
-        3 => tell_hfi(out, s, d, room),
-        4 => tell_subsystem(out, s, d, room),
-        5 => tell_security(out, s, d, room),
+        Header::ID => tell_header(out, s, d, c, room),
+        Host::ID => tell_host(out, s, d, room),
+        Hfi::ID => tell_hfi(out, s, d, room),
+        Ssns::ID => tell_subsystem(out, s, d, room),
+        Security::ID => tell_security(out, s, d, room),
         _ => tell_discovery(out, s, d, room),
     }
 }

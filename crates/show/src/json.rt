@@ -5,6 +5,12 @@ use crate::records::is_used;
 use columns::column_at;
 use columns::column_count;
 use columns::names::print_key;
+use table::Discovery;
+use table::Header;
+use table::Hfi;
+use table::Host;
+use table::Security;
+use table::Ssns;
 use tool::print;
 use tool::print_bytes;
 ghost use Rattle.reader.specs.Accepted.{Accepted};
@@ -71,13 +77,13 @@ pub fn print_json(t: &[u8])
     requires { ⌜ Accepted (now t) ⌝ }
 {
     print_bytes(b"{\"header\":{");
-    print_members(t, 0, 0);
+    print_members(t, Header::ID, 0);
     print_bytes(b"},\n\"host\":{");
-    print_members(t, 2, 0);
+    print_members(t, Host::ID, 0);
     print_bytes(b"}");
-    print_list(t, b",\n\"hfis\":[", 3);
-    print_list(t, b",\n\"subsystems\":[", 4);
-    print_list(t, b",\n\"security\":[", 5);
-    print_list(t, b",\n\"discovery\":[", 6);
+    print_list(t, b",\n\"hfis\":[", Hfi::ID);
+    print_list(t, b",\n\"subsystems\":[", Ssns::ID);
+    print_list(t, b",\n\"security\":[", Security::ID);
+    print_list(t, b",\n\"discovery\":[", Discovery::ID);
     print_bytes(b"}\n");
 }

@@ -5,6 +5,12 @@ use crate::records::is_used;
 use columns::column_at;
 use columns::column_count;
 use columns::names;
+use table::Discovery;
+use table::Header;
+use table::Hfi;
+use table::Host;
+use table::Security;
+use table::Ssns;
 use tool::print_bytes;
 use values::print_plain;
 use values::print_rule;
@@ -98,12 +104,12 @@ fn print_list(t: &[u8], heading: &[u8], kind: u8)
 pub fn print_people(t: &[u8])
     requires { ⌜ Accepted (now t) ⌝ }
 {
-    print_heading(b"NBFT Header:\n\n", 0);
-    print_row(t, 0, 0);
-    print_heading(b"\nNBFT Host:\n\n", 2);
-    print_row(t, 2, 0);
-    print_list(t, b"\nNBFT HFIs:\n\n", 3);
-    print_list(t, b"\nNBFT Subsystems:\n\n", 4);
-    print_list(t, b"\nNBFT Security:\n\n", 5);
-    print_list(t, b"\nNBFT Discovery Controllers:\n\n", 6);
+    print_heading(b"NBFT Header:\n\n", Header::ID);
+    print_row(t, Header::ID, 0);
+    print_heading(b"\nNBFT Host:\n\n", Host::ID);
+    print_row(t, Host::ID, 0);
+    print_list(t, b"\nNBFT HFIs:\n\n", Hfi::ID);
+    print_list(t, b"\nNBFT Subsystems:\n\n", Ssns::ID);
+    print_list(t, b"\nNBFT Security:\n\n", Security::ID);
+    print_list(t, b"\nNBFT Discovery Controllers:\n\n", Discovery::ID);
 }

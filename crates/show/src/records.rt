@@ -1,21 +1,25 @@
 // Which records there are: how many a list has, and whether one is used.
 use field_reads::field_in;
+use table::Control;
+use table::Hfi;
+use table::Security;
+use table::Ssns;
 ghost use Rattle.reader.specs.Accepted.{Accepted};
 
 // Where the control record has the count of a kind's list.
 fn count_at(kind: u8) -> usize {
     match kind {
-        3 => 87,
-        4 => 95,
-        5 => 103,
-        _ => 111,
+        Hfi::ID => Control::HFI_COUNT,
+        Ssns::ID => Control::SSNS_COUNT,
+        Security::ID => Control::SECURITY_COUNT,
+        _ => Control::DISCOVERY_COUNT,
     }
 }
 
 pub fn count_of(t: &[u8], kind: u8) -> usize
     requires { ⌜ Accepted (now t) ⌝ }
 {
-    let f = field_in(t, 1, 0, count_at(kind));
+    let f = field_in(t, Control::ID, 0, count_at(kind));
     let b = f.bytes;
     b[0] as usize
 }

@@ -1,4 +1,11 @@
 // What the numbers of an answer mean, in words, and the line that says so.
+use table::Control;
+use table::Discovery;
+use table::Header;
+use table::Hfi;
+use table::Host;
+use table::Security;
+use table::Ssns;
 use text::Text;
 use text::append::empty;
 use text::append::with_byte;
@@ -61,13 +68,13 @@ fn with_kind(t: Text, kind: u8) -> Text
     ensures { λ r. ⌜ (r .len ≤ t .len + 21) × Counts (r .len) (r .bytes) × (take (r .len) (r .bytes) ≡ take (t .len) (t .bytes) ++ ascii (kindOf kind)) ⌝ }
 {
     match kind {
-        0 => with_bytes(t, b"header"),
-        1 => with_bytes(t, b"control"),
-        2 => with_bytes(t, b"host"),
-        3 => with_bytes(t, b"HFI"),
-        4 => with_bytes(t, b"SSNS"),
-        5 => with_bytes(t, b"security"),
-        6 => with_bytes(t, b"discovery"),
+        Header::ID => with_bytes(t, b"header"),
+        Control::ID => with_bytes(t, b"control"),
+        Host::ID => with_bytes(t, b"host"),
+        Hfi::ID => with_bytes(t, b"HFI"),
+        Ssns::ID => with_bytes(t, b"SSNS"),
+        Security::ID => with_bytes(t, b"security"),
+        Discovery::ID => with_bytes(t, b"discovery"),
         _ => with_bytes(t, b"a record with no name"),
     }
 }
