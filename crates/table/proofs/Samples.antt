@@ -1,10 +1,15 @@
--- "Sample tables": K1 to K10, K12 and K13, and further tables, shown of the rules, the meaning and the one form by one statement over one list. Assumes nothing.
+-- "Sample tables": K1 to K10, K12 and K13, and further tables, shown of the rules, the meaning and the one form by one statement over one list; then reads,
+-- rewrites and a short build. Assumes nothing.
+use mathlib.Core.Bool.{true}
 use mathlib.Core.List.{List, [], _∷_, _++_}
 use Prim.Native.Nat.{ℕ}
 use lib.ListN.{take, replicate}
 use lib.Dec.{T}
 use Rattle.table.specs.Bytes.{checksum, splice, Edit, edit, apply}
+use Rattle.table.specs.Builder.{empty}
 use Rattle.table.proofs.Cases.{Case, refused, taken, sheet, fine, allFine}
+use Rattle.table.proofs.Cases.{ReadCase, whole, field, object, denied, found, fineRead, allFineReads, RewriteCase, unwritten, written, fineRewrite, allFineRewrites}
+use Rattle.table.proofs.Cases.{BuildCase, beginning, aHost, finishing, state, halted, stepped, fineBuild, allFineBuilds}
 
 -- with its checksum put right
 abbrev summed : List ℕ → List ℕ
@@ -184,3 +189,49 @@ samples =
 pub samples-fine : T (allFine samples)
 unfolding fine
 samples-fine = tt
+
+-- of K1 its host's flags and name; its host has position 0 alone, and it has no HFI
+abbrev pub readSamples : List ReadCase
+readSamples =
+    found k1 2 0 (field 1) true 0 (1 ∷ [])
+    ∷ found k1 2 0 (object 18) true 160 (0x6E ∷ 0 ∷ [])
+    ∷ denied k1 2 1 (object 18) 16 0 0
+    ∷ denied k1 3 0 whole 16 0 0
+    ∷ []
+
+pub reads-fine : T (allFineReads readSamples)
+unfolding fineRead
+reads-fine = tt
+
+-- K9 becomes K1, where there is room for its 162 bytes; what stands behind stays
+abbrev pub rewriteSamples : List RewriteCase
+rewriteSamples =
+    written (with (edit 152 (5 ∷ []) ∷ [])) (replicate 163 7) 162 (k1 ++ (7 ∷ []))
+    ∷ unwritten k1 (replicate 161 7) 14 0 0
+    ∷ []
+
+pub rewrites-fine : T (allFineRewrites rewriteSamples)
+unfolding fineRewrite
+rewrites-fine = tt
+
+-- K1 before it is finished: no Length, no checksum, no heap length
+abbrev unfinished : List ℕ
+unfinished = apply k1 (edit 4 (0 ∷ []) ∷ edit 9 (0 ∷ []) ∷ edit 40 (0 ∷ []) ∷ [])
+
+-- and before its host is told
+abbrev opened : List ℕ
+opened = apply unfinished (edit 128 (0 ∷ 0 ∷ []) ∷ edit 146 (0 ∷ []) ∷ edit 150 (0 ∷ []) ∷ edit 160 (7 ∷ 7 ∷ []) ∷ [])
+
+-- K1 is built: begin, its host, told with no valid bit, finish; then each call is late
+abbrev pub buildSamples : List BuildCase
+buildSamples =
+    let oem : List ℕ = replicate 26 0 in
+    stepped empty (replicate 162 7) (beginning oem (0 ∷ 0 ∷ 0 ∷ 0 ∷ []) []) (state 2 0 0 0 0 0 160) opened
+    ∷ stepped (state 2 0 0 0 0 0 160) opened (aHost (replicate 32 0) (0x6E ∷ 0 ∷ [])) (state 7 0 0 0 0 0 162) unfinished
+    ∷ stepped (state 7 0 0 0 0 0 162) unfinished finishing (state 8 0 0 0 0 0 162) k1
+    ∷ halted (state 8 0 0 0 0 0 162) k1 finishing 15 0 0
+    ∷ []
+
+pub builds-fine : T (allFineBuilds buildSamples)
+unfolding fineBuild
+builds-fine = tt
