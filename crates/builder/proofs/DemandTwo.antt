@@ -9,10 +9,12 @@ use Rattle.table.specs.declared.State.{State}
 use Rattle.table.specs.Bytes.{pick}
 use Rattle.table.specs.Layout.{baseOf}
 use Rattle.table.specs.FixedLayouts.{host, hfi, ssns, security, discovery, info, extended}
+use Rattle.table.specs.Rules.{answer}
 use Rattle.table.specs.Meaning.{Meaning}
 use Rattle.table.specs.Builder.{Outcome, empty, finish, finished, leave, next, waits}
 use Rattle.laws.specs.Runs.{AllProper, Build, Call, Proper, after, does, finishes, leaves, opens, run, tells, tellsDiscovery, tellsHfi, tellsHost, tellsSecurity, tellsSsns}
 use Rattle.laws.specs.DemandTwo.{Closed, built}
+use Rattle.laws.specs.Refusals.{begin-waits, finished-refuses}
 use Rattle.turns.proofs.Laws.{next-waits}
 use Rattle.filling.specs.Calls.{hostTold, tellHost, hfiTold, tellHfi, pathTold, ssnsTold, tellSsns, securityTold, tellSecurity, discoveryTold, tellDiscovery}
 use Rattle.opening.specs.Begins.{headerTold, beginWith}
@@ -122,6 +124,17 @@ built-by-calls buf m ts z e =
     let r = same-run (record { state = empty; buffer = buf; told = m }) ts in
     subst (λ (x : Build). Closed buf (x .state) (x .buffer) (x .told)) (sym r) (built buf m (callsOf ts) (all-proper ts z) (sym (ap (λ (x : Build). x .state .turn) r) ∙ e))
 
+-- the state that a done begin returns is one that its next call, the host's, takes
+pub begin-taken : (s : State) (b oem : List ℕ) (h n c d : ℕ) (signature : List ℕ) → let o = leavesOf (toBegin oem h n c d signature) s b in
+    o .step .answer .number ≡ 0 → waits (o .step .state) 2 ≡ true
+unfolding beginWith
+begin-taken s b oem h n c d signature = begin-waits s b oem h n c d (headerTold signature)
+
 -- the state that a done call for a record, or for an unused position, returns is one that its next call takes
 pub next-taken : (s : State) (k n : ℕ) → waits s k ≡ true → s .used + n ≤ 65536 → waits (next s n) (next s n .turn) ≡ true
 next-taken = next-waits
+
+-- the state that a done finish returns is one that no call takes: each is 15, whatever is handed to it
+pub finish-taken : (s : State) (b : List ℕ) → leavesOf toFinish s b .step .answer .number ≡ 0
+    → (t : Handed) (b′ : List ℕ) → leavesOf t (leavesOf toFinish s b .step .state) b′ .step .answer ≡ answer 15 0 0
+finish-taken s b e t b′ = ap (λ (o : Outcome). o .step .answer) (same-call t (finish s b .step .state) b′) ∙ finished-refuses s b e (callOf t) b′

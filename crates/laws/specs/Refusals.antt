@@ -4,9 +4,11 @@ use mathlib.Core.Path.{_≡_, refl, sym, subst}
 use mathlib.Core.Logic.{_↔_}
 use mathlib.Core.Bool.{Bool, true, false, not, _&&_, _||_}
 use mathlib.Core.List.{List, [], _∷_}
-use Prim.Native.Nat.{ℕ, zero, suc, _+_}
-use lib.ListN.{length, take, drop}
-use lib.Dec.{T, leb, eqb, eqb·suc-zero}
+use Prim.Native.Nat.{ℕ, zero, suc, _+_, _≤_}
+use native.Mathlib.Omega.{arith}
+use lib.ListN.{length, take, drop, length-replicate}
+use lib.Dec.{T, leb, eqb, leb→le, eqb·suc-zero}
+use borrow.Author.Tests.{le-leb}
 use mir.Facts.{and-yes, yes-and, eqb-no}
 use Rattle.table.specs.declared.Answer.{Answer}
 use Rattle.table.specs.declared.Region.{Region}
@@ -15,13 +17,15 @@ use Rattle.table.specs.declared.Need.the-variants.{Ignored, Optional, Required}
 use Rattle.table.specs.declared.State.{State}
 use Rattle.table.specs.Bytes.{num, pick}
 use Rattle.table.specs.Layout.{Body, Content, Entry, Env, Layout, Refs, Slots, anything, bytes, env, gone, image, isRight, more, namedAt, nest, nil, none, pairsRight, plain, rec, stop, unused, used}
-use Rattle.table.specs.FixedLayouts.{header, host, listKinds}
+use Rattle.table.specs.FixedLayouts.{discovery, header, hfi, host, listKinds, security, ssns}
 use Rattle.table.specs.Objects.{countIn, sizeOf, under, usedIn}
 use Rattle.table.specs.Rules.{Test, answer, bodyRule, done, entryRule, first, firstFail, firstOf, isSound, listRule, reaches, refRule, refsRule, ruled, test, usedRule}
-use Rattle.table.specs.Meaning.{Meaning, formLength, limit, meaning}
+use Rattle.table.specs.Meaning.{Meaning, formLength, heapAt, limit, meaning}
 use Rattle.table.specs.Numbers.{check, driverRule, heapIn, hostRule, records, tests}
 use Rattle.table.specs.Rewriting.{rewriteAnswer}
-use Rattle.table.specs.Builder.{Outcome, begin, countOf, empty, envOf, fill, fillAnswer, finish, finishing, fitsNeed, isShort, leave, mayHave, mayLack, opened, outcome, sameState, sealed, slotsRule, toldImage, toldSlots, waits}
+use Rattle.table.specs.Builder.{Outcome, allUnused, begin, begun, countOf, empty, envOf, fill, fillAnswer, finish, finished, finishing, fitsNeed, isShort, leave, mayHave, mayLack, moved, opened, outcome, recordsEnd, sameState, sealed, slotsRule, toldImage, toldSlots, turn, waits}
+use Rattle.laws.specs.Turns.{end-is}
+use Rattle.laws.specs.Runs.{Call, does, finishes, leaves, opens, tellsDiscovery, tellsHfi, tellsHost, tellsSecurity, tellsSsns}
 use Rattle.laws.specs.TestLaws.{Refuses, fails-first, found, number-pick, oneOf, refuses, unless}
 
 -- ---- tests in order
@@ -256,3 +260,40 @@ pub rewrite-refuses : (t : List ℕ) (space : ℕ) → let n = formLength (meani
     Refuses (rewriteAnswer t space .number) (found readerNumbers (check t .number) ∷ unless 17 (leb n limit) ∷ unless 14 (leb n space) ∷ [])
 unfolding rewriteAnswer
 rewrite-refuses t space = simp number-pick (refuses _ _ refl (alone (check-below t)))
+
+-- ---- the states that begin and finish return
+
+-- the table that begin opens has its heap behind its records
+opened-behind : (oem : List ℕ) (h n c d : ℕ) (sig : Slots (header .refs)) (u : ℕ) → let cs = h ∷ n ∷ c ∷ d ∷ [] in recordsEnd (begun cs u) ≤ formLength (opened oem cs sig)
+unfolding recordsEnd formLength heapAt opened
+opened-behind oem h n c d sig u =
+    let f = simp length-replicate at (end-is 160 (allUnused listKinds (h ∷ n ∷ c ∷ d ∷ []))) in
+    omega (arith, f)
+
+-- The state that a done begin returns is one that its next call, the host's, takes
+pub begin-waits : (s : State) (b oem : List ℕ) (h n c d : ℕ) (sig : Slots (header .refs)) → let o = begin s b oem (h ∷ n ∷ c ∷ d ∷ []) sig in
+    o .step .answer .number ≡ 0 → waits (o .step .state) 2 ≡ true
+unfolding begin waits
+begin-waits s b oem h n c d sig e =
+    let m : ℕ = formLength (opened oem (h ∷ n ∷ c ∷ d ∷ []) sig) in
+    let t = and-yes (sameState s empty) _ (begin-refuses s b oem (h ∷ n ∷ c ∷ d ∷ []) sig .exactly 0 .0 e) .1 in
+    let u = and-yes (leb m limit) _ (and-yes (eqb (slotsRule (env (countOf listKinds (h ∷ n ∷ c ∷ d ∷ [])) 0) [] sig) 0) _ t .1) .0 in
+    let z = rw (outcome-answer _ s _ b _) at e in
+    rw (z, le-leb (recordsEnd (begun (h ∷ n ∷ c ∷ d ∷ []) m)) m (opened-behind oem h n c d sig m), le-leb m limit (leb→le m limit u)) refl
+
+late : (s : State) (c : Call) (b : List ℕ) → does c (moved s (turn finished 0) (s .used)) b .step .answer ≡ answer 15 0 0
+unfolding begin fill fillAnswer leave finish waits host hfi ssns security discovery
+late s (opens oem h n c d signature) b = refl
+late s (tellsHost x told) b = refl
+late s (tellsHfi x told) b = refl
+late s (tellsSsns x told) b = refl
+late s (tellsSecurity x told) b = refl
+late s (tellsDiscovery x told) b = refl
+late s leaves b = refl
+late s finishes b = refl
+
+-- The state that a done finish returns takes no call: each is 15, whatever it is told, in whatever buffer
+pub finished-refuses : (s : State) (b : List ℕ) → finish s b .step .answer .number ≡ 0
+    → (c : Call) (b′ : List ℕ) → does c (finish s b .step .state) b′ .step .answer ≡ answer 15 0 0
+unfolding finish
+finished-refuses s b e c b′ = let z = rw (outcome-answer _ s _ b _) at e in rw z (late s c b′)
