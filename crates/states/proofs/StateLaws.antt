@@ -1,5 +1,5 @@
 -- A builder's state is its 16 bytes, and what a call made with them shows. Assumes nothing.
-use mathlib.Core.Path.{_≡_, refl, ap, _∙_}
+use mathlib.Core.Path.{_≡_, refl, sym, ap, _∙_}
 use mathlib.Core.List.{List, [], _∷_}
 use Prim.Native.Nat.{ℕ, _+_, _*_, _^_, _<_}
 use native.Mathlib.Omega.{arith}
@@ -34,6 +34,11 @@ four-bytes (w ∷ x ∷ y ∷ z ∷ v ∷ b) e = absurd (omega (arith, e))
 pub state-kept : (s : State) → s .turn < 65536 → s .position < 65536 → s .used < 256 ^ 8 → stateOf (stateBytes s) ≡ s
 unfolding stateOf stateBytes
 state-kept s t p u = rw (val-le 2 (s .turn) t, val-le 2 (s .position) p, val-le 8 (s .used) u) refl
+
+-- so no two states have the same bytes
+pub state-same : (s t : State) → s .turn < 65536 → s .position < 65536 → s .used < 256 ^ 8 → t .turn < 65536 → t .position < 65536 → t .used < 256 ^ 8
+    → stateBytes s ≡ stateBytes t → s ≡ t
+state-same s t a b c d e f g = sym (state-kept s a b c) ∙ ap stateOf g ∙ state-kept t d e f
 
 -- a call that is made with the state of the caller's bytes
 pub shown : (f : State → Outcome) (s : State) (before after buffer : List ℕ) (step : Step) (r : ℕ) → s ≡ stateOf before → step ≡ f s .step → buffer ≡ f s .buffer
