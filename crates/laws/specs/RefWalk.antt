@@ -18,7 +18,7 @@ use Rattle.table.specs.Objects.{under}
 use Rattle.table.specs.Rules.{firstOf, isSound, nestRule, plainRule, reaches, refRule, refsRule, ruled}
 use Rattle.table.specs.Reads.{needAt}
 use Rattle.laws.specs.Lawful.{allKeep, okKeep}
-use Rattle.laws.specs.Refusals.{asks-none, here}
+use Rattle.laws.specs.Refusals.{asks-none}
 use Rattle.laws.specs.Fields.{image-part, num-part}
 
 -- the rule of the reference at q

@@ -1,15 +1,14 @@
 -- Demand 2, last sentence: the builder and the rewriter refuse for the numbered causes alone; each number is given exactly when its cause is the first that holds (`Refuses`).
 -- Assumes nothing.
 use mathlib.Core.Path.{_≡_, refl, sym, subst}
-use mathlib.Core.Logic.{_↔_}
-use mathlib.Core.Bool.{Bool, true, false, not, _&&_, _||_}
+use mathlib.Core.Bool.{Bool, true, false, _&&_, _||_}
 use mathlib.Core.List.{List, [], _∷_}
 use Prim.Native.Nat.{ℕ, zero, suc, _+_, _≤_}
 use native.Mathlib.Omega.{arith}
 use lib.ListN.{length, take, drop, length-replicate}
 use lib.Dec.{T, leb, eqb, leb→le, eqb·suc-zero}
 use borrow.Author.Tests.{le-leb}
-use mir.Facts.{and-yes, yes-and, eqb-no}
+use mir.Facts.{and-yes, yes-and}
 use Rattle.table.specs.declared.Answer.{Answer}
 use Rattle.table.specs.declared.Region.{Region}
 use Rattle.table.specs.declared.Need.{Need}
@@ -19,36 +18,15 @@ use Rattle.table.specs.Bytes.{num, pick}
 use Rattle.table.specs.Layout.{Body, Content, Entry, Env, Layout, Refs, Slots, anything, bytes, env, gone, image, isRight, more, namedAt, nest, nil, none, pairsRight, plain, rec, stop, unused, used}
 use Rattle.table.specs.FixedLayouts.{discovery, header, hfi, host, listKinds, security, ssns}
 use Rattle.table.specs.Objects.{countIn, sizeOf, under, usedIn}
-use Rattle.table.specs.Rules.{Test, answer, bodyRule, done, entryRule, first, firstFail, firstOf, isSound, listRule, reaches, refRule, refsRule, ruled, test, usedRule}
+use Rattle.table.specs.Rules.{Test, answer, bodyRule, done, entryRule, first, firstFail, firstOf, isSound, listRule, reaches, refRule, refsRule, ruled, usedRule}
 use Rattle.table.specs.Meaning.{Meaning, formLength, heapAt, limit, meaning}
 use Rattle.table.specs.Numbers.{check, driverRule, heapIn, hostRule, records, tests}
 use Rattle.table.specs.Rewriting.{rewriteAnswer}
-use Rattle.table.specs.Builder.{Outcome, allUnused, begin, begun, countOf, empty, envOf, fill, fillAnswer, finish, finished, finishing, fitsNeed, isShort, leave, mayHave, mayLack, moved, opened, outcome, recordsEnd, sameState, sealed, slotsRule, toldImage, toldSlots, turn, waits}
+use Rattle.table.specs.Builder.{Outcome, allUnused, begin, begun, countOf, empty, envOf, fill, fillAnswer, finish, finished, finishing, fitsNeed, isShort}
+use Rattle.table.specs.Builder.{leave, mayHave, mayLack, moved, opened, outcome, recordsEnd, sameState, sealed, slotsRule, toldImage, toldSlots, turn, waits}
 use Rattle.laws.specs.Turns.{end-is}
 use Rattle.laws.specs.Runs.{Call, does, finishes, leaves, opens, tellsDiscovery, tellsHfi, tellsHost, tellsSecurity, tellsSsns}
 use Rattle.laws.specs.TestLaws.{Refuses, fails-first, found, number-pick, oneOf, refuses, unless}
-
--- ---- tests in order
-
--- no test, and not `done`, gives the number n
-abbrev lacks : ℕ → List Test → Bool
-lacks n [] = not (eqb 0 n)
-lacks n (x ∷ xs) = not (eqb (x .gives .number) n) && lacks n xs
-
-lacks-no : (n : ℕ) (xs : List Test) → T (lacks n xs) → firstFail xs .number ≡ n → ⊥
-lacks-no n [] t e = eqb-no {a = 0} {b = n} t e
-lacks-no n (x ∷ xs) t e =
-    let u = and-yes (not (eqb (x .gives .number) n)) (lacks n xs) t in
-    go (x .holds) e (λ f. lacks-no n xs (u .1) f)
-  where
-    go : (c : Bool) → pick c (firstFail xs) (x .gives) .number ≡ n → (firstFail xs .number ≡ n → ⊥) → ⊥
-    go true f g = g f
-    go false f g = eqb-no {a = x .gives .number} {b = n} (and-yes (not (eqb (x .gives .number) n)) (lacks n xs) t .0) f
-
--- the first test gives its number exactly when it fails
-pub here : (c : Bool) (n k i : ℕ) (xs : List Test) → T (lacks n xs) → (firstFail (test c n k i ∷ xs) .number ≡ n) ↔ T (not c)
-here true n k i xs t = (λ e. lacks-no n xs t e, λ f. absurd f)
-here false n k i xs t = (λ e. tt, λ f. refl)
 
 -- ---- the numbers of objects and of the reader
 
@@ -281,6 +259,7 @@ begin-waits s b oem h n c d sig e =
     let z = rw (outcome-answer _ s _ b _) at e in
     rw (z, le-leb (recordsEnd (begun (h ∷ n ∷ c ∷ d ∷ []) m)) m (opened-behind oem h n c d sig m), le-leb m limit (leb→le m limit u)) refl
 
+-- no call is in turn behind finish
 late : (s : State) (c : Call) (b : List ℕ) → does c (moved s (turn finished 0) (s .used)) b .step .answer ≡ answer 15 0 0
 unfolding begin fill fillAnswer leave finish waits host hfi ssns security discovery
 late s (opens oem h n c d signature) b = refl
