@@ -27,7 +27,7 @@ fn security_index(t: &[u8], a: usize) -> u8
     requires { ⌜ LaidOut (now t) × (a + 128 ≤ length (now t)) ⌝ }
     ensures { λ r. ⌜ r ≡ securityIndex (now (t .entry)) a ⌝ }
 {
-    if records::ssns_flags(t, a) / 4 % 2 == 0 {
+    if flags::ssns_flags(t, a) / 4 % 2 == 0 {
         return 0;
     }
     index_fault(t, 5, wire::wide(t[a + 45]))

@@ -1,5 +1,5 @@
 // Which references of a record count: required, optional, or ignored under its flags.
-use records::security_flags;
+use flags::security_flags;
 use table::Need;
 ghost use mathlib.Core.Path.{_≡_};
 ghost use Prim.Native.Nat.{_+_, _≤_};

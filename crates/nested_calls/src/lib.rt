@@ -3,7 +3,7 @@
 use filling::sizes::both;
 use filling::sizes::nested_sizes;
 use filling::sizes::only_nested;
-use records::ssns_flags;
+use flags::ssns_flags;
 use steps::judging::judged;
 use steps::judging::refused;
 use steps::laying::lay_told;

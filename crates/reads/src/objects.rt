@@ -61,7 +61,7 @@ fn object_need(t: &[u8], kind: u8, a: usize, off: usize) -> Need
     ensures { λ r. ⌜ r ≡ needAt off (layoutOf kind .refs) (imageIn (layoutOf kind) (now (t .entry)) a) ⌝ }
 {
     match kind {
-        4 => needs::ssns_need(records::ssns_flags(t, a), off),
+        4 => needs::ssns_need(flags::ssns_flags(t, a), off),
         5 => needs::security_need(t, a, off),
         7 => Need::Optional,
         9 => Need::Optional,

@@ -1,5 +1,5 @@
 // Where a record stands. Lists hold theirs one behind the other; a heap record stands where its owner's reference says.
-use records::ssns_flags;
+use flags::ssns_flags;
 use table::Control;
 use table::Discovery;
 use table::Extended;

@@ -2,7 +2,7 @@
 use mathlib.Core.Path.{_≡_, refl, sym, ap, ap₂, _∙_}
 use mathlib.Core.Bool.{Bool, true, false, not, _&&_}
 use mathlib.Core.List.{List, [], _∷_}
-use Prim.Native.Nat.{ℕ, _+_, _*_, _/_, _%_}
+use Prim.Native.Nat.{ℕ, _+_, _/_, _%_}
 use native.Mathlib.Nat.{add-zero}
 use native.Mathlib.Omega.{arith}
 use lib.ListN.{length, getD, drop}
@@ -63,26 +63,6 @@ right-at l t a pos k =
 module _ (t : List ℕ) (a pos : ℕ) (b : Bytes t) where
   at0 : getD t (a + 0) 0 ≡ getD t a 0
   at0 = ap (λ (m : ℕ). getD t m 0) (add-zero a)
-
-  pub ssns-flags : num (imageIn ssns t a) 3 2 ≡ getD t (a + 3) 0 + 256 * (getD t (a + 4) 0 % 2)
-  unfolding imageIn ssns
-  ssns-flags =
-      let x = image (ssns .shape .keep) (drop a t) in
-      let e3 = whole (ssns .shape .keep) t a 3 tt refl (b (a + 3)) in
-      let e4 = masked (ssns .shape .keep) t a 4 2 tt refl in
-      omega (arith, two-bytes x 3, e3, e4)
-
-  pub security-flags : num (imageIn security t a) 2 2 ≡ getD t (a + 2) 0 + 256 * (getD t (a + 3) 0 % 16)
-  unfolding imageIn security
-  security-flags =
-      let x = image (security .shape .keep) (drop a t) in
-      let e2 = whole (security .shape .keep) t a 2 tt refl (b (a + 2)) in
-      let e3 = masked (security .shape .keep) t a 3 16 tt refl in
-      omega (arith, two-bytes x 2, e2, e3)
-
-  pub security-secret : num (imageIn security t a) 4 1 ≡ getD t (a + 4) 0 % 2
-  unfolding imageIn security
-  security-secret = one-byte (image (security .shape .keep) (drop a t)) 4 ∙ masked (security .shape .keep) t a 4 2 tt refl
 
   pub host-right : pick (hostRight (getD t a 0) 0 (getD t (a + 1) 0 % 32) pos) 0 10 ≡ rightRule 2 t a pos
   unfolding hostRight rightRule layoutOf host imageIn

@@ -2,10 +2,9 @@
 ghost use mathlib.Core.Path.{_≡_};
 ghost use Prim.Native.Nat.{_+_, _≤_};
 ghost use lib.ListN.{length};
-ghost use Rattle.table.specs.Bytes.{pick, num};
+ghost use Rattle.table.specs.Bytes.{pick};
 ghost use Rattle.table.specs.Layout.{baseOf};
-ghost use Rattle.table.specs.FixedLayouts.{layoutOf, ssns, security};
-ghost use Rattle.laws.specs.Fields.{imageIn};
+ghost use Rattle.table.specs.FixedLayouts.{layoutOf};
 ghost use Rattle.records.specs.Records.{rightRule, hostRight, hfiRight, ssnsRight, securityRight, discoveryRight};
 
 fn host_judge(id: u8, index: usize, flags: usize, position: usize) -> u8
@@ -115,32 +114,21 @@ fn ssns_right(t: &[u8], a: usize, position: usize) -> u8
         t[a],
         t[a + 5],
         wire::u16_at(t, a + 1),
-        ssns_flags(t, a),
+        flags::ssns_flags(t, a),
         position,
     )
-}
-
-// Nine bits count.
-pub fn ssns_flags(t: &[u8], a: usize) -> usize
-    requires { ⌜ a + 128 ≤ length (now t) ⌝ }
-    ensures { λ r. ⌜ r ≡ num (imageIn ssns (now (t .entry)) a) 3 2 ⌝ }
-{
-    wire::wide(t[a + 3]) + 256 * wire::wide(t[a + 4] % 2)
 }
 
 fn security_right(t: &[u8], a: usize, position: usize) -> u8
     requires { ⌜ a + 64 ≤ length (now t) ⌝ }
     ensures { λ r. ⌜ r ≡ rightRule 5 (now (t .entry)) a position ⌝ }
 {
-    security_judge(t[a], wire::wide(t[a + 1]), security_flags(t, a), position)
-}
-
-// Twelve bits count.
-pub fn security_flags(t: &[u8], a: usize) -> usize
-    requires { ⌜ a + 64 ≤ length (now t) ⌝ }
-    ensures { λ r. ⌜ r ≡ num (imageIn security (now (t .entry)) a) 2 2 ⌝ }
-{
-    wire::wide(t[a + 2]) + 256 * wire::wide(t[a + 3] % 16)
+    security_judge(
+        t[a],
+        wire::wide(t[a + 1]),
+        flags::security_flags(t, a),
+        position,
+    )
 }
 
 fn discovery_right(t: &[u8], a: usize, position: usize) -> u8

@@ -1,9 +1,9 @@
 // The rules of a record's references: each by kind and offset, with the heap record that it refers to. The heap is lent as a part of the table,
 // a heap record as a part of the heap.
+use flags::ssns_flags;
 use needs::plain_need;
 use needs::security_need;
 use needs::ssns_need;
-use records::ssns_flags;
 use references::Ref;
 use references::plain_fault;
 use references::ref_at;

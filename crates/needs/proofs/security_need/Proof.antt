@@ -2,7 +2,7 @@ use Rattle.table.specs.FixedLayouts.{security}
 use Rattle.laws.specs.Fields.{imageIn}
 use native.Mathlib.Omega.{arith}
 use Rattle.needs.proofs.Laws.{security-need}
-use Rattle.records.proofs.Laws.{security-secret}
+use Rattle.flags.proofs.Laws.{security-secret}
 use borrow.Author.Needs.{needs}
 use Rattle.needs.proofs.security_need.Statement.{statement}
 use Rattle.needs.proofs.security_need.Tie as tie
@@ -23,7 +23,7 @@ security-judge-requires : tie.Need-security-judge-requires
 security-judge-requires c κs = search needs
 
 returns : tie.Need-returns
-returns c = rw (← security-need (imageIn security (c .before .before .before .before .before .args .t .now) (c .before .before .before .before .before .args .a)) (c .before .before .before .before .before .args .off), security-secret (c .before .before .before .before .before .args .t .now) (c .before .before .before .before .before .args .a) 0 (λ i. omega (arith, c .before .before .before .before .shared-slice-known .given i))) (cc)
+returns c = rw (← security-need (imageIn security (c .before .before .before .before .before .args .t .now) (c .before .before .before .before .before .args .a)) (c .before .before .before .before .before .args .off), security-secret (c .before .before .before .before .before .args .t .now) (c .before .before .before .before .before .args .a)) (cc)
 
 pub security-need-spec : {M : Type 1} → statement M
 security-need-spec =
