@@ -15,7 +15,7 @@ use Rattle.laws.specs.Fields.{Bytes, masked, whole, two-bytes}
 use Rattle.laws.specs.ImageLaws.{length-image}
 use Rattle.laws.specs.RefWalk.{partRule}
 use Rattle.heap_records.specs.HeapRecords.{spot, infoSound, extendedSound}
-use Rattle.records.proofs.Laws.{right-chain}
+use Rattle.laws.specs.FieldTests.{right-chain}
 
 module _ (x : List ℕ) (pos : ℕ) (b : Bytes x) where
   pub info-sound : infoSound (getD x 6 0 % 8) (getD x 0 0) (getD x 1 0) (getD x 2 0) (getD x 3 0) (num x 4 2) pos ≡ isSound (info .shape) (spot pos) (image (info .shape .keep) x)

@@ -26,6 +26,7 @@ pub mod DemandTwo
 pub mod Refusals
 pub mod Looked
 pub mod Fields
+pub mod FieldTests
 pub mod RefWalk
 pub mod ListWalk
 pub mod Positions

@@ -1,10 +1,10 @@
--- The rule of a record's own fields by the numbers that code reads from it: 10 where one is wrong. Definitions only.
-use mathlib.Core.Bool.{Bool, true, not, _&&_}
+-- The rule of a record's own fields: 10 where one is wrong; and its part without the two-bit fields, by what code reads. Definitions only.
+use mathlib.Core.Bool.{Bool, _&&_}
 use mathlib.Core.List.{List}
-use Prim.Native.Nat.{ℕ, _/_, _%_}
+use Prim.Native.Nat.{ℕ}
 use lib.Dec.{eqb}
-use Rattle.table.specs.Bytes.{pick}
-use Rattle.table.specs.Layout.{isRight}
+use Rattle.table.specs.Bytes.{pick, num}
+use Rattle.table.specs.Layout.{Shape, fixedRight, isRight}
 use Rattle.table.specs.FixedLayouts.{layoutOf}
 use Rattle.laws.specs.Fields.{imageIn}
 use Rattle.laws.specs.ListWalk.{envIn}
@@ -12,21 +12,12 @@ use Rattle.laws.specs.ListWalk.{envIn}
 unfoldable pub rightRule : ℕ → List ℕ → ℕ → ℕ → ℕ
 rightRule k t a pos = pick (isRight (layoutOf k .shape) (envIn t pos) (imageIn (layoutOf k) t a)) 0 10
 
-abbrev notThree : ℕ → Bool
-notThree n = not (eqb (n % 4) 3)
+-- ID, type and index of a record's image
+abbrev pub namedIn : Shape → List ℕ → ℕ → Bool
+namedIn s img pos = fixedRight (s .fixed) img && eqb (num img (s .index .at) (s .index .len)) pos
 
-unfoldable pub hostRight : ℕ → ℕ → ℕ → ℕ → Bool
-hostRight id index flags pos = eqb id 2 && (eqb index pos && (notThree (flags / 8) && true))
+unfoldable pub namedRule : ℕ → List ℕ → ℕ → ℕ → ℕ
+namedRule k t a pos = pick (namedIn (layoutOf k .shape) (imageIn (layoutOf k) t a) pos) 0 10
 
-unfoldable pub hfiRight : ℕ → ℕ → ℕ → ℕ → Bool
-hfiRight id kind index pos = eqb id 3 && (eqb kind 3 && (eqb index pos && true))
-
-unfoldable pub ssnsRight : ℕ → ℕ → ℕ → ℕ → ℕ → Bool
-ssnsRight id kind index flags pos = eqb id 4 && (eqb kind 3 && (eqb index pos && (notThree (flags / 128) && true)))
-
-unfoldable pub securityRight : ℕ → ℕ → ℕ → ℕ → Bool
-securityRight id index flags pos =
-    eqb id 5 && (eqb index pos && (notThree (flags / 2) && (notThree (flags / 8) && (notThree (flags / 32) && (notThree (flags / 128) && true)))))
-
-unfoldable pub discoveryRight : ℕ → ℕ → ℕ → Bool
-discoveryRight id index pos = eqb id 6 && (eqb index pos && true)
+unfoldable pub isNamed : ℕ → ℕ → ℕ → ℕ → ℕ → Bool
+isNamed kind id transport index pos = eqb id kind && (eqb transport 3 && eqb index pos)

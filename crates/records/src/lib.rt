@@ -1,88 +1,28 @@
 // A record's own fields: ID, type, index and two-bit fields. Reserved bits are taken off as the bytes are read.
+use table::Discovery;
+use table::Hfi;
+use table::Host;
+use table::Security;
+use table::Ssns;
 ghost use mathlib.Core.Path.{_≡_};
 ghost use Prim.Native.Nat.{_+_, _≤_};
 ghost use lib.ListN.{length};
 ghost use Rattle.table.specs.Bytes.{pick};
 ghost use Rattle.table.specs.Layout.{baseOf};
 ghost use Rattle.table.specs.FixedLayouts.{layoutOf};
-ghost use Rattle.records.specs.Records.{rightRule, hostRight, hfiRight, ssnsRight, securityRight, discoveryRight};
+ghost use Rattle.records.specs.Records.{isNamed, namedRule, rightRule};
 
-fn host_judge(id: u8, index: usize, flags: usize, position: usize) -> u8
-    ensures { λ r. ⌜ r ≡ pick (hostRight id index flags position) 0 10 ⌝ }
-{
-    if id != 2 {
-        return 10;
-    }
-    if index != position {
-        return 10;
-    }
-    if flags / 8 % 4 == 3 {
-        return 10;
-    }
-    0
-}
+// The one transport type that there is.
+const TCP: u8 = 3;
 
-fn hfi_judge(id: u8, kind: u8, index: usize, position: usize) -> u8
-    ensures { λ r. ⌜ r ≡ pick (hfiRight id kind index position) 0 10 ⌝ }
+// ID, type and index, by what was read. For a kind without type or index the right one is handed over.
+fn named(kind: u8, id: u8, transport: u8, index: usize, position: usize) -> u8
+    ensures { λ r. ⌜ r ≡ pick (isNamed kind id transport index position) 0 10 ⌝ }
 {
-    if id != 3 {
+    if id != kind {
         return 10;
     }
-    if kind != 3 {
-        return 10;
-    }
-    if index != position {
-        return 10;
-    }
-    0
-}
-
-fn ssns_judge(id: u8, kind: u8, index: usize, flags: usize, position: usize) -> u8
-    ensures { λ r. ⌜ r ≡ pick (ssnsRight id kind index flags position) 0 10 ⌝ }
-{
-    if id != 4 {
-        return 10;
-    }
-    if kind != 3 {
-        return 10;
-    }
-    if index != position {
-        return 10;
-    }
-    if flags / 128 % 4 == 3 {
-        return 10;
-    }
-    0
-}
-
-fn security_judge(id: u8, index: usize, flags: usize, position: usize) -> u8
-    ensures { λ r. ⌜ r ≡ pick (securityRight id index flags position) 0 10 ⌝ }
-{
-    if id != 5 {
-        return 10;
-    }
-    if index != position {
-        return 10;
-    }
-    if flags / 2 % 4 == 3 {
-        return 10;
-    }
-    if flags / 8 % 4 == 3 {
-        return 10;
-    }
-    if flags / 32 % 4 == 3 {
-        return 10;
-    }
-    if flags / 128 % 4 == 3 {
-        return 10;
-    }
-    0
-}
-
-fn discovery_judge(id: u8, index: usize, position: usize) -> u8
-    ensures { λ r. ⌜ r ≡ pick (discoveryRight id index position) 0 10 ⌝ }
-{
-    if id != 6 {
+    if transport != TCP {
         return 10;
     }
     if index != position {
@@ -92,50 +32,52 @@ fn discovery_judge(id: u8, index: usize, position: usize) -> u8
 }
 
 // The host has no index; it stands at position 0.
-fn host_right(t: &[u8], a: usize, position: usize) -> u8
+fn host_named(t: &[u8], a: usize, position: usize) -> u8
     requires { ⌜ a + 32 ≤ length (now t) ⌝ }
-    ensures { λ r. ⌜ r ≡ rightRule 2 (now (t .entry)) a position ⌝ }
+    ensures { λ r. ⌜ r ≡ namedRule 2 (now (t .entry)) a position ⌝ }
 {
-    host_judge(t[a], 0, wire::wide(t[a + 1] % 32), position)
+    named(Host::ID, t[a], TCP, 0, position)
 }
 
-fn hfi_right(t: &[u8], a: usize, position: usize) -> u8
+fn hfi_named(t: &[u8], a: usize, position: usize) -> u8
     requires { ⌜ a + 32 ≤ length (now t) ⌝ }
-    ensures { λ r. ⌜ r ≡ rightRule 3 (now (t .entry)) a position ⌝ }
+    ensures { λ r. ⌜ r ≡ namedRule 3 (now (t .entry)) a position ⌝ }
 {
-    hfi_judge(t[a], t[a + 3], wire::wide(t[a + 1]), position)
+    named(Hfi::ID, t[a], t[a + 3], wire::wide(t[a + 1]), position)
 }
 
-fn ssns_right(t: &[u8], a: usize, position: usize) -> u8
+fn ssns_named(t: &[u8], a: usize, position: usize) -> u8
     requires { ⌜ a + 128 ≤ length (now t) ⌝ }
-    ensures { λ r. ⌜ r ≡ rightRule 4 (now (t .entry)) a position ⌝ }
+    ensures { λ r. ⌜ r ≡ namedRule 4 (now (t .entry)) a position ⌝ }
 {
-    ssns_judge(
-        t[a],
-        t[a + 5],
-        wire::u16_at(t, a + 1),
-        flags::ssns_flags(t, a),
-        position,
-    )
+    named(Ssns::ID, t[a], t[a + 5], wire::u16_at(t, a + 1), position)
 }
 
-fn security_right(t: &[u8], a: usize, position: usize) -> u8
+fn security_named(t: &[u8], a: usize, position: usize) -> u8
     requires { ⌜ a + 64 ≤ length (now t) ⌝ }
-    ensures { λ r. ⌜ r ≡ rightRule 5 (now (t .entry)) a position ⌝ }
+    ensures { λ r. ⌜ r ≡ namedRule 5 (now (t .entry)) a position ⌝ }
 {
-    security_judge(
-        t[a],
-        wire::wide(t[a + 1]),
-        flags::security_flags(t, a),
-        position,
-    )
+    named(Security::ID, t[a], TCP, wire::wide(t[a + 1]), position)
 }
 
-fn discovery_right(t: &[u8], a: usize, position: usize) -> u8
+fn discovery_named(t: &[u8], a: usize, position: usize) -> u8
     requires { ⌜ a + 32 ≤ length (now t) ⌝ }
-    ensures { λ r. ⌜ r ≡ rightRule 6 (now (t .entry)) a position ⌝ }
+    ensures { λ r. ⌜ r ≡ namedRule 6 (now (t .entry)) a position ⌝ }
 {
-    discovery_judge(t[a], wire::wide(t[a + 2]), position)
+    named(Discovery::ID, t[a], TCP, wire::wide(t[a + 2]), position)
+}
+
+fn named_fault(t: &[u8], kind: u8, a: usize, position: usize) -> u8
+    requires { ⌜ (2 ≤ kind) × (kind ≤ 6) × (a + baseOf (layoutOf kind) ≤ length (now t)) ⌝ }
+    ensures { λ r. ⌜ r ≡ namedRule kind (now (t .entry)) a position ⌝ }
+{
+    match kind {
+        Host::ID => host_named(t, a, position),
+        Hfi::ID => hfi_named(t, a, position),
+        Ssns::ID => ssns_named(t, a, position),
+        Security::ID => security_named(t, a, position),
+        _ => discovery_named(t, a, position),
+    }
 }
 
 // The rule of the fields of the record at `a`, host or one of a list: 0 or 10.
@@ -143,11 +85,13 @@ pub fn right_fault(t: &[u8], kind: u8, a: usize, position: usize) -> u8
     requires { ⌜ (2 ≤ kind) × (kind ≤ 6) × (a + baseOf (layoutOf kind) ≤ length (now t)) ⌝ }
     ensures { λ r. ⌜ r ≡ rightRule kind (now (t .entry)) a position ⌝ }
 {
-    match kind {
-        2 => host_right(t, a, position),
-        3 => hfi_right(t, a, position),
-        4 => ssns_right(t, a, position),
-        5 => security_right(t, a, position),
-        _ => discovery_right(t, a, position),
+    let fault = named_fault(t, kind, a, position);
+    if fault != 0 {
+        return fault;
+    }
+    if flags::pairs_right(t, kind, a) {
+        0
+    } else {
+        10
     }
 }

@@ -1,55 +1,24 @@
-use mathlib.Core.Path.{_≡_}
-use native.Mathlib.Omega.{arith}
-use Rattle.table.specs.FixedLayouts.{layoutOf, host, hfi, ssns, security, discovery}
+use Rattle.records.proofs.Laws.{right-is}
+use Rattle.table.proofs.Rules.{picks}
+use borrow.Author.Needs.{needs}
 use Rattle.records.proofs.right_fault.Statement.{statement}
 use Rattle.records.proofs.right_fault.Tie as tie
 
-host-right-requires : tie.Need-host-right-requires
-unfolding layoutOf host
-host-right-requires c κs = rw (c .match .keys1) at (c .before .before .pre .2)
-
-hfi-right-requires : tie.Need-hfi-right-requires
-unfolding layoutOf hfi
-hfi-right-requires c κs = rw (c .match .keys2) at (c .before .before .pre .2)
-
-ssns-right-requires : tie.Need-ssns-right-requires
-unfolding layoutOf ssns
-ssns-right-requires c κs = rw (c .match .keys3) at (c .before .before .pre .2)
-
-security-right-requires : tie.Need-security-right-requires
-unfolding layoutOf security
-security-right-requires c κs = rw (c .match .keys4) at (c .before .before .pre .2)
-
-discovery-right-requires : tie.Need-discovery-right-requires
-unfolding layoutOf discovery
-discovery-right-requires c κs = let k : c .before .before .args .kind ≡ 6 = omega (arith, c .match .rest, c .before .before .pre) in rw k at (c .before .before .pre .2)
+named-fault-requires : tie.Need-named-fault-requires
+named-fault-requires c κs = search needs
 
 returns : tie.Need-returns
-returns c = rw (c .before .match .keys1) (c .host-right .ensures)
+returns c = rw (← right-is (c .before .before .before .args .kind) (c .before .before .before .args .t .now) (c .before .before .before .args .a) (c .before .before .before .args .position), ← c .before .named-fault .ensures) (search picks)
+
+pairs-right-requires : tie.Need-pairs-right-requires
+pairs-right-requires c κs = search needs
 
 returns-2 : tie.Need-returns-2
-returns-2 c = rw (c .before .match .keys2) (c .hfi-right .ensures)
+returns-2 c = rw (← right-is (c .before .before .before .before .before .args .kind) (c .before .before .before .before .before .args .t .now) (c .before .before .before .before .before .args .a) (c .before .before .before .before .before .args .position), ← c .before .before .before .named-fault .ensures, ← c .before .pairs-right .ensures, c .if2 .taken) (search picks)
 
 returns-3 : tie.Need-returns-3
-returns-3 c = rw (c .before .match .keys3) (c .ssns-right .ensures)
-
-returns-4 : tie.Need-returns-4
-returns-4 c = rw (c .before .match .keys4) (c .security-right .ensures)
-
-returns-5 : tie.Need-returns-5
-returns-5 c = let k : c .before .before .before .args .kind ≡ 6 = omega (arith, c .before .match .rest, c .before .before .before .pre) in rw k (c .discovery-right .ensures)
+returns-3 c = rw (← right-is (c .before .before .before .before .before .args .kind) (c .before .before .before .before .before .args .t .now) (c .before .before .before .before .before .args .a) (c .before .before .before .before .before .args .position), ← c .before .before .before .named-fault .ensures, ← c .before .pairs-right .ensures, c .if2 .left) (search picks)
 
 pub right-fault-spec : {M : Type 1} → statement M
 right-fault-spec =
-    tie.close
-    (tie.spec
-    host-right-requires
-    hfi-right-requires
-    ssns-right-requires
-    security-right-requires
-    discovery-right-requires
-    returns
-    returns-2
-    returns-3
-    returns-4
-    returns-5)
+    tie.close (tie.spec named-fault-requires returns pairs-right-requires returns-2 returns-3)
