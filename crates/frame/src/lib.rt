@@ -1,11 +1,11 @@
 // Tests 1 to 9: header and control record are read once and then judged.
 use head::Entry;
 use head::Head;
-use judging::SHORTEST;
 use judging::judge;
 use judging::size_fault;
 use regions::misplaced_regions;
 use table::Answer;
+use table::SHORTEST;
 ghost use mathlib.Core.Path.{_≡_};
 ghost use Prim.Native.Nat.{_≤_};
 ghost use Rattle.table.specs.Rules.{firstFail};
@@ -80,7 +80,7 @@ fn control_wrong(h: Head) -> usize
     if h.controlminor != 0 {
         return 1;
     }
-    if csl < 64 {
+    if csl < table::Control::SIZE {
         return 1;
     }
     if h.size < table::Header::SIZE + csl {

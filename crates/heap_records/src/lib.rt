@@ -1,4 +1,7 @@
 // Heap records by their own bytes: the transport info of an HFI and the extended info of an SSNS.
+use kinds::TCP;
+use table::Extended;
+use table::Info;
 use table::Need;
 ghost use mathlib.Core.Path.{_≡_};
 ghost use Prim.Native.Nat.{_+_, _<_};
@@ -22,13 +25,13 @@ fn info_judge(
     if flags % 2 != 1 {
         return 12;
     }
-    if id != 7 {
+    if id != Info::ID {
         return 12;
     }
     if version != 1 {
         return 12;
     }
-    if kind != 3 {
+    if kind != TCP {
         return 12;
     }
     if tversion != 1 {
@@ -46,7 +49,7 @@ fn extended_judge(flags: u8, id: u8, version: u8, index: usize, position: usize)
     if flags % 2 != 1 {
         return 12;
     }
-    if id != 9 {
+    if id != Extended::ID {
         return 12;
     }
     if version != 1 {
@@ -63,7 +66,7 @@ pub fn info_fault(x: &[u8], position: usize, from: usize, n: usize) -> u8
     requires { ⌜ from + n < 8589934592 ⌝ }
     ensures { λ r. ⌜ r ≡ partRule (region from n) (spot position) (info .shape) 104 (now (x .entry)) ⌝ }
 {
-    if x.len() < table::Info::SIZE {
+    if x.len() < Info::SIZE {
         return 12;
     }
     let fault = info_judge(
@@ -86,7 +89,7 @@ pub fn extended_fault(x: &[u8], position: usize, from: usize, n: usize) -> u8
     requires { ⌜ from + n < 8589934592 ⌝ }
     ensures { λ r. ⌜ r ≡ partRule (region from n) (spot position) (extended .shape) 12 (now (x .entry)) ⌝ }
 {
-    if x.len() < table::Extended::SIZE {
+    if x.len() < Extended::SIZE {
         return 12;
     }
     let fault = extended_judge(x[4] % 4, x[0], x[1], wire::u16_at(x, 2), position);

@@ -1,5 +1,10 @@
 // Indexes: each names a position of a list, whose record must be valid. Only the valid bit is looked at here; the record's own turn finds its other faults.
 use references::Ref;
+use table::Control;
+use table::Discovery;
+use table::Hfi;
+use table::Security;
+use table::Ssns;
 ghost use mathlib.Core.Path.{_≡_};
 ghost use Prim.Native.Nat.{_+_, _*_, _≤_, _<_};
 ghost use lib.ListN.{length, getD};
@@ -48,10 +53,15 @@ pub fn valid_at(t: &[u8], kind: u8, n: usize) -> bool
     ensures { λ r. ⌜ r ≡ validIn (now (t .entry)) kind n ⌝ }
 {
     match kind {
-        3 => valid_in(t, 80, 2, n),
-        4 => valid_in(t, 88, 3, n),
-        5 => valid_in(t, 96, 2, n),
-        6 => valid_in(t, 104, 1, n),
+        Hfi::ID => valid_in(t, Control::HFI_LIST, kinds::flags_at(Hfi::ID), n),
+        Ssns::ID => valid_in(t, Control::SSNS_LIST, kinds::flags_at(Ssns::ID), n),
+        Security::ID => valid_in(t, Control::SECURITY_LIST, kinds::flags_at(Security::ID), n),
+        Discovery::ID => valid_in(
+            t,
+            Control::DISCOVERY_LIST,
+            kinds::flags_at(Discovery::ID),
+            n,
+        ),
         _ => false,
     }
 }
@@ -81,7 +91,7 @@ fn secondaries_fault(x: &[u8], t: &[u8]) -> u8
 {
     let mut i: usize = 0;
     while i < x.len() {
-        let fault = index_fault(t, 3, wire::wide(x[i]));
+        let fault = index_fault(t, Hfi::ID, wire::wide(x[i]));
         if fault != 0 {
             return fault;
         }

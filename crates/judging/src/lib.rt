@@ -1,16 +1,12 @@
 // Tests 2 to 4 and 6 to 9 by what was read and counted: the first fault wins.
 use table::Answer;
+use table::Control;
+use table::LIMIT;
+use table::SHORTEST;
+use table::SIGNATURE;
 ghost use mathlib.Core.Path.{_≡_};
 ghost use Rattle.table.specs.Rules.{firstFail};
 ghost use Rattle.judging.specs.Judging.{sizeTests, judged};
-
-// The bytes 4E 42 46 54 as a number.
-const SIGNATURE: usize = 1413890638;
-
-// Header, control record and the shortest host record.
-pub const SHORTEST: usize = 160;
-
-const LONGEST: usize = 65536;
 
 // Tests 2 to 4. `lent` is how many bytes the caller lends; what lies beyond Length is ignored.
 pub fn size_fault(signature: usize, size: usize, lent: usize) -> Answer
@@ -25,7 +21,7 @@ pub fn size_fault(signature: usize, size: usize, lent: usize) -> Answer
     if lent < size {
         return table::refuse(3, 0, 0);
     }
-    if LONGEST < size {
+    if LIMIT < size {
         return table::refuse(4, 0, 0);
     }
     table::done()
@@ -51,22 +47,22 @@ pub fn judge(
         return table::refuse(6, 0, 0);
     }
     if control != 0 {
-        return table::refuse(7, 1, 0);
+        return table::refuse(7, Control::ID, 0);
     }
     if hostlen < table::Host::SIZE {
-        return table::refuse(8, 1, 0);
+        return table::refuse(8, Control::ID, 0);
     }
     if short != 0 {
-        return table::refuse(8, 1, 0);
+        return table::refuse(8, Control::ID, 0);
     }
     if misplaced != 0 {
-        return table::refuse(8, 1, 0);
+        return table::refuse(8, Control::ID, 0);
     }
     if version != 1 {
-        return table::refuse(9, 1, 0);
+        return table::refuse(9, Control::ID, 0);
     }
     if wrong != 0 {
-        return table::refuse(9, 1, 0);
+        return table::refuse(9, Control::ID, 0);
     }
     table::done()
 }

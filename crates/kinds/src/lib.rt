@@ -15,6 +15,9 @@ ghost use lib.ListN.{length, take};
 ghost use Rattle.table.specs.Layout.{offsets, baseOf};
 ghost use Rattle.table.specs.FixedLayouts.{layoutOf};
 
+// The one transport type: that of every HFI, SSNS and transport info record.
+pub const TCP: u8 = 3;
+
 // How many bytes a record of this kind has; in a table it may be longer. The control record is read from the table's first byte on.
 pub fn base_size(kind: u8) -> usize
     ensures { λ r. ⌜ r ≡ baseOf (layoutOf kind) ⌝ }

@@ -2,6 +2,10 @@
 use indexes::index_fault;
 use indexes::optional_index;
 use indexes::secondary_names;
+use table::Discovery;
+use table::Hfi;
+use table::Security;
+use table::Ssns;
 ghost use mathlib.Core.Path.{_≡_};
 ghost use Prim.Native.Nat.{_+_, _≤_};
 ghost use lib.ListN.{length};
@@ -15,11 +19,11 @@ fn discovery_names(t: &[u8], a: usize) -> u8
     requires { ⌜ LaidOut (now t) × (a + 32 ≤ length (now t)) ⌝ }
     ensures { λ r. ⌜ r ≡ namesRule 6 (now (t .entry)) a ⌝ }
 {
-    let fault = index_fault(t, 3, wire::wide(t[a + 3]));
+    let fault = index_fault(t, Hfi::ID, wire::wide(t[a + 3]));
     if fault != 0 {
         return fault;
     }
-    optional_index(t, 5, wire::wide(t[a + 4]))
+    optional_index(t, Security::ID, wire::wide(t[a + 4]))
 }
 
 // The security index counts only under flag 2.
@@ -30,14 +34,14 @@ fn security_index(t: &[u8], a: usize) -> u8
     if flags::ssns_flags(t, a) / 4 % 2 == 0 {
         return 0;
     }
-    index_fault(t, 5, wire::wide(t[a + 45]))
+    index_fault(t, Security::ID, wire::wide(t[a + 45]))
 }
 
 fn ssns_names(t: &[u8], a: usize, position: usize, heap: &[u8], from: usize) -> u8
     requires { ⌜ LaidOut (now t) × (a + 128 ≤ length (now t)) × IsHeap (now t) (now heap) from × RefsPass 4 (region from (length (now heap))) (now t) a position ⌝ }
     ensures { λ r. ⌜ r ≡ namesRule 4 (now (t .entry)) a ⌝ }
 {
-    let discovery = optional_index(t, 6, wire::wide(t[a + 8]));
+    let discovery = optional_index(t, Discovery::ID, wire::wide(t[a + 8]));
     if discovery != 0 {
         return discovery;
     }
@@ -45,7 +49,7 @@ fn ssns_names(t: &[u8], a: usize, position: usize, heap: &[u8], from: usize) -> 
     if security != 0 {
         return security;
     }
-    let primary = index_fault(t, 3, wire::wide(t[a + 46]));
+    let primary = index_fault(t, Hfi::ID, wire::wide(t[a + 46]));
     if primary != 0 {
         return primary;
     }
@@ -58,8 +62,8 @@ pub fn names_fault(t: &[u8], kind: u8, a: usize, position: usize, heap: &[u8], f
     ensures { λ r. ⌜ r ≡ namesRule kind (now (t .entry)) a ⌝ }
 {
     match kind {
-        4 => ssns_names(t, a, position, heap, from),
-        6 => discovery_names(t, a),
+        Ssns::ID => ssns_names(t, a, position, heap, from),
+        Discovery::ID => discovery_names(t, a),
         _ => 0,
     }
 }

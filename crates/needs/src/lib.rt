@@ -1,5 +1,8 @@
 // Which references of a record count: required, optional, or ignored under its flags.
 use flags::security_flags;
+use table::Discovery;
+use table::Header;
+use table::Host;
 use table::Need;
 ghost use mathlib.Core.Path.{_≡_};
 ghost use Prim.Native.Nat.{_+_, _≤_};
@@ -87,9 +90,9 @@ pub fn plain_need(kind: u8, off: usize) -> Need
     ensures { λ r. ⌜ r ≡ plainNeed kind off ⌝ }
 {
     match kind {
-        0 => header_need(off),
-        2 => host_need(off),
-        6 => discovery_need(off),
+        Header::ID => header_need(off),
+        Host::ID => host_need(off),
+        Discovery::ID => discovery_need(off),
         _ => Need::Ignored,
     }
 }

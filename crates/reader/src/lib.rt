@@ -3,6 +3,13 @@ use lists::list_fault;
 use lists::refs_fault;
 use lists::used_fault;
 use table::Answer;
+use table::Control;
+use table::Discovery;
+use table::Header;
+use table::Hfi;
+use table::Host;
+use table::Security;
+use table::Ssns;
 ghost use mathlib.Core.Path.{_≡_};
 ghost use Prim.Native.Nat.{_+_, _≤_, _<_};
 ghost use lib.ListN.{length};
@@ -44,30 +51,32 @@ fn host_fault(t: &[u8], heap: &[u8], from: usize) -> Answer
     requires { ⌜ LaidOut (now t) × IsHeap (now t) (now heap) from ⌝ }
     ensures { λ r. ⌜ r ≡ hostFault (region from (length (now (heap .entry)))) (now (t .entry)) ⌝ }
 {
-    let a = wire::u32_at(t, 72);
-    if t[a + 1] % 2 != 1 {
-        return table::refuse(10, 2, 0);
+    let r = wire::reference_at(t, Control::HOST);
+    let a = r.at;
+    let flag = kinds::flags_at(Host::ID);
+    if t[a + flag] % 2 != 1 {
+        return table::refuse(10, Host::ID, 0);
     }
-    answer_of(used_fault(t, 2, a, 0, heap, from), 2)
+    answer_of(used_fault(t, Host::ID, a, 0, heap, from), Host::ID)
 }
 
 fn lists_fault(t: &[u8], heap: &[u8], from: usize) -> Answer
     requires { ⌜ LaidOut (now t) × IsHeap (now t) (now heap) from ⌝ }
     ensures { λ r. ⌜ r ≡ bodyRule (validIn (now (t .entry))) (counts (now (t .entry))) (region from (length (now (heap .entry)))) (now (t .entry)) 80 (readBody listKinds (now (t .entry)) 80) ⌝ }
 {
-    let hfi = list_fault(t, 3, 80, heap, from);
+    let hfi = list_fault(t, Hfi::ID, Control::HFI_LIST, heap, from);
     if hfi.number != 0 {
         return hfi;
     }
-    let ssns = list_fault(t, 4, 88, heap, from);
+    let ssns = list_fault(t, Ssns::ID, Control::SSNS_LIST, heap, from);
     if ssns.number != 0 {
         return ssns;
     }
-    let security = list_fault(t, 5, 96, heap, from);
+    let security = list_fault(t, Security::ID, Control::SECURITY_LIST, heap, from);
     if security.number != 0 {
         return security;
     }
-    let discovery = list_fault(t, 6, 104, heap, from);
+    let discovery = list_fault(t, Discovery::ID, Control::DISCOVERY_LIST, heap, from);
     if discovery.number != 0 {
         return discovery;
     }
@@ -78,7 +87,7 @@ fn parts_fault(t: &[u8], heap: &[u8], from: usize) -> Answer
     requires { ⌜ LaidOut (now t) × IsHeap (now t) (now heap) from × (from ≡ num (now t) 36 4) × (length (now heap) ≡ num (now t) 40 4) ⌝ }
     ensures { λ r. ⌜ r ≡ records (now (t .entry)) (meaning (now (t .entry))) ⌝ }
 {
-    let driver = answer_of(refs_fault(t, 0, 0, 0, heap, from), 0);
+    let driver = answer_of(refs_fault(t, Header::ID, 0, 0, heap, from), Header::ID);
     if driver.number != 0 {
         return driver;
     }

@@ -1,4 +1,5 @@
 // A record's own fields: ID, type, index and two-bit fields. Reserved bits are taken off as the bytes are read.
+use kinds::TCP;
 use table::Discovery;
 use table::Hfi;
 use table::Host;
@@ -11,9 +12,6 @@ ghost use Rattle.table.specs.Bytes.{pick};
 ghost use Rattle.table.specs.Layout.{baseOf};
 ghost use Rattle.table.specs.FixedLayouts.{layoutOf};
 ghost use Rattle.records.specs.Records.{isNamed, namedRule, rightRule};
-
-// The one transport type that there is.
-const TCP: u8 = 3;
 
 // ID, type and index, by what was read. For a kind without type or index the right one is handed over.
 fn named(kind: u8, id: u8, transport: u8, index: usize, position: usize) -> u8

@@ -3,8 +3,7 @@ use table::Need;
 ghost use mathlib.Core.Path.{_≡_};
 ghost use Prim.Native.Nat.{_+_, _≤_, _<_};
 ghost use lib.ListN.{length};
-ghost use Rattle.table.specs.Bytes.{num};
-ghost use Rattle.table.specs.Layout.{region};
+ghost use Rattle.table.specs.Layout.{region, referenceAt};
 ghost use Rattle.table.specs.Rules.{refRule};
 ghost use Rattle.references.specs.References.{refOf, refNumber};
 
@@ -41,9 +40,10 @@ pub fn ref_of(off: usize, len: usize, from: usize, n: usize) -> Ref
 // The reference that stands at `r`.
 pub fn ref_at(t: &[u8], r: usize, from: usize, n: usize) -> Ref
     requires { ⌜ (r + 6 ≤ length (now t)) × (from + n < 8589934592) ⌝ }
-    ensures { λ x. ⌜ x ≡ refOf (region from n) (num (now (t .entry)) r 4) (num (now (t .entry)) (r + 4) 2) ⌝ }
+    ensures { λ x. ⌜ x ≡ refOf (region from n) (referenceAt (now (t .entry)) r .at) (referenceAt (now (t .entry)) r .len) ⌝ }
 {
-    ref_of(wire::u32_at(t, r), wire::u16_at(t, r + 4), from, n)
+    let x = wire::reference_at(t, r);
+    ref_of(x.at, x.len, from, n)
 }
 
 fn optional_number(r: Ref) -> u8
@@ -80,7 +80,7 @@ pub fn ref_number(need: Need, r: Ref) -> u8
 // The reference at `r` to an object of plain bytes, under a need.
 pub fn plain_fault(t: &[u8], r: usize, need: Need, from: usize, n: usize) -> u8
     requires { ⌜ (r + 6 ≤ length (now t)) × (from + n < 8589934592) ⌝ }
-    ensures { λ x. ⌜ x ≡ refRule (region from n) need (num (now (t .entry)) r 4) (num (now (t .entry)) (r + 4) 2) ⌝ }
+    ensures { λ x. ⌜ x ≡ refRule (region from n) need (referenceAt (now (t .entry)) r .at) (referenceAt (now (t .entry)) r .len) ⌝ }
 {
     ref_number(need, ref_at(t, r, from, n))
 }

@@ -7,6 +7,9 @@ use needs::ssns_need;
 use references::Ref;
 use references::plain_fault;
 use references::ref_at;
+use table::Hfi;
+use table::Security;
+use table::Ssns;
 ghost use mathlib.Core.Path.{_≡_};
 ghost use Prim.Native.Nat.{_+_, _≤_};
 ghost use lib.ListN.{length};
@@ -90,9 +93,9 @@ pub fn ref_fault(
     ensures { λ r. ⌜ r ≡ refFault kind (region from (length (now (heap .entry)))) (now (t .entry)) a position off ⌝ }
 {
     match kind {
-        3 => hfi_ref(t, a, position, off, heap, from),
-        4 => ssns_ref(t, a, position, off, heap, from),
-        5 => plain_fault(t, a + off, security_need(t, a, off), from, heap.len()),
+        Hfi::ID => hfi_ref(t, a, position, off, heap, from),
+        Ssns::ID => ssns_ref(t, a, position, off, heap, from),
+        Security::ID => plain_fault(t, a + off, security_need(t, a, off), from, heap.len()),
         _ => plain_fault(t, a + off, plain_need(kind, off), from, heap.len()),
     }
 }

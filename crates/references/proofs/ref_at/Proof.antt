@@ -1,22 +1,19 @@
+use Rattle.references.specs.References.{refOf}
+use Rattle.table.specs.Layout.{region}
+use Rattle.table.specs.declared.Region.{Region}
+use mathlib.Core.Path.{ap, _∙_}
 use borrow.Author.Needs.{needs}
 use Rattle.references.proofs.ref_at.Statement.{statement}
 use Rattle.references.proofs.ref_at.Tie as tie
 
-u32-at-requires : tie.Need-u32-at-requires
-u32-at-requires c κs = search needs
-
-add-u16-at : tie.Need-add-u16-at
-add-u16-at c = search needs
-
-u16-at-requires : tie.Need-u16-at-requires
-u16-at-requires c κs = search needs
+reference-at-requires : tie.Need-reference-at-requires
+reference-at-requires c κs = search needs
 
 ref-of-requires : tie.Need-ref-of-requires
 ref-of-requires c κs = search needs
 
 returns : tie.Need-returns
-returns c = cc
+returns c = c .ref-of .ensures ∙ ap (λ (x : Region). refOf (region (c .before .before .before .args .from) (c .before .before .before .args .n)) (x .at) (x .len)) (c .before .reference-at .ensures .0)
 
 pub ref-at-spec : {M : Type 1} → statement M
-ref-at-spec =
-    tie.close (tie.spec u32-at-requires add-u16-at u16-at-requires ref-of-requires returns)
+ref-at-spec = tie.close (tie.spec reference-at-requires ref-of-requires returns)
