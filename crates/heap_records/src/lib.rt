@@ -2,36 +2,38 @@
 use kinds::TCP;
 use table::Extended;
 use table::Info;
-use table::Need;
 ghost use mathlib.Core.Path.{_≡_};
-ghost use Prim.Native.Nat.{_+_, _<_};
+ghost use Prim.Native.Nat.{_+_, _≤_, _<_};
+ghost use lib.ListN.{length};
 ghost use Rattle.table.specs.Bytes.{pick};
-ghost use Rattle.table.specs.Layout.{region};
-ghost use Rattle.table.specs.FixedLayouts.{info, extended};
+ghost use Rattle.table.specs.Layout.{baseOf, region};
+ghost use Rattle.table.specs.FixedLayouts.{layoutOf, info, extended};
 ghost use Rattle.laws.specs.RefWalk.{partRule};
-ghost use Rattle.heap_records.specs.HeapRecords.{spot, infoSound, extendedSound};
+ghost use Rattle.heap_records.specs.HeapRecords.{spot, soundBy, ownFaults};
 
-fn info_judge(
+// Valid, with the right ID, versions, type and index, by what was read. For a kind without type the right one is handed over.
+fn sound(
+    kind: u8,
     flags: u8,
     id: u8,
     version: u8,
-    kind: u8,
+    transport: u8,
     tversion: u8,
     index: usize,
     position: usize,
 ) -> u8
-    ensures { λ r. ⌜ r ≡ pick (infoSound flags id version kind tversion index position) 0 12 ⌝ }
+    ensures { λ r. ⌜ r ≡ pick (soundBy kind flags id version transport tversion index position) 0 12 ⌝ }
 {
     if flags % 2 != 1 {
         return 12;
     }
-    if id != Info::ID {
+    if id != kind {
         return 12;
     }
     if version != 1 {
         return 12;
     }
-    if kind != TCP {
+    if transport != TCP {
         return 12;
     }
     if tversion != 1 {
@@ -43,33 +45,35 @@ fn info_judge(
     0
 }
 
-fn extended_judge(flags: u8, id: u8, version: u8, index: usize, position: usize) -> u8
-    ensures { λ r. ⌜ r ≡ pick (extendedSound flags id version index position) 0 12 ⌝ }
+// The first fault of its references, by ascending field offset. Each names an object of plain bytes: no heap record names another.
+fn own_fault(x: &[u8], kind: u8, from: usize, n: usize) -> u8
+    requires { ⌜ (baseOf (layoutOf kind) ≤ length (now x)) × (from + n < 8589934592) ⌝ }
+    ensures { λ r. ⌜ r ≡ ownFaults kind (region from n) (now (x .entry)) ⌝ }
 {
-    if flags % 2 != 1 {
-        return 12;
-    }
-    if id != Extended::ID {
-        return 12;
-    }
-    if version != 1 {
-        return 12;
-    }
-    if index != position {
-        return 12;
+    let rs = kinds::reference_offsets(kind);
+    let count = rs.count;
+    let mut i: usize = 0;
+    while i < count {
+        let off = rs.at[i];
+        let fault = references::plain_fault(x, off, needs::plain_need(kind, off), from, n);
+        if fault != 0 {
+            return fault;
+        }
+        i += 1;
     }
     0
 }
 
-// HFI transport info by its own bytes: long enough, sound, then its host name's reference.
+// HFI transport info by its own bytes: long enough, sound, then its references.
 pub fn info_fault(x: &[u8], position: usize, from: usize, n: usize) -> u8
     requires { ⌜ from + n < 8589934592 ⌝ }
-    ensures { λ r. ⌜ r ≡ partRule (region from n) (spot position) (info .shape) 104 (now (x .entry)) ⌝ }
+    ensures { λ r. ⌜ r ≡ partRule (region from n) (spot position) (info .shape) (info .refs) (now (x .entry)) ⌝ }
 {
     if x.len() < Info::SIZE {
         return 12;
     }
-    let fault = info_judge(
+    let fault = sound(
+        Info::ID,
         x[6] % 8,
         x[0],
         x[1],
@@ -81,20 +85,29 @@ pub fn info_fault(x: &[u8], position: usize, from: usize, n: usize) -> u8
     if fault != 0 {
         return fault;
     }
-    references::plain_fault(x, 104, Need::Optional, from, n)
+    own_fault(x, Info::ID, from, n)
 }
 
-// SSNS extended info by its own bytes: long enough, sound, then its root path's reference.
+// SSNS extended info, the same.
 pub fn extended_fault(x: &[u8], position: usize, from: usize, n: usize) -> u8
     requires { ⌜ from + n < 8589934592 ⌝ }
-    ensures { λ r. ⌜ r ≡ partRule (region from n) (spot position) (extended .shape) 12 (now (x .entry)) ⌝ }
+    ensures { λ r. ⌜ r ≡ partRule (region from n) (spot position) (extended .shape) (extended .refs) (now (x .entry)) ⌝ }
 {
     if x.len() < Extended::SIZE {
         return 12;
     }
-    let fault = extended_judge(x[4] % 4, x[0], x[1], wire::u16_at(x, 2), position);
+    let fault = sound(
+        Extended::ID,
+        x[4] % 4,
+        x[0],
+        x[1],
+        TCP,
+        1,
+        wire::u16_at(x, 2),
+        position,
+    );
     if fault != 0 {
         return fault;
     }
-    references::plain_fault(x, 12, Need::Optional, from, n)
+    own_fault(x, Extended::ID, from, n)
 }

@@ -1,7 +1,7 @@
 -- Indexes: which positions are used, by the lists' flags; the rules of a record's indexes by the bytes that are read. Assumes nothing.
 use mathlib.Core.Path.{_≡_, refl, sym, ap, ap₂, _∙_}
 use mathlib.Core.Bool.{Bool, true, false, _&&_, _||_}
-use mathlib.Core.List.{List}
+use mathlib.Core.List.{List, []}
 use Prim.Native.Nat.{ℕ, _+_, _-_, _*_, _/_, _%_, _≤_, _<_}
 use native.Mathlib.Nat.{suc-mul, mul-le-mul-right, le-trans, mod-eq-of-lt}
 use native.Mathlib.Numerals.{add-one}
@@ -14,7 +14,7 @@ use Rattle.table.specs.declared.Region.{Region}
 use Rattle.table.specs.declared.Need.the-variants.{Optional}
 use Rattle.table.specs.Bytes.{pick, part, num, every}
 use Rattle.table.specs.declared.Need.{Need}
-use Rattle.table.specs.Layout.{Content, Env, Layout, Refs, image, plain, region, slotAt}
+use Rattle.table.specs.Layout.{Content, Env, Layout, Refs, image, plain, referenceAt, region, slotAt}
 use Rattle.table.specs.FixedLayouts.{layoutOf, header, control, host, hfi, ssns, security, discovery, info, extended, noKind, zeroOr}
 use Rattle.table.specs.Objects.{readSlots, readBody, usedIn, under}
 use Rattle.table.specs.Rules.{firstOf, refRule, plainRule, refsRule, reaches, ruled}
@@ -23,19 +23,10 @@ use Rattle.laws.specs.Sound.{first-of}
 use Rattle.laws.specs.Fields.{Bytes, imageIn, whole, two-bytes}
 use Rattle.laws.specs.ListWalk.{validIn, envIn, flagged, flagged-is}
 use Rattle.frame.specs.Bounds.{ListIn}
-use Rattle.references.specs.References.{refOf}
-use Rattle.references.specs.declared.Ref.the-variants.{Absent, Wrong, Part}
+use Rattle.references.specs.References.{partIn}
 use Rattle.rules.specs.Rules.{IsHeap}
 use Rattle.rules.proofs.HeapLaws.{object-part}
 use Rattle.indexes.specs.Indexes.{namesRule, securityIndex, secondaryRule, refsFault, RefsPass}
-
--- ---- the first of two
-
-pub stop : {n x : ℕ} (y : ℕ) → n ≡ x → (n ≡ 0 → ⊥) → n ≡ firstOf x y
-stop {n} {x} y e z = e ∙ sym (ap (λ (c : Bool). pick c y x) (ne-eqb x 0 (λ w. z (e ∙ w))))
-
-pub more : {n x m y : ℕ} → n ≡ x → n ≡ 0 → m ≡ y → m ≡ firstOf x y
-more {n} {x} {m} {y} e z f = f ∙ sym (ap (λ (c : Bool). pick c y x) (eq-eqb x 0 (sym e ∙ z)))
 
 -- ---- lists
 
@@ -167,38 +158,27 @@ secondary-passed heap t a pos p =
     let v = plain-passes heap e t a img _ _ _ _ (u .1) in
     plain-passes heap e t a img _ _ _ _ (v .1) .0
 
-right-or-absent : (heap : Region) (off len : ℕ) → refRule heap Optional off len ≡ 0 → refOf heap off len ≡ Wrong → ⊥
-unfolding refOf
-right-or-absent heap off len z e = go (eqb off 0 && eqb len 0) (reaches heap off len) z e
+-- so that what it names is just the part of the heap that is handed on
+passed-part : (t heap : List ℕ) (from : ℕ) → IsHeap t heap from → (off len : ℕ) → refRule (region from (length heap)) Optional off len ≡ 0 → partIn heap from off len ≡ part t off len
+unfolding partIn
+passed-part t heap from h off len z = go (reaches (region from (length heap)) off len) refl z
   where
-    go : (c d : Bool) → _≡_ {A = ℕ} (pick c 0 (pick d 0 11)) 0 → pick c Absent (pick d (Part off len) Wrong) ≡ Wrong → ⊥
-    go true d f g = let z : _≡_ {A = ℕ} 0 1 = cc in absurd (omega arith)
-    go false true f g = let z : _≡_ {A = ℕ} 0 1 = cc in absurd (omega arith)
-    go false false f g = absurd (omega arith)
+    empty : (b c : Bool) → eqb len 0 ≡ c → _≡_ {A = ℕ} (pick (b && c) 0 11) 0 → len ≡ 0
+    empty b true e f = eqb-true len 0 e
+    empty true false e f = absurd (omega arith)
+    empty false false e f = absurd (omega arith)
 
-pub secondary-right : (heap : Region) (t : List ℕ) (a pos : ℕ) → RefsPass 4 heap t a pos → refOf heap (num t (a + 48) 4) (num t (a + 48 + 4) 2) ≡ Wrong → ⊥
-secondary-right heap t a pos p = right-or-absent heap (num t (a + 48) 4) (num t (a + 48 + 4) 2) (secondary-passed heap t a pos p)
+    go : (c : Bool) → reaches (region from (length heap)) off len ≡ c → _≡_ {A = ℕ} (pick (eqb off 0 && eqb len 0) 0 (pick c 0 11)) 0
+        → pick c (part heap (off - from) len) [] ≡ part t off len
+    go true e f = object-part t heap from h off len e
+    go false e f = rw (empty (eqb off 0) (eqb len 0) refl f)
 
-absent-length : (heap : Region) (off len : ℕ) → refOf heap off len ≡ Absent → len ≡ 0
-unfolding refOf
-absent-length heap off len e = go (eqb off 0) (eqb len 0) (reaches heap off len) refl e
-  where
-    go : (b c d : Bool) → eqb len 0 ≡ c → pick (b && c) Absent (pick d (Part off len) Wrong) ≡ Absent → len ≡ 0
-    go b true d f g = eqb-true len 0 f
-    go true false true f g = let z : _≡_ {A = ℕ} 0 1 = cc in absurd (omega arith)
-    go true false false f g = let z : _≡_ {A = ℕ} 0 1 = cc in absurd (omega arith)
-    go false false true f g = let z : _≡_ {A = ℕ} 0 1 = cc in absurd (omega arith)
-    go false false false f g = let z : _≡_ {A = ℕ} 0 1 = cc in absurd (omega arith)
-
-pub secondary-absent : (heap : Region) (t : List ℕ) (a : ℕ) → refOf heap (num t (a + 48) 4) (num t (a + 48 + 4) 2) ≡ Absent → 0 ≡ secondaryRule t a
+pub secondary-part : (t heap : List ℕ) (from a pos : ℕ) → IsHeap t heap from → RefsPass 4 (region from (length heap)) t a pos
+    → pick (every (validIn t 3) (partIn heap from (referenceAt t (a + 48) .at) (referenceAt t (a + 48) .len))) 0 13 ≡ secondaryRule t a
 unfolding secondaryRule
-secondary-absent heap t a e = rw (absent-length heap (num t (a + 48) 4) (num t (a + 48 + 4) 2) e)
-
-pub secondary-part : (t heap : List ℕ) (from a : ℕ) → IsHeap t heap from → reaches (region from (length heap)) (num t (a + 48) 4) (num t (a + 48 + 4) 2) ≡ true
-    → pick (every (validIn t 3) (part heap (num t (a + 48) 4 - from) (num t (a + 48 + 4) 2))) 0 13 ≡ secondaryRule t a
-unfolding secondaryRule
-secondary-part t heap from a h e =
-    ap (λ (x : List ℕ). pick (every (validIn t 3) x) 0 13) (object-part t heap from h (num t (a + 48) 4) (num t (a + 48 + 4) 2) e)
+secondary-part t heap from a pos h p =
+    ap (λ (x : List ℕ). pick (every (validIn t 3) x) 0 13)
+    (passed-part t heap from h (referenceAt t (a + 48) .at) (referenceAt t (a + 48) .len) (secondary-passed (region from (length heap)) t a pos p))
 
 -- ---- kinds without indexes
 

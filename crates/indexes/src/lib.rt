@@ -1,5 +1,4 @@
 // Indexes: each names a position of a list, whose record must be valid. Only the valid bit is looked at here; the record's own turn finds its other faults.
-use references::Ref;
 use table::Control;
 use table::Discovery;
 use table::Hfi;
@@ -105,14 +104,5 @@ pub fn secondary_names(t: &[u8], a: usize, position: usize, heap: &[u8], from: u
     requires { ⌜ LaidOut (now t) × (a + 128 ≤ length (now t)) × IsHeap (now t) (now heap) from × RefsPass 4 (region from (length (now heap))) (now t) a position ⌝ }
     ensures { λ r. ⌜ r ≡ secondaryRule (now (t .entry)) a ⌝ }
 {
-    let r = references::ref_at(t, a + 48, from, heap.len());
-    match r {
-        Ref::Absent => 0,
-        Ref::Wrong => 0,
-        Ref::Part { at, len } => {
-            let start = at - from;
-            let end = start + len;
-            secondaries_fault(&heap[start..end], t)
-        }
-    }
+    secondaries_fault(references::part_at(t, a + 48, heap, from), t)
 }

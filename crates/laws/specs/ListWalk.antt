@@ -19,7 +19,7 @@ use Rattle.table.specs.Objects.{countIn, isUsed, readBody, readEntry, readList,
 use Rattle.table.specs.Rules.{answer, done, entryRule, listRule, usedRule}
 use Rattle.laws.specs.ImageLaws.{image-at}
 use Rattle.laws.specs.Fields.{imageIn}
-use Rattle.laws.specs.RefWalk.{distinctRefs}
+use Rattle.laws.specs.RefWalk.{distinctRefs, fitting}
 
 -- what a table says of the whole: which positions are used, how many records there are, and where a record stands
 unfoldable pub validIn : List ℕ → ℕ → ℕ → Bool
@@ -158,10 +158,6 @@ unfolding header control host hfi ssns security discovery info extended noKind
 kinds-distinct = by-layout (λ l. T (distinctRefs (l .refs))) tt tt tt tt tt tt tt tt tt tt
 
 -- each reference lies in the record
-abbrev fitting : ℕ → List ℕ → Bool
-fitting n [] = true
-fitting n (q ∷ qs) = leb (q + 6) n && fitting n qs
-
 fit-at : (n : ℕ) (qs : List ℕ) → T (fitting n qs) → (i : ℕ) → i < length qs → getD qs i 0 + 6 ≤ n
 fit-at n [] f i h = absurd (not-suc-le-zero h)
 fit-at n (q ∷ qs) f zero h = leb→le (q + 6) n (and-yes (leb (q + 6) n) (fitting n qs) f .0)

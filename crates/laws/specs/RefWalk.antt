@@ -2,18 +2,19 @@
 use mathlib.Core.Path.{_≡_, refl, sym, ap, ap₂, _∙_, subst}
 use mathlib.Core.Bool.{Bool, true, false, not, _&&_, _||_}
 use mathlib.Core.List.{List, [], _∷_}
-use Prim.Native.Nat.{ℕ, _+_, _≤_}
+use Prim.Native.Nat.{ℕ, suc, _+_, _≤_, _<_}
+use native.Mathlib.Numerals.{add-one}
 use native.Mathlib.Omega.{arith}
-use lib.ListN.{length, drop, length-take, length-drop}
-use lib.Dec.{T, leb, eqb}
-use borrow.Author.Tests.{eq-eqb, eqb-true, leb-true}
+use lib.ListN.{length, getD, take, drop, length-take, length-drop, drop-of-length-le}
+use lib.Seq.{drop-cons, getD-take}
+use lib.Dec.{T, leb, eqb, leb→le}
+use borrow.Author.Tests.{eq-eqb, ne-eqb, eqb-true, leb-true}
 use mir.Facts.{and-yes}
 use Rattle.table.specs.declared.Region.{Region}
 use Rattle.table.specs.declared.Need.{Need}
 use Rattle.table.specs.declared.Need.the-variants.{Ignored, Optional, Required}
 use Rattle.table.specs.Bytes.{num, part, pick}
-use Rattle.table.specs.Layout.{Content, Env, Refs, Shape, anything, image, namedAt, nest, none, offsets, plain}
-use Rattle.table.specs.FixedLayouts.{optional}
+use Rattle.table.specs.Layout.{Content, Env, Refs, Shape, image, namedAt, nest, none, offsets, plain, referenceAt}
 use Rattle.table.specs.Objects.{under}
 use Rattle.table.specs.Rules.{firstOf, isSound, nestRule, plainRule, reaches, refRule, refsRule, ruled}
 use Rattle.table.specs.Reads.{needAt}
@@ -115,56 +116,129 @@ plain-at heap e t a img (nest p need shape own rest) q n = go (eqb q p) n (λ m.
   go true n z = absurd n
   go false n z = z n
 
--- ---- a reference to a heap record with one optional reference
+-- ---- turn by turn, as code goes through the references
 
--- a heap record by its own bytes
-unfoldable pub partRule : Region → Env → Shape → ℕ → List ℕ → ℕ
-partRule heap e shape p x =
-    firstOf (pick (leb (length (shape .keep)) (length x) && isSound shape e (image (shape .keep) x)) 0 12) (refRule heap Optional (num x p 4) (num x (p + 4) 2))
+-- n is what the first of two gives: the answer, where it is not 0
+pub stop : {n x : ℕ} (y : ℕ) → n ≡ x → (n ≡ 0 → ⊥) → n ≡ firstOf x y
+stop {n} {x} y e z = e ∙ sym (ap (λ (c : Bool). pick c y x) (ne-eqb x 0 (λ w. z (e ∙ w))))
 
-part-nest : (heap : Region) (e : Env) (shape : Shape) (p : ℕ) (t : List ℕ) (off len : ℕ)
-    → T (allKeep (okKeep (shape .keep)) (shape .keep)) → p + 6 ≤ length (shape .keep) → off + len ≤ length t
-    → partRule heap e shape p (part t off len)
-    ≡ firstOf (pick (leb (length (shape .keep)) len && isSound shape e (image (shape .keep) (drop off t))) 0 12) (refsRule heap e t off (image (shape .keep) (drop off t)) (plain p optional anything none))
-unfolding partRule refsRule
-part-nest heap e shape p t off len k h b = rw sized (go (leb (length (shape .keep)) len) refl)
-  where
-    sized : length (part t off len) ≡ len
-    sized = simp (length-take, length-drop) (omega arith)
+pub more : {n x m y : ℕ} → n ≡ x → n ≡ 0 → m ≡ y → m ≡ firstOf x y
+more {n} {x} {m} {y} e z f = f ∙ sym (ap (λ (c : Bool). pick c y x) (eq-eqb x 0 (sym e ∙ z)))
 
-    go : (c : Bool) → leb (length (shape .keep)) len ≡ c
-        → firstOf (pick (c && isSound shape e (image (shape .keep) (part t off len))) 0 12) (refRule heap Optional (num (part t off len) p 4) (num (part t off len) (p + 4) 2))
-        ≡ firstOf (pick (c && isSound shape e (image (shape .keep) (drop off t))) 0 12) (firstOf (plainRule heap Optional anything e t (off + p)) 0)
-    go false z = refl
-    go true z =
-        let l = leb-true (length (shape .keep)) len z in
-        let y : off + (p + 4) ≡ off + p + 4 = omega arith in
-        ap₂ firstOf
-        (ap (λ (x : List ℕ). pick (isSound shape e x) 0 12) (image-part (shape .keep) t off len k l))
-        (ap₂ (refRule heap Optional) (num-part t off len p 4 (omega arith)) (num-part t off len (p + 4) 2 (omega arith) ∙ ap (λ (m : ℕ). num t m 2) y)
-        ∙ sym (plain-free heap Optional anything e t (off + p))
-        ∙ sym (first-zero _))
+-- the first n of xs are l
+pub lists-at : (n : ℕ) (xs : List ℕ) {l : List ℕ} → take n xs ≡ l → (i : ℕ) → i < n → getD xs i 0 ≡ getD l i 0
+lists-at n xs {l} p i h = sym (getD-take n xs i 0 h) ∙ ap (λ (ys : List ℕ). getD ys i 0) p
+
+module _ (f : ℕ → ℕ) (n : ℕ) (xs : List ℕ) {l : List ℕ} (p : take n xs ≡ l) (q : n ≡ length l) {i : ℕ} (h : i < n) {a : ℕ} (e : a ≡ f (getD xs i 0)) where
+  found : a ≡ f (getD l i 0)
+  found = e ∙ ap f (lists-at n xs p i h)
+
+  within : i < length l
+  within = rw q at h
+
+  pub over-stop : (a ≡ 0 → ⊥) → a ≡ firstOver f (drop i l)
+  over-stop z = rw (drop-cons l i 0 within) (stop (firstOver f (drop (suc i) l)) found z)
+
+  pub over-more : a ≡ 0 → firstOver f (drop (i + 1) l) ≡ firstOver f (drop i l)
+  over-more z = rw (add-one i, drop-cons l i 0 within) (more found z refl)
+
+pub over-none : (f : ℕ → ℕ) (l : List ℕ) (i : ℕ) → length l ≤ i → 0 ≡ firstOver f (drop i l)
+over-none f l i h = rw (drop-of-length-le l h)
+
+-- ---- a reference to a heap record, whose own references are all plain
+
+abbrev pub allPlain : Refs → Bool
+allPlain none = true
+allPlain (plain p need content rest) = allPlain rest
+allPlain (nest p need shape own rest) = false
+
+plain-only : (rs : Refs) (q : ℕ) → T (allPlain rs) → T (not (nestAt q rs))
+plain-only none q a = tt
+plain-only (plain p need content rest) q a = plain-only rest q a
+plain-only (nest p need shape own rest) q a = absurd a
+
+-- each reference lies in a record of n bytes
+abbrev pub fitting : ℕ → List ℕ → Bool
+fitting n [] = true
+fitting n (q ∷ qs) = leb (q + 6) n && fitting n qs
+
+-- what nest-ref asks of a heap record: its references are plain, at places of their own, and lie in it; a test that computes
+abbrev pub partOk : Shape → Refs → Bool
+partOk shape rs = allKeep (okKeep (shape .keep)) (shape .keep) && (allPlain rs && (distinctRefs rs && fitting (length (shape .keep)) (offsets rs)))
+
+-- its reference at q by its own bytes x
+abbrev pub ownRule : Region → Refs → List ℕ → List ℕ → ℕ → ℕ
+ownRule heap rs img x q = refRule heap (needAt q rs img) (referenceAt x q .at) (referenceAt x q .len)
+
+-- a heap record by its own bytes: long enough and sound, then its references
+unfoldable pub partRule : Region → Env → Shape → Refs → List ℕ → ℕ
+partRule heap e shape rs x =
+    let img = image (shape .keep) x in
+    firstOf (pick (leb (length (shape .keep)) (length x) && isSound shape e img) 0 12) (firstOver (ownRule heap rs img x) (offsets rs))
+
+over-same : (f g : ℕ → ℕ) (n : ℕ) (qs : List ℕ) → T (fitting n qs) → ((q : ℕ) → q + 6 ≤ n → f q ≡ g q) → firstOver f qs ≡ firstOver g qs
+over-same f g n [] k s = refl
+over-same f g n (q ∷ qs) k s =
+    let u = and-yes (leb (q + 6) n) (fitting n qs) k in
+    ap₂ firstOf (s q (leb→le (q + 6) n (u .0))) (over-same f g n qs (u .1) s)
 
 long : (x y z : Bool) → (not x && (not y && z)) ≡ true → y ≡ false
 long true y z e = let w : false ≡ true = e in absurd (subst (λ (v : Bool). T (not v)) w tt)
 long false true z e = let w : false ≡ true = e in absurd (subst (λ (v : Bool). T (not v)) w tt)
 long false false z e = refl
 
--- the reference to it, required
-pub nest-ref : (heap : Region) (e : Env) (shape : Shape) (p : ℕ) (t : List ℕ) (r : ℕ)
-    → T (allKeep (okKeep (shape .keep)) (shape .keep)) → p + 6 ≤ length (shape .keep) → (reaches heap (num t r 4) (num t (r + 4) 2) ≡ true → num t r 4 + num t (r + 4) 2 ≤ length t)
-    → firstOf (pick (reaches heap (num t r 4) (num t (r + 4) 2)) 0 11) (partRule heap e shape p (part t (num t r 4) (num t (r + 4) 2)))
-    ≡ nestRule heap Required shape e t r (refsRule heap e t (num t r 4) (image (shape .keep) (drop (num t r 4) t)) (plain p optional anything none))
-nest-ref heap e shape p t r k h b = go (reaches heap (num t r 4) (num t (r + 4) 2)) refl
-  where
-    go : (c : Bool) → reaches heap (num t r 4) (num t (r + 4) 2) ≡ c
-        → firstOf (pick c 0 11) (partRule heap e shape p (part t (num t r 4) (num t (r + 4) 2)))
-        ≡ firstOf (pick c 0 11)
-        (pick (eqb (num t (r + 4) 2) 0) 0
-        (firstOf (pick (leb (length (shape .keep)) (num t (r + 4) 2) && isSound shape e (image (shape .keep) (drop (num t r 4) t))) 0 12)
-        (refsRule heap e t (num t r 4) (image (shape .keep) (drop (num t r 4) t)) (plain p optional anything none))))
-    go false z = refl
-    go true z =
-        part-nest heap e shape p t (num t r 4) (num t (r + 4) 2) k h (b z)
-        ∙ sym (ap (λ (c : Bool). pick c 0 (firstOf (pick (leb (length (shape .keep)) (num t (r + 4) 2) && isSound shape e (image (shape .keep) (drop (num t r 4) t))) 0 12)
-        (refsRule heap e t (num t r 4) (image (shape .keep) (drop (num t r 4) t)) (plain p optional anything none)))) (long (eqb (num t r 4) 0) (eqb (num t (r + 4) 2) 0) _ z))
+module _ (heap : Region) (e : Env) (shape : Shape) (rs : Refs) (t : List ℕ) (k : T (partOk shape rs)) where
+  keeps : T (allKeep (okKeep (shape .keep)) (shape .keep)) × T (allPlain rs) × T (distinctRefs rs) × T (fitting (length (shape .keep)) (offsets rs))
+  keeps =
+      let u = and-yes (allKeep (okKeep (shape .keep)) (shape .keep)) _ k in
+      let v = and-yes (allPlain rs) _ (u .1) in
+      let w = and-yes (distinctRefs rs) (fitting (length (shape .keep)) (offsets rs)) (v .1) in
+      (u .0, v .0, w .0, w .1)
+
+  own-refs : (img : List ℕ) (off len : ℕ) → length (shape .keep) ≤ len → firstOver (ownRule heap rs img (part t off len)) (offsets rs) ≡ refsRule heap e t off img rs
+  own-refs img off len l =
+      over-same (ownRule heap rs img (part t off len)) (ruleAt heap e t off img rs) (length (shape .keep)) (offsets rs) (keeps .3)
+      (λ q h.
+      let y : off + (q + 4) ≡ off + q + 4 = omega arith in
+      ap₂ (refRule heap (needAt q rs img)) (num-part t off len q 4 (omega arith)) (num-part t off len (q + 4) 2 (omega arith) ∙ ap (λ (m : ℕ). num t m 2) y)
+      ∙ sym (plain-at heap e t off img rs q (plain-only rs q (keeps .1))))
+      ∙ sym (refs-over heap e t off img rs (keeps .2))
+
+  abbrev soundAt : ℕ → Bool
+  soundAt off = isSound shape e (image (shape .keep) (drop off t))
+
+  abbrev refsAt : ℕ → ℕ
+  refsAt off = refsRule heap e t off (image (shape .keep) (drop off t)) rs
+
+  abbrev namedRule : ℕ → ℕ → ℕ
+  namedRule off len = firstOf (pick (leb (length (shape .keep)) len && soundAt off) 0 12) (refsAt off)
+
+  part-nest : (off len : ℕ) → off + len ≤ length t → partRule heap e shape rs (part t off len) ≡ namedRule off len
+  unfolding partRule
+  part-nest off len b = rw sized (go (leb (length (shape .keep)) len) refl)
+    where
+      sized : length (part t off len) ≡ len
+      sized = simp (length-take, length-drop) (omega arith)
+
+      go : (c : Bool) → leb (length (shape .keep)) len ≡ c
+          → firstOf (pick (c && isSound shape e (image (shape .keep) (part t off len))) 0 12) (firstOver (ownRule heap rs (image (shape .keep) (part t off len)) (part t off len)) (offsets rs))
+          ≡ firstOf (pick (c && soundAt off) 0 12) (refsAt off)
+      go false z = refl
+      go true z =
+          let l = leb-true (length (shape .keep)) len z in
+          let m = image-part (shape .keep) t off len (keeps .0) l in
+          ap₂ firstOf (ap (λ (x : List ℕ). pick (isSound shape e x) 0 12) m)
+          (ap (λ (x : List ℕ). firstOver (ownRule heap rs x (part t off len)) (offsets rs)) m ∙ own-refs (image (shape .keep) (drop off t)) off len l)
+
+  reached-part : (off len : ℕ) → (reaches heap off len ≡ true → off + len ≤ length t)
+      → firstOf (pick (reaches heap off len) 0 11) (partRule heap e shape rs (part t off len)) ≡ firstOf (pick (reaches heap off len) 0 11) (pick (eqb len 0) 0 (namedRule off len))
+  reached-part off len b = go (reaches heap off len) refl
+    where
+      go : (c : Bool) → reaches heap off len ≡ c → firstOf (pick c 0 11) (partRule heap e shape rs (part t off len)) ≡ firstOf (pick c 0 11) (pick (eqb len 0) 0 (namedRule off len))
+      go false z = refl
+      go true z = part-nest off len (b z) ∙ sym (ap (λ (c : Bool). pick c 0 (namedRule off len)) (long (eqb off 0) (eqb len 0) _ z))
+
+  -- the reference to it, required
+  pub nest-ref : (r : ℕ) → (reaches heap (referenceAt t r .at) (referenceAt t r .len) ≡ true → referenceAt t r .at + referenceAt t r .len ≤ length t)
+      → firstOf (pick (reaches heap (referenceAt t r .at) (referenceAt t r .len)) 0 11) (partRule heap e shape rs (namedAt t r)) ≡ nestRule heap Required shape e t r (refsAt (referenceAt t r .at))
+  nest-ref r b = reached-part (referenceAt t r .at) (referenceAt t r .len) b

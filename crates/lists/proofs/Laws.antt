@@ -5,8 +5,7 @@ use Prim.Native.Nat.{ℕ, zero, suc, _+_, _-_, _*_, _≤_, _<_}
 use native.Mathlib.Omega.{arith}
 use native.Mathlib.Nat.{suc-mul, add-assoc}
 use native.Mathlib.Numerals.{add-one}
-use lib.ListN.{length, getD, take, drop, drop-of-length-le}
-use lib.Seq.{drop-cons, getD-take}
+use lib.ListN.{getD}
 use lib.Dec.{T, ltb, ltb→lt}
 use mir.Facts.{and-yes}
 use Rattle.table.specs.declared.Region.{Region}
@@ -22,32 +21,12 @@ use Rattle.rules.specs.Rules.{refFault}
 use Rattle.records.specs.Records.{rightRule}
 use Rattle.indexes.specs.Indexes.{refsFault, namesRule}
 use Rattle.lists.specs.Lists.{usedFault, recordFault, counts, listFrom}
-use Rattle.indexes.proofs.Laws.{stop, more}
 
 -- ---- over the references of a kind
 
 pub refs-are : (k : ℕ) (heap : Region) (t : List ℕ) (a pos : ℕ) → refsFault k heap t a pos ≡ firstOver (refFault k heap t a pos) (offsets (layoutOf k .refs))
 unfolding refsFault refFault
 refs-are k heap t a pos = refs-over heap (envIn t pos) t a (imageIn (layoutOf k) t a) (layoutOf k .refs) (kinds-distinct k)
-
-pub lists-at : (n : ℕ) (xs : List ℕ) {l : List ℕ} → take n xs ≡ l → (i : ℕ) → i < n → getD xs i 0 ≡ getD l i 0
-lists-at n xs {l} p i h = sym (getD-take n xs i 0 h) ∙ ap (λ (ys : List ℕ). getD ys i 0) p
-
-module _ (f : ℕ → ℕ) (n : ℕ) (xs : List ℕ) {l : List ℕ} (p : take n xs ≡ l) (q : n ≡ length l) {i : ℕ} (h : i < n) {a : ℕ} (e : a ≡ f (getD xs i 0)) where
-  found : a ≡ f (getD l i 0)
-  found = e ∙ ap f (lists-at n xs p i h)
-
-  within : i < length l
-  within = rw q at h
-
-  pub over-stop : (a ≡ 0 → ⊥) → a ≡ firstOver f (drop i l)
-  over-stop z = rw (drop-cons l i 0 within) (stop (firstOver f (drop (suc i) l)) found z)
-
-  pub over-more : a ≡ 0 → firstOver f (drop (i + 1) l) ≡ firstOver f (drop i l)
-  over-more z = rw (add-one i, drop-cons l i 0 within) (more found z refl)
-
-pub over-none : (f : ℕ → ℕ) (l : List ℕ) (i : ℕ) → length l ≤ i → 0 ≡ firstOver f (drop i l)
-over-none f l i h = rw (drop-of-length-le l h)
 
 -- ---- a record
 

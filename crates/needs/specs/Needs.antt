@@ -26,4 +26,5 @@ unfoldable pub plainNeed : ℕ → ℕ → Need
 plainNeed k q =
     pick (eqb k 2) (pick (eqb q 18) Required Ignored)
     (pick (eqb k 6) (pick (eqb q 6) Optional (pick (eqb q 12) Optional Ignored))
-    (pick (eqb k 0) (pick (eqb q 44) Optional Ignored) Ignored))
+    (pick (eqb k 0) (pick (eqb q 44) Optional Ignored)
+    (pick (eqb k 7) (pick (eqb q 104) Optional Ignored) (pick (eqb k 9) (pick (eqb q 12) Optional Ignored) Ignored))))

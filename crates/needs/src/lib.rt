@@ -1,8 +1,10 @@
 // Which references of a record count: required, optional, or ignored under its flags.
 use flags::security_flags;
 use table::Discovery;
+use table::Extended;
 use table::Header;
 use table::Host;
+use table::Info;
 use table::Need;
 ghost use mathlib.Core.Path.{_≡_};
 ghost use Prim.Native.Nat.{_+_, _≤_};
@@ -85,7 +87,25 @@ fn header_need(off: usize) -> Need
     Need::Ignored
 }
 
-// Header, host and discovery records: their fields have no say.
+fn info_need(off: usize) -> Need
+    ensures { λ r. ⌜ r ≡ plainNeed 7 off ⌝ }
+{
+    if off == 104 {
+        return Need::Optional;
+    }
+    Need::Ignored
+}
+
+fn extended_need(off: usize) -> Need
+    ensures { λ r. ⌜ r ≡ plainNeed 9 off ⌝ }
+{
+    if off == 12 {
+        return Need::Optional;
+    }
+    Need::Ignored
+}
+
+// Header, host, discovery and heap records: their fields have no say.
 pub fn plain_need(kind: u8, off: usize) -> Need
     ensures { λ r. ⌜ r ≡ plainNeed kind off ⌝ }
 {
@@ -93,6 +113,8 @@ pub fn plain_need(kind: u8, off: usize) -> Need
         Header::ID => header_need(off),
         Host::ID => host_need(off),
         Discovery::ID => discovery_need(off),
+        Info::ID => info_need(off),
+        Extended::ID => extended_need(off),
         _ => Need::Ignored,
     }
 }

@@ -13,7 +13,7 @@ use Rattle.table.specs.declared.Answer.{Answer}
 use Rattle.table.specs.declared.Region.{Region}
 use Rattle.table.specs.declared.Need.the-variants.{Optional, Required}
 use Rattle.table.specs.Bytes.{pick, part, num, odd}
-use Rattle.table.specs.Layout.{Env, Shape, image, offsets, region}
+use Rattle.table.specs.Layout.{Env, Refs, Shape, image, offsets, region}
 use Rattle.table.specs.FixedLayouts.{layoutOf, listKinds, info, extended, ssns}
 use Rattle.table.specs.Objects.{readBody}
 use Rattle.table.specs.Rules.{answer, bodyRule, done, first, firstFail, firstOf, isSound, reaches, refRule}
@@ -21,7 +21,7 @@ use Rattle.table.specs.Meaning.{meaning}
 use Rattle.table.specs.Numbers.{check, heapIn, records, tests}
 use Rattle.laws.specs.Sound.{first-of, pick-of}
 use Rattle.laws.specs.Fields.{imageIn}
-use Rattle.laws.specs.RefWalk.{firstOver, partRule}
+use Rattle.laws.specs.RefWalk.{firstOver, ownRule, partRule}
 use Rattle.laws.specs.ListWalk.{envIn, validIn, walk-more, walk-stop}
 use Rattle.frame.specs.Bounds.{LaidOut, ListIn}
 use Rattle.frame.proofs.Laws.{laid-out}
@@ -185,10 +185,10 @@ optional-in from n off len e h = reached from n off len (go (eqb off 0) (reaches
 
 -- ---- heap records that pass
 
-part-long : (heap : Region) (e : Env) (shape : Shape) (p : ℕ) (x : List ℕ) → partRule heap e shape p x ≡ 0 → length (shape .keep) ≤ length x
+part-long : (heap : Region) (e : Env) (shape : Shape) (rs : Refs) (x : List ℕ) → partRule heap e shape rs x ≡ 0 → length (shape .keep) ≤ length x
 unfolding partRule
-part-long heap e shape p x z =
-    let u = first-of (pick (leb (length (shape .keep)) (length x) && isSound shape e (image (shape .keep) x)) 0 12) (refRule heap Optional (num x p 4) (num x (p + 4) 2)) z in
+part-long heap e shape rs x z =
+    let u = first-of (pick (leb (length (shape .keep)) (length x) && isSound shape e (image (shape .keep) x)) 0 12) (firstOver (ownRule heap rs (image (shape .keep) x) x) (offsets rs)) z in
     let v = pick-of (leb (length (shape .keep)) (length x) && isSound shape e (image (shape .keep) x)) 12 (lit< tt) (u .0) in
     leb→le (length (shape .keep)) (length x) (and-yes (leb (length (shape .keep)) (length x)) (isSound shape e (image (shape .keep) x)) v .0)
 
@@ -204,7 +204,7 @@ module _ (t heap : List ℕ) (from a pos : ℕ) (h : IsHeap t heap from) where
         → Inside from (length heap) (num t (a + 16) 4) (num t (a + 16 + 4) 2) × (128 ≤ num t (a + 16 + 4) 2)
     go true f =
         let i = reached from (length heap) (num t (a + 16) 4) (num t (a + 16 + 4) 2) f in
-        let l = part-long (region from (length heap)) (spot pos) (info .shape) 104 (part heap (num t (a + 16) 4 - from) (num t (a + 16 + 4) 2)) (info-yes t heap from a pos h f ∙ e) in
+        let l = part-long (region from (length heap)) (spot pos) (info .shape) (info .refs) (part heap (num t (a + 16) 4 - from) (num t (a + 16 + 4) 2)) (info-yes t heap from a pos h f ∙ e) in
         (i, rw (part-length heap from (num t (a + 16) 4) (num t (a + 16 + 4) 2) i) at l)
     go false f = absurd (omega (arith, info-no t heap from a pos h f ∙ e))
 
@@ -217,6 +217,6 @@ module _ (t heap : List ℕ) (from a pos : ℕ) (h : IsHeap t heap from) where
         → Inside from (length heap) (num t (a + 60) 4) (num t (a + 60 + 4) 2) × (18 ≤ num t (a + 60 + 4) 2)
     go true f =
         let i = reached from (length heap) (num t (a + 60) 4) (num t (a + 60 + 4) 2) f in
-        let l = part-long (region from (length heap)) (spot pos) (extended .shape) 12 (part heap (num t (a + 60) 4 - from) (num t (a + 60 + 4) 2)) (extended-yes t heap from a pos h s f ∙ e) in
+        let l = part-long (region from (length heap)) (spot pos) (extended .shape) (extended .refs) (part heap (num t (a + 60) 4 - from) (num t (a + 60 + 4) 2)) (extended-yes t heap from a pos h s f ∙ e) in
         (i, rw (part-length heap from (num t (a + 60) 4) (num t (a + 60 + 4) 2) i) at l)
     go false f = absurd (omega (arith, extended-no t heap from a pos h s f ∙ e))

@@ -5,7 +5,7 @@ ghost use Prim.Native.Nat.{_+_, _≤_, _<_};
 ghost use lib.ListN.{length};
 ghost use Rattle.table.specs.Layout.{region, referenceAt};
 ghost use Rattle.table.specs.Rules.{refRule};
-ghost use Rattle.references.specs.References.{refOf, refNumber};
+ghost use Rattle.references.specs.References.{refOf, refNumber, partIn};
 
 // What a reference names.
 pub enum Ref {
@@ -44,6 +44,23 @@ pub fn ref_at(t: &[u8], r: usize, from: usize, n: usize) -> Ref
 {
     let x = wire::reference_at(t, r);
     ref_of(x.at, x.len, from, n)
+}
+
+// The bytes that the reference at `r` names, as the part of the heap that they are. No object is empty: an empty part says that it is absent or wrong.
+pub fn part_at<'a>(t: &[u8], r: usize, heap: &'a [u8], from: usize) -> &'a [u8]
+    requires { ⌜ (r + 6 ≤ length (now t)) × (from + length (now heap) < 8589934592) ⌝ }
+    ensures { λ x. ⌜ now x ≡ partIn (now (heap .entry)) from (referenceAt (now (t .entry)) r .at) (referenceAt (now (t .entry)) r .len) ⌝ }
+{
+    let x = ref_at(t, r, from, heap.len());
+    match x {
+        Ref::Absent => &heap[..0],
+        Ref::Wrong => &heap[..0],
+        Ref::Part { at, len } => {
+            let start = at - from;
+            let end = start + len;
+            &heap[start..end]
+        }
+    }
 }
 
 fn optional_number(r: Ref) -> u8

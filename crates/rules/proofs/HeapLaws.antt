@@ -1,79 +1,29 @@
 -- References by kind and offset: plain ones by their need, those to heap records by the record's own bytes, which are a part of the heap. Assumes nothing.
 use mathlib.Core.Path.{_≡_, refl, sym, ap, _∙_}
-use mathlib.Core.Bool.{Bool, true, false, not, _&&_}
+use mathlib.Core.Bool.{Bool, true, false, not}
 use mathlib.Core.List.{List}
 use Prim.Native.Nat.{ℕ, zero, suc, _+_, _-_, _/_, _%_, _≤_, _<_}
 use native.Mathlib.Omega.{arith}
-use lib.ListN.{length, length-take, length-drop}
-use lib.Dec.{T, leb, eqb, leb→le, lit≤}
-use mir.Facts.{and-yes, eqb-no}
+use lib.ListN.{length, drop, length-take, length-drop}
+use lib.Dec.{T, eqb}
 use Rattle.table.specs.declared.Region.{Region}
 use Rattle.table.specs.declared.Need.{Need}
+use Rattle.table.specs.declared.Need.the-variants.{Required}
 use Rattle.table.specs.Bytes.{pick, part, num}
-use Rattle.table.specs.Layout.{region, isRight, Shape}
+use Rattle.table.specs.Layout.{region, referenceAt, namedAt, image, isRight, Refs, Shape}
 use Rattle.table.specs.FixedLayouts.{layoutOf, header, control, host, hfi, ssns, security, discovery, info, extended}
-use Rattle.table.specs.Rules.{firstOf, reaches, refRule}
+use Rattle.table.specs.Rules.{firstOf, nestRule, reaches, refRule, refsRule}
 use Rattle.table.specs.Reads.{needAt}
 use Rattle.laws.specs.Fields.{imageIn, part-part}
-use Rattle.laws.specs.RefWalk.{ruleAt, plain-at, partRule, nest-ref}
+use Rattle.laws.specs.RefWalk.{ruleAt, plain-at, partOk, partRule, nest-ref}
 use Rattle.laws.specs.ListWalk.{envIn}
-use Rattle.references.specs.declared.Ref.the-variants.{Absent, Wrong, Part}
-use Rattle.references.specs.References.{refOf}
+pub use Rattle.references.proofs.Laws.{Inside, reached}
 use Rattle.rules.specs.Rules.{IsHeap, refFault}
 use Rattle.heap_records.specs.HeapRecords.{spot}
 use Rattle.needs.specs.Needs.{ssnsNeed, plainNeed}
 use Rattle.needs.proofs.Laws.{ssns-need}
 
--- ---- what a reference is
-
-record Found (heap : Region) (off len at n : ℕ) : Type 0 where
-  there : reaches heap off len ≡ true
-  place : at ≡ off
-  size : n ≡ len
-
-pub ref-part : (heap : Region) (off len at n : ℕ) → refOf heap off len ≡ Part at n → (reaches heap off len ≡ true) × (at ≡ off) × (n ≡ len)
-unfolding refOf
-ref-part heap off len at n e = go (eqb off 0 && eqb len 0) (reaches heap off len) refl e
-  where
-    go : (c d : Bool) → reaches heap off len ≡ d → pick c Absent (pick d (Part off len) Wrong) ≡ Part at n → (reaches heap off len ≡ true) × (at ≡ off) × (n ≡ len)
-    go true d f g = let z : _≡_ {A = ℕ} 0 1 = cc in absurd (omega arith)
-    go false true f g = (f, (cc), (cc))
-    go false false f g = let z : _≡_ {A = ℕ} 0 1 = cc in absurd (omega arith)
-
-pub ref-wrong : (heap : Region) (off len : ℕ) → refOf heap off len ≡ Wrong → reaches heap off len ≡ false
-unfolding refOf
-ref-wrong heap off len e = go (eqb off 0 && eqb len 0) (reaches heap off len) refl e
-  where
-    go : (c d : Bool) → reaches heap off len ≡ d → pick c Absent (pick d (Part off len) Wrong) ≡ Wrong → reaches heap off len ≡ false
-    go true d f g = let z : _≡_ {A = ℕ} 0 1 = cc in absurd (omega arith)
-    go false true f g = let z : _≡_ {A = ℕ} 0 1 = cc in absurd (omega arith)
-    go false false f g = f
-
-pub ref-absent : (heap : Region) (off len : ℕ) → refOf heap off len ≡ Absent → reaches heap off len ≡ false
-unfolding refOf
-ref-absent heap off len e = go (eqb off 0) (eqb len 0) (leb (heap .at) off && leb (off + len) (heap .at + heap .len)) e
-  where
-    go : (x y z : Bool) → pick (x && y) Absent (pick (not x && (not y && z)) (Part off len) Wrong) ≡ Absent → (not x && (not y && z)) ≡ false
-    go true y z g = refl
-    go false true z g = refl
-    go false false true g = let w : _≡_ {A = ℕ} 0 1 = cc in absurd (omega arith)
-    go false false false g = refl
-
 -- ---- an object in the heap
-
-pub record Inside (from n off len : ℕ) : Type 0 where
-  pub above : from ≤ off
-  pub below : off + len ≤ from + n
-  pub some : 0 < len
-
-pub reached : (from n off len : ℕ) → reaches (region from n) off len ≡ true → Inside from n off len
-reached from n off len e =
-    let r : T (reaches (region from n) off len) = rw e tt in
-    let u = and-yes (not (eqb off 0)) (not (eqb len 0) && (leb from off && leb (off + len) (from + n))) r in
-    let v = and-yes (not (eqb len 0)) (leb from off && leb (off + len) (from + n)) (u .1) in
-    let w = and-yes (leb from off) (leb (off + len) (from + n)) (v .1) in
-    let z = eqb-no {a = len} {b = 0} (v .0) in
-    record { above = leb→le from off (w .0); below = leb→le (off + len) (from + n) (w .1); some = omega arith }
 
 module _ (t heap : List ℕ) (from : ℕ) (h : IsHeap t heap from) where
   heap-room : 0 < length heap → from + length heap ≤ length t
@@ -92,28 +42,47 @@ module _ (t heap : List ℕ) (from : ℕ) (h : IsHeap t heap from) where
       ∙ ap (λ (m : ℕ). part t m len) a
 
 -- where counts do not matter
-spot-part : (heap : Region) (t : List ℕ) (pos : ℕ) (shape : Shape) (p : ℕ) (x : List ℕ) → partRule heap (envIn t pos) shape p x ≡ partRule heap (spot pos) shape p x
+spot-part : (heap : Region) (t : List ℕ) (pos : ℕ) (shape : Shape) (rs : Refs) (x : List ℕ) → partRule heap (envIn t pos) shape rs x ≡ partRule heap (spot pos) shape rs x
 unfolding partRule isRight envIn spot
-spot-part heap t pos shape p x = refl
+spot-part heap t pos shape rs x = refl
 
--- ---- HFI 16
+-- ---- a required reference to a heap record
+
+module _ (t heap : List ℕ) (from pos : ℕ) (h : IsHeap t heap from) (shape : Shape) (rs : Refs) (k : T (partOk shape rs)) (r : ℕ) where
+  abbrev inHeap : Region
+  inHeap = region from (length heap)
+
+  abbrev reached-at : Bool
+  reached-at = reaches inHeap (referenceAt t r .at) (referenceAt t r .len)
+
+  abbrev nested : ℕ
+  nested = nestRule inHeap Required shape (envIn t pos) t r (refsRule inHeap (envIn t pos) t (referenceAt t r .at) (image (shape .keep) (drop (referenceAt t r .at) t)) rs)
+
+  nested-is : firstOf (pick reached-at 0 11) (partRule inHeap (spot pos) shape rs (namedAt t r)) ≡ nested
+  nested-is =
+      ap (λ (n : ℕ). firstOf (pick reached-at 0 11) n) (sym (spot-part inHeap t pos shape rs (namedAt t r)))
+      ∙ nest-ref inHeap (envIn t pos) shape rs t k r (object-room t heap from h (referenceAt t r .at) (referenceAt t r .len))
+
+  nested-no : reached-at ≡ false → 11 ≡ nested
+  nested-no e = sym (ap (λ (c : Bool). firstOf (pick c 0 11) (partRule inHeap (spot pos) shape rs (namedAt t r))) e) ∙ nested-is
+
+  nested-yes : reached-at ≡ true → partRule inHeap (spot pos) shape rs (part heap (referenceAt t r .at - from) (referenceAt t r .len)) ≡ nested
+  nested-yes e =
+      ap (partRule inHeap (spot pos) shape rs) (object-part t heap from h (referenceAt t r .at) (referenceAt t r .len) e)
+      ∙ sym (ap (λ (c : Bool). firstOf (pick c 0 11) (partRule inHeap (spot pos) shape rs (namedAt t r))) e)
+      ∙ nested-is
 
 module _ (t heap : List ℕ) (from a pos : ℕ) (h : IsHeap t heap from) where
-  info-nest : firstOf (pick (reaches (region from (length heap)) (num t (a + 16) 4) (num t (a + 16 + 4) 2)) 0 11) (partRule (region from (length heap)) (spot pos) (info .shape) 104 (part t (num t (a + 16) 4) (num t (a + 16 + 4) 2)))
-      ≡ refFault 3 (region from (length heap)) t a pos 16
+  -- ---- HFI 16
+
+  pub info-no : reaches (region from (length heap)) (referenceAt t (a + 16) .at) (referenceAt t (a + 16) .len) ≡ false → 11 ≡ refFault 3 (region from (length heap)) t a pos 16
   unfolding refFault layoutOf ruleAt hfi info
-  info-nest =
-      ap (λ (n : ℕ). firstOf (pick (reaches (region from (length heap)) (num t (a + 16) 4) (num t (a + 16 + 4) 2)) 0 11) n) (sym (spot-part (region from (length heap)) t pos (info .shape) 104 (part t (num t (a + 16) 4) (num t (a + 16 + 4) 2))))
-      ∙ nest-ref (region from (length heap)) (envIn t pos) (info .shape) 104 t (a + 16) tt (lit≤ tt) (object-room t heap from h (num t (a + 16) 4) (num t (a + 16 + 4) 2))
+  info-no e = nested-no t heap from pos h (info .shape) (info .refs) tt (a + 16) e
 
-  pub info-no : reaches (region from (length heap)) (num t (a + 16) 4) (num t (a + 16 + 4) 2) ≡ false → 11 ≡ refFault 3 (region from (length heap)) t a pos 16
-  info-no e = rw e at info-nest
-
-  pub info-yes : reaches (region from (length heap)) (num t (a + 16) 4) (num t (a + 16 + 4) 2) ≡ true
-      → partRule (region from (length heap)) (spot pos) (info .shape) 104 (part heap (num t (a + 16) 4 - from) (num t (a + 16 + 4) 2)) ≡ refFault 3 (region from (length heap)) t a pos 16
-  info-yes e =
-      ap (partRule (region from (length heap)) (spot pos) (info .shape) 104) (object-part t heap from h (num t (a + 16) 4) (num t (a + 16 + 4) 2) e)
-      ∙ (rw e at info-nest)
+  pub info-yes : reaches (region from (length heap)) (referenceAt t (a + 16) .at) (referenceAt t (a + 16) .len) ≡ true
+      → partRule (region from (length heap)) (spot pos) (info .shape) (info .refs) (part heap (referenceAt t (a + 16) .at - from) (referenceAt t (a + 16) .len)) ≡ refFault 3 (region from (length heap)) t a pos 16
+  unfolding refFault layoutOf ruleAt hfi info
+  info-yes e = nested-yes t heap from pos h (info .shape) (info .refs) tt (a + 16) e
 
   -- ---- SSNS 60
 
@@ -124,23 +93,15 @@ module _ (t heap : List ℕ) (from a pos : ℕ) (h : IsHeap t heap from) where
   unfolding refFault layoutOf ruleAt ssns
   extended-off e = rw e
 
-  extended-nest : eqb (flags / 16 % 2) 0 ≡ false
-      → firstOf (pick (reaches (region from (length heap)) (num t (a + 60) 4) (num t (a + 60 + 4) 2)) 0 11) (partRule (region from (length heap)) (spot pos) (extended .shape) 12 (part t (num t (a + 60) 4) (num t (a + 60 + 4) 2)))
-      ≡ refFault 4 (region from (length heap)) t a pos 60
+  pub extended-no : eqb (flags / 16 % 2) 0 ≡ false → reaches (region from (length heap)) (referenceAt t (a + 60) .at) (referenceAt t (a + 60) .len) ≡ false
+      → 11 ≡ refFault 4 (region from (length heap)) t a pos 60
   unfolding refFault layoutOf ruleAt ssns extended
-  extended-nest e =
-      rw e
-      (ap (λ (n : ℕ). firstOf (pick (reaches (region from (length heap)) (num t (a + 60) 4) (num t (a + 60 + 4) 2)) 0 11) n) (sym (spot-part (region from (length heap)) t pos (extended .shape) 12 (part t (num t (a + 60) 4) (num t (a + 60 + 4) 2))))
-      ∙ nest-ref (region from (length heap)) (envIn t pos) (extended .shape) 12 t (a + 60) tt (lit≤ tt) (object-room t heap from h (num t (a + 60) 4) (num t (a + 60 + 4) 2)))
+  extended-no f e = rw f (nested-no t heap from pos h (extended .shape) (extended .refs) tt (a + 60) e)
 
-  pub extended-no : eqb (flags / 16 % 2) 0 ≡ false → reaches (region from (length heap)) (num t (a + 60) 4) (num t (a + 60 + 4) 2) ≡ false → 11 ≡ refFault 4 (region from (length heap)) t a pos 60
-  extended-no f e = rw e at (extended-nest f)
-
-  pub extended-yes : eqb (flags / 16 % 2) 0 ≡ false → reaches (region from (length heap)) (num t (a + 60) 4) (num t (a + 60 + 4) 2) ≡ true
-      → partRule (region from (length heap)) (spot pos) (extended .shape) 12 (part heap (num t (a + 60) 4 - from) (num t (a + 60 + 4) 2)) ≡ refFault 4 (region from (length heap)) t a pos 60
-  extended-yes f e =
-      ap (partRule (region from (length heap)) (spot pos) (extended .shape) 12) (object-part t heap from h (num t (a + 60) 4) (num t (a + 60 + 4) 2) e)
-      ∙ (rw e at (extended-nest f))
+  pub extended-yes : eqb (flags / 16 % 2) 0 ≡ false → reaches (region from (length heap)) (referenceAt t (a + 60) .at) (referenceAt t (a + 60) .len) ≡ true
+      → partRule (region from (length heap)) (spot pos) (extended .shape) (extended .refs) (part heap (referenceAt t (a + 60) .at - from) (referenceAt t (a + 60) .len)) ≡ refFault 4 (region from (length heap)) t a pos 60
+  unfolding refFault layoutOf ruleAt ssns extended
+  extended-yes f e = rw f (nested-yes t heap from pos h (extended .shape) (extended .refs) tt (a + 60) e)
 
 -- ---- plain references
 

@@ -4,9 +4,8 @@ use flags::ssns_flags;
 use needs::plain_need;
 use needs::security_need;
 use needs::ssns_need;
-use references::Ref;
+use references::part_at;
 use references::plain_fault;
-use references::ref_at;
 use table::Hfi;
 use table::Security;
 use table::Ssns;
@@ -17,21 +16,16 @@ ghost use Rattle.table.specs.Layout.{baseOf, region};
 ghost use Rattle.table.specs.FixedLayouts.{layoutOf};
 ghost use Rattle.rules.specs.Rules.{IsHeap, refFault};
 
-// The heap record of a required reference is handed on as the part of the heap that it is.
+// The heap record that the reference names is handed on as the part of the heap that it is. It is required: none is a fault.
 fn info_ref(t: &[u8], a: usize, position: usize, heap: &[u8], from: usize) -> u8
     requires { ⌜ (a + 32 ≤ length (now t)) × IsHeap (now t) (now heap) from ⌝ }
     ensures { λ r. ⌜ r ≡ refFault 3 (region from (length (now (heap .entry)))) (now (t .entry)) a position 16 ⌝ }
 {
-    let r = ref_at(t, a + 16, from, heap.len());
-    match r {
-        Ref::Absent => 11,
-        Ref::Wrong => 11,
-        Ref::Part { at, len } => {
-            let start = at - from;
-            let end = start + len;
-            heap_records::info_fault(&heap[start..end], position, from, heap.len())
-        }
+    let x = part_at(t, a + 16, heap, from);
+    if x.len() == 0 {
+        return 11;
     }
+    heap_records::info_fault(x, position, from, heap.len())
 }
 
 fn extended_ref(t: &[u8], a: usize, position: usize, heap: &[u8], from: usize) -> u8
@@ -41,16 +35,11 @@ fn extended_ref(t: &[u8], a: usize, position: usize, heap: &[u8], from: usize) -
     if ssns_flags(t, a) / 16 % 2 == 0 {
         return 0;
     }
-    let r = ref_at(t, a + 60, from, heap.len());
-    match r {
-        Ref::Absent => 11,
-        Ref::Wrong => 11,
-        Ref::Part { at, len } => {
-            let start = at - from;
-            let end = start + len;
-            heap_records::extended_fault(&heap[start..end], position, from, heap.len())
-        }
+    let x = part_at(t, a + 60, heap, from);
+    if x.len() == 0 {
+        return 11;
     }
+    heap_records::extended_fault(x, position, from, heap.len())
 }
 
 fn hfi_ref(t: &[u8], a: usize, position: usize, off: usize, heap: &[u8], from: usize) -> u8

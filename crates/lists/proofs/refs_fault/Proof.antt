@@ -1,13 +1,13 @@
 use Rattle.rules.specs.Rules.{refFault}
 use Rattle.laws.specs.ListWalk.{refs-within}
-use Rattle.laws.specs.RefWalk.{firstOver}
+use Rattle.laws.specs.RefWalk.{firstOver, lists-at, over-stop, over-more, over-none}
 use Rattle.table.specs.FixedLayouts.{layoutOf}
 use Rattle.table.specs.Layout.{region, offsets}
 use Prim.Native.Nat.{_≤_, _<_, _-_}
 use native.Mathlib.Omega.{arith}
 use lib.ListN.{length, drop}
 use mathlib.Core.Path.{_≡_, refl, sym, _∙_}
-use Rattle.lists.proofs.Laws.{over-stop, over-more, over-none, lists-at, refs-are}
+use Rattle.lists.proofs.Laws.{refs-are}
 use Rattle.table.proofs.Rules.{picks}
 use Rattle.lists.proofs.refs_fault.Statement.{statement}
 use Rattle.lists.proofs.refs_fault.Tie as tie

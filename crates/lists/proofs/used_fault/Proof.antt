@@ -1,7 +1,7 @@
 use Rattle.table.specs.Layout.{region}
 use lib.ListN.{length}
 use mathlib.Core.Path.{_∙_}
-use Rattle.indexes.proofs.Laws.{stop, more}
+use Rattle.laws.specs.RefWalk.{stop, more}
 use Rattle.lists.proofs.Laws.{used-is}
 use borrow.Author.Needs.{needs}
 use Rattle.lists.proofs.used_fault.Statement.{statement}

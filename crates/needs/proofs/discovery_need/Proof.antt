@@ -4,15 +4,15 @@ use Rattle.needs.proofs.discovery_need.Statement.{statement}
 use Rattle.needs.proofs.discovery_need.Tie as tie
 
 returns : tie.Need-returns
-unfolding Rattle.needs.specs.Needs.plainNeed
+unfolding plainNeed
 returns c = search picks
 
 returns-2 : tie.Need-returns-2
-unfolding Rattle.needs.specs.Needs.plainNeed
+unfolding plainNeed
 returns-2 c = search picks
 
 returns-3 : tie.Need-returns-3
-unfolding Rattle.needs.specs.Needs.plainNeed
+unfolding plainNeed
 returns-3 c = search picks
 
 pub discovery-need-spec : {M : Type 1} → statement M

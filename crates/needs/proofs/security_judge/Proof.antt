@@ -47,7 +47,7 @@ unfolding securityNeed
 returns-6 c = rw (c .before .match .keys6) (cc)
 
 returns-7 : tie.Need-returns-7
-unfolding Rattle.needs.specs.Needs.securityNeed
+unfolding securityNeed
 returns-7 c = search picks
 
 pub security-judge-spec : {M : Type 1} → statement M

@@ -1,6 +1,5 @@
 use Rattle.table.specs.FixedLayouts.{security}
 use Rattle.laws.specs.Fields.{imageIn}
-use native.Mathlib.Omega.{arith}
 use Rattle.needs.proofs.Laws.{security-need}
 use Rattle.flags.proofs.Laws.{security-secret}
 use borrow.Author.Needs.{needs}

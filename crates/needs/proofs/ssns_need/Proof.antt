@@ -28,7 +28,7 @@ unfolding ssnsNeed
 returns-5 c = rw (c .before .match .keys5) (cc)
 
 returns-6 : tie.Need-returns-6
-unfolding Rattle.needs.specs.Needs.ssnsNeed
+unfolding ssnsNeed
 returns-6 c = search picks
 
 pub ssns-need-spec : {M : Type 1} → statement M

@@ -4,11 +4,11 @@ use Rattle.needs.proofs.when_set.Statement.{statement}
 use Rattle.needs.proofs.when_set.Tie as tie
 
 returns : tie.Need-returns
-unfolding Rattle.needs.specs.Needs.whenSet
+unfolding whenSet
 returns c = search picks
 
 returns-2 : tie.Need-returns-2
-unfolding Rattle.needs.specs.Needs.whenSet
+unfolding whenSet
 returns-2 c = search picks
 
 pub when-set-spec : {M : Type 1} → statement M
