@@ -1,4 +1,13 @@
 // Which references to plain objects a record kind has: a match on the kind and on the reference's first byte. Those to heap records are none.
+use table::Control;
+use table::Discovery;
+use table::Extended;
+use table::Header;
+use table::Hfi;
+use table::Host;
+use table::Info;
+use table::Security;
+use table::Ssns;
 ghost use mathlib.Core.Path.{_≡_};
 ghost use Rattle.table.specs.FixedLayouts.{ssns, security, discovery, layoutOf};
 ghost use Rattle.table.specs.Reads.{hasPlain};
@@ -44,15 +53,15 @@ pub fn has_object(kind: u8, off: usize) -> bool
     ensures { λ r. ⌜ r ≡ hasPlain off (layoutOf kind .refs) ⌝ }
 {
     match kind {
-        0 => off == 44,
-        1 => false,
-        2 => off == 18,
-        3 => false,
-        4 => ssns_object(off),
-        5 => security_object(off),
-        6 => discovery_object(off),
-        7 => off == 104,
-        9 => off == 12,
+        Header::ID => off == 44,
+        Control::ID => false,
+        Host::ID => off == 18,
+        Hfi::ID => false,
+        Ssns::ID => ssns_object(off),
+        Security::ID => security_object(off),
+        Discovery::ID => discovery_object(off),
+        Info::ID => off == 104,
+        Extended::ID => off == 12,
         _ => false,
     }
 }

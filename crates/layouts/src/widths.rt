@@ -1,4 +1,13 @@
 // Which fields a record kind has, and how many bytes each: a match on the kind and on the field's first byte.
+use table::Control;
+use table::Discovery;
+use table::Extended;
+use table::Header;
+use table::Hfi;
+use table::Host;
+use table::Info;
+use table::Security;
+use table::Ssns;
 ghost use mathlib.Core.Path.{_≡_};
 ghost use Rattle.table.specs.FixedLayouts.{header, control, host, hfi, ssns, security, discovery, info, extended, layoutOf};
 ghost use Rattle.table.specs.Reads.{widthAt};
@@ -20,10 +29,10 @@ fn control_width(off: usize) -> usize
     ensures { λ r. ⌜ r ≡ widthAt off (control .shape .fields) ⌝ }
 {
     match off {
-        87 => 1,
-        95 => 1,
-        103 => 1,
-        111 => 1,
+        Control::HFI_COUNT => 1,
+        Control::SSNS_COUNT => 1,
+        Control::SECURITY_COUNT => 1,
+        Control::DISCOVERY_COUNT => 1,
         _ => 0,
     }
 }
@@ -140,15 +149,15 @@ pub fn field_width(kind: u8, off: usize) -> usize
     ensures { λ r. ⌜ r ≡ widthAt off (layoutOf kind .shape .fields) ⌝ }
 {
     match kind {
-        0 => header_width(off),
-        1 => control_width(off),
-        2 => host_width(off),
-        3 => hfi_width(off),
-        4 => ssns_width(off),
-        5 => security_width(off),
-        6 => discovery_width(off),
-        7 => info_width(off),
-        9 => extended_width(off),
+        Header::ID => header_width(off),
+        Control::ID => control_width(off),
+        Host::ID => host_width(off),
+        Hfi::ID => hfi_width(off),
+        Ssns::ID => ssns_width(off),
+        Security::ID => security_width(off),
+        Discovery::ID => discovery_width(off),
+        Info::ID => info_width(off),
+        Extended::ID => extended_width(off),
         _ => 0,
     }
 }
