@@ -16,9 +16,10 @@ use borrow.Author.Tests.{eqb-true}
 use Rattle.table.specs.Bytes.{pick, part, splice, padded}
 use Rattle.table.specs.Layout.{Keep, low, sel, modOf, baseOf, Layout}
 use Rattle.table.specs.FixedLayouts.{layoutOf, header, control, host, hfi, ssns, security, discovery, info, extended, noKind}
-use Rattle.laws.specs.Lawful.{allKeep}
+use Rattle.laws.specs.Lawful.{allKeep, okKeep}
 use Rattle.laws.specs.ImageLaws.{all-at, image-at}
-use Rattle.laws.specs.Fields.{imageIn}
+use Rattle.laws.specs.Fields.{imageIn, image-part}
+use Rattle.laws.specs.ListWalk.{by-layout}
 use Rattle.images.specs.Masks.{maskOf, masksOf, switchOf, switched, onIn, masksFor, over}
 
 -- ---- a law over the kind numbers
@@ -89,21 +90,19 @@ mask-at more (k ∷ ks) zero = refl
 mask-at more (k ∷ ks) (suc i) = mask-at more ks i
 
 -- the flag that the code looks at is the layout's
-more-is : (k : ℕ) (t : List ℕ) (a f d : ℕ) → T (switched k) → f ≡ switchOf k → d ≡ 4 → onIn k t a ≡ not (eqb (getD (drop a t) f 0 % (2 * d) / d) 0)
+more-is : (k : ℕ) (x : List ℕ) (f d : ℕ) → T (switched k) → f ≡ switchOf k → d ≡ 4 → onIn k x ≡ not (eqb (getD x f 0 % (2 * d) / d) 0)
 unfolding onIn
-more-is k t a f d s e g =
-    rw (e, g, getD-drop a t (switchOf k) 0)
-    (ap (λ (c : Bool). pick c (not (eqb (getD t (a + switchOf k) 0 % 8 / 4) 0)) false) (is-true (switched k) s))
+more-is k x f d s e g = rw (e, g) (ap (λ (c : Bool). pick c (not (eqb (getD x (switchOf k) 0 % 8 / 4) 0)) false) (is-true (switched k) s))
 
-masked-by : (k : ℕ) (t : List ℕ) (a b : ℕ) (p : Keep) → T (maskable k p) → bitAnd b (maskOf (onIn k t a) p) ≡ b % modOf p (drop a t)
-masked-by k t a b (low n) m = and-power b n m
-masked-by k t a b (sel f d m₀ m₁) m =
+masked-by : (k : ℕ) (x : List ℕ) (b : ℕ) (p : Keep) → T (maskable k p) → bitAnd b (maskOf (onIn k x) p) ≡ b % modOf p x
+masked-by k x b (low n) m = and-power b n m
+masked-by k x b (sel f d m₀ m₁) m =
     let u = and-yes (switched k) _ m in
     let v = and-yes (eqb f (switchOf k)) _ (u .1) in
     let w = and-yes (eqb d 4) _ (v .1) in
-    let x = and-yes (isPower m₀) (isPower m₁) (w .1) in
-    ap (λ (c : Bool). bitAnd b (pick c m₁ m₀ - 1)) (more-is k t a f d (u .0) (eqb→eq f (switchOf k) (v .0)) (eqb→eq d 4 (w .0)))
-    ∙ go (eqb (getD (drop a t) f 0 % (2 * d) / d) 0) (x .0) (x .1)
+    let y = and-yes (isPower m₀) (isPower m₁) (w .1) in
+    ap (λ (c : Bool). bitAnd b (pick c m₁ m₀ - 1)) (more-is k x f d (u .0) (eqb→eq f (switchOf k) (v .0)) (eqb→eq d 4 (w .0)))
+    ∙ go (eqb (getD x f 0 % (2 * d) / d) 0) (y .0) (y .1)
   where
     go : (c : Bool) → T (isPower m₀) → T (isPower m₁) → bitAnd b (pick (not c) m₁ m₀ - 1) ≡ b % pick c m₀ m₁
     go true y z = and-power b m₀ y
@@ -113,16 +112,26 @@ length-masks : (more : Bool) (ks : List Keep) → length (masksOf more ks) ≡ l
 length-masks more [] = refl
 length-masks more (k ∷ ks) = ap suc (length-masks more ks)
 
--- byte i of the image of the record of kind k at a
-pub masked-byte : (k : ℕ) (t : List ℕ) (a i : ℕ) → i < baseOf (layoutOf k) → bitAnd (getD t (a + i) 0) (getD (masksFor k (onIn k t a)) i 0) ≡ getD (imageIn (layoutOf k) t a) i 0
+-- byte i of the image of the record of kind k whose bytes are x
+pub masked-byte : (k : ℕ) (x : List ℕ) (i : ℕ) → i < baseOf (layoutOf k) → bitAnd (getD x i 0) (getD (masksFor k (onIn k x)) i 0) ≡ getD (imageIn (layoutOf k) x 0) i 0
 unfolding imageIn masksFor
-masked-byte k t a i h =
+masked-byte k x i h =
     let ks = layoutOf k .shape .keep in
-    let ms = masksOf (onIn k t a) ks in
-    let p = getD ks i (low 1) in
-    ap (bitAnd (getD t (a + i) 0)) (List·getD-append ms (replicate (128 - length ms) 0) 0 i (rw (length-masks (onIn k t a) ks) h) ∙ mask-at (onIn k t a) ks i)
-    ∙ masked-by k t a (getD t (a + i) 0) p (all-at (maskable k) ks (maskables k) i h)
-    ∙ sym (image-at ks (drop a t) i h ∙ ap (λ (x : ℕ). x % modOf p (drop a t)) (getD-drop a t i 0))
+    let ms = masksOf (onIn k x) ks in
+    ap (bitAnd (getD x i 0)) (List·getD-append ms (replicate (128 - length ms) 0) 0 i (rw (length-masks (onIn k x) ks) h) ∙ mask-at (onIn k x) ks i)
+    ∙ masked-by k x (getD x i 0) (getD ks i (low 1)) (all-at (maskable k) ks (maskables k) i h)
+    ∙ sym (image-at ks x i h)
+
+-- ---- a record by its own bytes
+
+keeps-look : (k : ℕ) → T (allKeep (okKeep (layoutOf k .shape .keep)) (layoutOf k .shape .keep))
+unfolding header control host hfi ssns security discovery info extended noKind
+keeps-look = by-layout (λ l. T (allKeep (okKeep (l .shape .keep)) (l .shape .keep))) tt tt tt tt tt tt tt tt tt tt
+
+-- the image of the part of a table that a record is, is the image at its place
+pub image-own : (k : ℕ) (t : List ℕ) (a : ℕ) → imageIn (layoutOf k) (part t a (baseOf (layoutOf k))) 0 ≡ imageIn (layoutOf k) t a
+unfolding imageIn
+image-own k t a = let ks = layoutOf k .shape .keep in image-part ks t a (length ks) (keeps-look k) (omega arith)
 
 -- ---- filling an array
 

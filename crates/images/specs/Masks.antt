@@ -1,7 +1,7 @@
 -- The bits of each byte that count, as masks: what code reads the layouts from. Definitions only.
 use mathlib.Core.Bool.{Bool, true, false, not}
 use mathlib.Core.List.{List, [], _∷_, _++_}
-use Prim.Native.Nat.{ℕ, _+_, _-_, _/_, _%_}
+use Prim.Native.Nat.{ℕ, _-_, _/_, _%_}
 use lib.ListN.{getD, take, drop}
 use lib.Dec.{eqb}
 use Rattle.table.specs.Bytes.{pick, padded}
@@ -24,8 +24,9 @@ switchOf k = pick (eqb k 4) 3 6
 abbrev pub switched : ℕ → Bool
 switched k = pick (eqb k 4) true (eqb k 7)
 
-unfoldable pub onIn : ℕ → List ℕ → ℕ → Bool
-onIn k t a = pick (switched k) (not (eqb (getD t (a + switchOf k) 0 % 8 / 4) 0)) false
+-- whether it is set in the bytes of a record of kind k
+unfoldable pub onIn : ℕ → List ℕ → Bool
+onIn k x = pick (switched k) (not (eqb (getD x (switchOf k) 0 % 8 / 4) 0)) false
 
 -- the masks of kind k, filled up to the size of the longest record
 unfoldable pub masksFor : ℕ → Bool → List ℕ

@@ -10,7 +10,7 @@ use table::Info;
 use table::Security;
 use table::Ssns;
 ghost use mathlib.Core.Path.{_≡_};
-ghost use Prim.Native.Nat.{_+_, _≤_};
+ghost use Prim.Native.Nat.{_≤_};
 ghost use lib.ListN.{length};
 ghost use Rattle.table.specs.Layout.{baseOf};
 ghost use Rattle.table.specs.FixedLayouts.{layoutOf};
@@ -87,13 +87,13 @@ const EXTENDED: [u8; 128] = *b"\
     \x00\x00\x00\x00\x00\x00\x00\x00\x00\x00\x00\x00\x00\x00\x00\x00\x00\x00\x00\x00\x00\x00\x00\x00\x00\x00\x00\x00\x00\x00\x00\x00";
 
 // Whether the flag is set under which a further field counts: SSNS 45, transport info 88.
-pub fn counts_more(t: &[u8], kind: u8, a: usize) -> bool
-    requires { ⌜ a + baseOf (layoutOf kind) ≤ length (now t) ⌝ }
-    ensures { λ r. ⌜ r ≡ onIn kind (now (t .entry)) a ⌝ }
+pub fn counts_more(x: &[u8], kind: u8) -> bool
+    requires { ⌜ baseOf (layoutOf kind) ≤ length (now x) ⌝ }
+    ensures { λ r. ⌜ r ≡ onIn kind (now (x .entry)) ⌝ }
 {
     match kind {
-        Ssns::ID => t[a + 3] % 8 / 4 != 0,
-        Info::ID => t[a + 6] % 8 / 4 != 0,
+        Ssns::ID => x[3] % 8 / 4 != 0,
+        Info::ID => x[6] % 8 / 4 != 0,
         _ => false,
     }
 }

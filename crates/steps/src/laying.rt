@@ -53,7 +53,7 @@ fn put_told(out: &mut [u8], s: State, kind: u8, b: &[u8], refs: Offsets, z: Size
     requires { ⌜ Room (refs .count) (refs .at) (z .span) (baseOf (layoutOf kind)) × (recordsEnd s ≤ length (now out)) × (s .used ≤ 131072) ⌝ }
     ensures { λ r. ⌜ now (out .exit) ≡ splice (now (out .entry)) (placeOf s (layoutOf kind)) (apply (imageIn (layoutOf kind) (now (b .entry)) 0) (storesFrom (refs .at) (z .len) (z .span) (s .used) 0 (refs .count))) ⌝ }
 {
-    let img = images::image_at(b, kind, 0);
+    let img = images::image_at(b, kind);
     let base = kinds::base_size(kind);
     let at = turns::place_of(s, kind);
     let end = at + base;

@@ -42,7 +42,7 @@ pub fn held(b: &[u8], kind: u8, h: usize, len: usize) -> [u8; 128]
     requires { ⌜ HeapKind kind × (length (now b) ≡ baseOf (layoutOf kind)) ⌝ }
     ensures { λ r. ⌜ r ≡ padded 128 (splice (imageIn (layoutOf kind) (now (b .entry)) 0) (refAt kind) (refNum h len)) ⌝ }
 {
-    let mut img = images::image_at(b, kind, 0);
+    let mut img = images::image_at(b, kind);
     let refs = kinds::reference_offsets(kind);
     let p = refs.at[0];
     put_slot(&mut img[0..128], p, h, len);

@@ -15,10 +15,10 @@ use Rattle.images.proofs.images.field_at.Statement.{statement}
 use Rattle.images.proofs.images.field_at.Tie as tie
 
 abbrev Inv-loop : tie.InvT-loop
-Inv-loop t kind a off width out₀ masks i₀ out i = (i ≤ width) × (out ≡ over (replicate 16 0) (part (imageIn (layoutOf kind) t a) off width) i)
+Inv-loop x kind off width out₀ masks i₀ out i = (i ≤ width) × (out ≡ over (replicate 16 0) (part (imageIn (layoutOf kind) x 0) off width) i)
 
 abbrev μ-loop : tie.MeasureT-loop
-μ-loop t kind a off width out₀ masks i₀ out i = width - i
+μ-loop x kind off width out₀ masks i₀ out i = width - i
 
 counts-more-requires : tie.Need-counts-more-requires Inv-loop μ-loop
 counts-more-requires c κs = search picks
@@ -31,9 +31,6 @@ loop-holds c = (search picks, refl)
 
 add-j : tie.Need-add-j Inv-loop μ-loop
 add-j c = search picks
-
-add-out : tie.Need-add-out Inv-loop μ-loop
-add-out c = search picks
 
 shared-slice-read-out : tie.Need-shared-slice-read-out Inv-loop μ-loop
 shared-slice-read-out c = search picks
@@ -52,18 +49,18 @@ loop-less c = search picks
 
 loop-again : tie.Need-loop-again Inv-loop μ-loop
 loop-again c = let a = c .before .before .before .before .before .before .args in
-    let s = imageIn (layoutOf (a .kind)) (a .t .now) (a .a) in
-    let n = length-imageIn (layoutOf (a .kind)) (a .t .now) (a .a) in
+    let s = imageIn (layoutOf (a .kind)) (a .x .now) 0 in
+    let n = length-imageIn (layoutOf (a .kind)) (a .x .now) 0 in
     let l = part-long s (a .off) (a .width) (omega (arith, n, c .before .before .before .before .before .before .pre .1)) in
     let h : c .before .before .loop .i < a .width = c .before .loop-test .taken in
-    let v : bitAnd (getD (a .t .now) (a .a + (a .off + c .before .before .loop .i)) 0) (getD (c .before .before .before .masks-of .result) (a .off + c .before .before .loop .i) 0) ≡ getD s (a .off + c .before .before .loop .i) 0 = ap (λ (m : List ℕ). bitAnd (getD (a .t .now) (a .a + (a .off + c .before .before .loop .i)) 0) (getD m (a .off + c .before .before .loop .i) 0)) (c .before .before .before .masks-of .ensures ∙ ap (masksFor (a .kind)) (c .before .before .before .before .counts-more .ensures)) ∙ masked-byte (a .kind) (a .t .now) (a .a) (a .off + c .before .before .loop .i) (omega (arith, h, c .before .before .before .before .before .before .pre .1)) in
+    let v : bitAnd (getD (a .x .now) (a .off + c .before .before .loop .i) 0) (getD (c .before .before .before .masks-of .result) (a .off + c .before .before .loop .i) 0) ≡ getD s (a .off + c .before .before .loop .i) 0 = ap (λ (m : List ℕ). bitAnd (getD (a .x .now) (a .off + c .before .before .loop .i) 0) (getD m (a .off + c .before .before .loop .i) 0)) (c .before .before .before .masks-of .ensures ∙ ap (masksFor (a .kind)) (c .before .before .before .before .counts-more .ensures)) ∙ masked-byte (a .kind) (a .x .now) (a .off + c .before .before .loop .i) (omega (arith, h, c .before .before .before .before .before .before .pre .1)) in
     let w = v ∙ sym (part-byte s (a .off) (a .width) (c .before .before .loop .i) h) in
     (search picks, rw (c .before .before .loop .inv .1, w) (over-more (replicate 16 0) (part s (a .off) (a .width)) (c .before .before .loop .i) (omega (arith, l, h)) (omega (arith, h, c .before .before .before .before .before .before .pre .2))))
 
 returns : tie.Need-returns Inv-loop μ-loop
 returns c = let a = c .before .before .before .before .before .args in
-    let s = imageIn (layoutOf (a .kind)) (a .t .now) (a .a) in
-    let n = length-imageIn (layoutOf (a .kind)) (a .t .now) (a .a) in
+    let s = imageIn (layoutOf (a .kind)) (a .x .now) 0 in
+    let n = length-imageIn (layoutOf (a .kind)) (a .x .now) 0 in
     let l = part-long s (a .off) (a .width) (omega (arith, n, c .before .before .before .before .before .pre .1)) in
     let e : c .before .loop .i ≡ length (part s (a .off) (a .width)) = omega (arith, l) in
     c .before .loop .inv .1 ∙ ap (over (replicate 16 0) (part s (a .off) (a .width))) e ∙ over-padded 16 (part s (a .off) (a .width)) (omega (arith, l, c .before .before .before .before .before .pre .2))
@@ -78,7 +75,6 @@ field-at-spec =
     masks-of-requires
     loop-holds
     add-j
-    add-out
     shared-slice-read-out
     array-read-out
     array-write-out

@@ -15,7 +15,7 @@ put-image-requires : tie.Need-put-image-requires
 put-image-requires c κs = let s = c .before .before in (s .pre, omega (arith, base-small (s .args .kind)))
 
 returns : tie.Need-returns
-returns c = let a = c .before .before .before .before .args in c .before .put-image .ensures ∙ splice-padded 128 (imageIn (layoutOf (a .kind)) (a .t .now) (a .a))
+returns c = let a = c .before .before .before .before .args in c .before .put-image .ensures ∙ splice-padded 128 (imageIn (layoutOf (a .kind)) (a .x .now) 0)
 
 pub image-at-spec : {M : Type 1} → statement M
 image-at-spec = tie.close (tie.spec slice-aggregate-put-image put-image-requires returns)

@@ -1,6 +1,6 @@
 use mathlib.Core.Path.{_≡_, refl, ap, _∙_}
 use mathlib.Core.List.{List}
-use Prim.Native.Nat.{ℕ, _+_, _-_, _≤_, _<_}
+use Prim.Native.Nat.{ℕ, _-_, _≤_, _<_}
 use native.Mathlib.Omega.{arith}
 use lib.Bits.{bitAnd}
 use lib.ListN.{length, getD, length-set}
@@ -16,10 +16,10 @@ use Rattle.images.proofs.images.put_image.Statement.{statement}
 use Rattle.images.proofs.images.put_image.Tie as tie
 
 abbrev Inv-loop : tie.InvT-loop
-Inv-loop out₀ d t kind a masks n i₀ out i = (i ≤ n) × (out ≡ paste out₀ d (imageIn (layoutOf kind) t a) i) × (length out ≡ length out₀)
+Inv-loop out₀ d x kind masks n i₀ out i = (i ≤ n) × (out ≡ paste out₀ d (imageIn (layoutOf kind) x 0) i) × (length out ≡ length out₀)
 
 abbrev μ-loop : tie.MeasureT-loop
-μ-loop out₀ d t kind a masks n i₀ out i = n - i
+μ-loop out₀ d x kind masks n i₀ out i = n - i
 
 counts-more-requires : tie.Need-counts-more-requires Inv-loop μ-loop
 counts-more-requires c κs = search picks
@@ -31,10 +31,7 @@ base-size-requires : tie.Need-base-size-requires Inv-loop μ-loop
 base-size-requires c κs = search picks
 
 loop-holds : tie.Need-loop-holds Inv-loop μ-loop
-loop-holds c = let a = c .before .before .before .before .before .args in (search picks, paste-zero (a .out .now) (a .d) (imageIn (layoutOf (a .kind)) (a .t .now) (a .a)), refl)
-
-add-out : tie.Need-add-out Inv-loop μ-loop
-add-out c = search picks
+loop-holds c = let a = c .before .before .before .before .before .args in (search picks, paste-zero (a .out .now) (a .d) (imageIn (layoutOf (a .kind)) (a .x .now) 0), refl)
 
 shared-slice-read-out : tie.Need-shared-slice-read-out Inv-loop μ-loop
 shared-slice-read-out c = search picks
@@ -42,8 +39,8 @@ shared-slice-read-out c = search picks
 array-read-out : tie.Need-array-read-out Inv-loop μ-loop
 array-read-out c = omega (arith, c .before .loop-test .taken, c .before .before .before .base-size .ensures, base-small (c .before .before .before .before .before .before .before .before .args .kind))
 
-add-out-2 : tie.Need-add-out-2 Inv-loop μ-loop
-add-out-2 c = search picks
+add-out : tie.Need-add-out Inv-loop μ-loop
+add-out c = search picks
 
 slice-write-out : tie.Need-slice-write-out Inv-loop μ-loop
 slice-write-out c = search picks
@@ -56,19 +53,19 @@ loop-less c = search picks
 
 loop-again : tie.Need-loop-again Inv-loop μ-loop
 loop-again c = let a = c .before .before .before .before .before .before .before .before .args in
-    let s = imageIn (layoutOf (a .kind)) (a .t .now) (a .a) in
-    let n = length-imageIn (layoutOf (a .kind)) (a .t .now) (a .a) in
+    let s = imageIn (layoutOf (a .kind)) (a .x .now) 0 in
+    let n = length-imageIn (layoutOf (a .kind)) (a .x .now) 0 in
     let i = c .before .before .loop .i in
     let h : i < length s = omega (arith, n, c .before .loop-test .taken, c .before .before .before .base-size .ensures) in
-    let v : bitAnd (getD (a .t .now) (a .a + i) 0) (getD (c .before .before .before .before .masks-of .result) i 0) ≡ getD s i 0 =
-    ap (λ (m : List ℕ). bitAnd (getD (a .t .now) (a .a + i) 0) (getD m i 0)) (c .before .before .before .before .masks-of .ensures ∙ ap (masksFor (a .kind)) (c .before .before .before .before .before .counts-more .ensures)) ∙ masked-byte (a .kind) (a .t .now) (a .a) i (omega (arith, n, h)) in
+    let v : bitAnd (getD (a .x .now) i 0) (getD (c .before .before .before .before .masks-of .result) i 0) ≡ getD s i 0 =
+    ap (λ (m : List ℕ). bitAnd (getD (a .x .now) i 0) (getD m i 0)) (c .before .before .before .before .masks-of .ensures ∙ ap (masksFor (a .kind)) (c .before .before .before .before .before .counts-more .ensures)) ∙ masked-byte (a .kind) (a .x .now) i (omega (arith, n, h)) in
     (search picks, rw (c .before .before .loop .inv .1, v) (paste-more (a .out .now) (a .d) s i (omega (arith, n, c .before .before .before .before .before .before .before .before .pre)) h), simp length-set (search picks))
 
 same-length : tie.Need-same-length Inv-loop μ-loop
 same-length c = search picks
 
 returns : tie.Need-returns Inv-loop μ-loop
-returns c = let a = c .before .before .before .before .before .before .before .args in let s = imageIn (layoutOf (a .kind)) (a .t .now) (a .a) in let n = length-imageIn (layoutOf (a .kind)) (a .t .now) (a .a) in c .before .loop .inv .1 ∙ paste-done (a .out .now) (a .d) s (c .before .loop .i) (omega (arith, n, c .before .before .base-size .ensures))
+returns c = let a = c .before .before .before .before .before .before .before .args in let s = imageIn (layoutOf (a .kind)) (a .x .now) 0 in let n = length-imageIn (layoutOf (a .kind)) (a .x .now) 0 in c .before .loop .inv .1 ∙ paste-done (a .out .now) (a .d) s (c .before .loop .i) (omega (arith, n, c .before .before .base-size .ensures))
 
 pub put-image-spec : {M : Type 1} → statement M
 put-image-spec =
@@ -80,10 +77,9 @@ put-image-spec =
     masks-of-requires
     base-size-requires
     loop-holds
-    add-out
     shared-slice-read-out
     array-read-out
-    add-out-2
+    add-out
     slice-write-out
     add-i
     loop-less

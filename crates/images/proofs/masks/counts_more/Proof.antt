@@ -4,19 +4,12 @@ use Rattle.table.specs.Layout.{baseOf}
 use native.Mathlib.Omega.{arith}
 use mathlib.Core.Path.{_≡_, refl}
 use Rattle.table.proofs.Rules.{picks}
-use borrow.Author.Needs.{needs}
 use Rattle.images.proofs.masks.counts_more.Statement.{statement}
 use Rattle.images.proofs.masks.counts_more.Tie as tie
-
-add-result : tie.Need-add-result
-add-result c = search needs
 
 shared-slice-read-result : tie.Need-shared-slice-read-result
 unfolding layoutOf ssns info
 shared-slice-read-result c = let b : 128 ≡ baseOf (layoutOf (c .before .before .args .kind)) = rw (c .before .match .keys1) refl in omega (arith, b, c .before .before .pre)
-
-add-result-2 : tie.Need-add-result-2
-add-result-2 c = search needs
 
 shared-slice-read-result-2 : tie.Need-shared-slice-read-result-2
 unfolding layoutOf ssns info
@@ -38,9 +31,7 @@ pub counts-more-spec : {M : Type 1} → statement M
 counts-more-spec =
     tie.close
     (tie.spec
-    add-result
     shared-slice-read-result
-    add-result-2
     shared-slice-read-result-2
     returns
     returns-2
