@@ -1,23 +1,23 @@
 -- Seats as the code computes them are the definitions'. Assumes nothing.
-use mathlib.Core.Path.{_≡_, refl, ap}
-use mathlib.Core.Bool.{Bool, true, false, _&&_}
+use mathlib.Core.Path.{_≡_, refl, sym, ap, _∙_}
+use mathlib.Core.Bool.{Bool, true, false, true≢false, _&&_}
 use mathlib.Core.List.{List}
 use Prim.Native.Nat.{ℕ, _+_, _-_, _*_, _/_, _%_, _≤_, _<_}
 use lib.ListN.{getD, drop}
 use lib.Dec.{eqb, leb}
 use borrow.Author.Tests.{le-leb, lt-leb}
 use Rattle.table.specs.declared.Need.the-variants.{Ignored, Required}
-use Rattle.table.specs.Bytes.{pick, num, odd}
+use Rattle.table.specs.Bytes.{pick, num}
 use Rattle.table.specs.Layout.{Layout, isValid, image}
-use Rattle.table.specs.FixedLayouts.{layoutOf, hfi, ssns, info, extended}
+use Rattle.table.specs.FixedLayouts.{layoutOf, header, control, host, hfi, ssns, security, discovery, info, extended, noKind}
 use Rattle.table.specs.Objects.{under}
-use Rattle.table.specs.Reads.{Seat, nowhere, seat, listSeat, heapSeat}
+use Rattle.table.specs.Reads.{Seat, nowhere, seat, seatOf, listSeat, heapSeat}
 use Rattle.laws.specs.Fields.{imageIn}
-use Rattle.laws.specs.ListWalk.{flag-is}
-use Rattle.lists.proofs.Laws.{flags-stand}
+use Rattle.images.proofs.Laws.{by-kind, Other, other-layout}
 use Rattle.reads.specs.declared.seats.Seat as code
 use Rattle.reads.specs.declared.seats.Seat.the-variants.{Nowhere, At}
-use Rattle.reads.specs.Seats.{asSeat, singleAt, heapAt, infoOf, extendedAt, extendedOf}
+use Rattle.reads.specs.Seats.{asSeat, singleAt, heapAt, extendedAt, heapRecord, ownedOf, nestAt, isOwner}
+use Rattle.reads.specs.Told.{innerKind}
 
 -- ---- the lists
 
@@ -34,9 +34,9 @@ module _ (k : ℕ) (t : List ℕ) (c n : ℕ) where
     go true e = rw e refl
     go false e = refl
 
-  pub list-there : 2 ≤ k → k ≤ 6 → 1 ≤ n → n ≤ getD t (c + 7) 0 → listSeat (layoutOf k) t c n ≡ seat (layoutOf k) start (odd (getD t (start + layoutOf k .shape .flags .at) 0))
+  pub list-there : 1 ≤ n → n ≤ getD t (c + 7) 0 → listSeat (layoutOf k) t c n ≡ seat (layoutOf k) start (isValid (layoutOf k .shape) (imageIn (layoutOf k) t start))
   unfolding imageIn
-  list-there x y p q = rw (le-leb 1 n p, le-leb n (getD t (c + 7) 0) q) (ap (seat (layoutOf k) start) (flag-is (layoutOf k) t start (flags-stand k x y)))
+  list-there p q = rw (le-leb 1 n p, le-leb n (getD t (c + 7) 0) q) refl
 
 -- ---- outside the lists
 
@@ -54,18 +54,47 @@ heap-is l t r = go (eqb (num t (r + 4) 2) 0) where
   go true = refl
   go false = refl
 
-pub info-is : (t : List ℕ) (s : code.Seat) → asSeat info (infoOf t s) ≡ heapSeat info 16 t (asSeat hfi s)
-unfolding infoOf hfi
-info-is t Nowhere = refl
-info-is t (At at true) = heap-is info t (at + 16)
-info-is t (At at false) = refl
+-- ---- heap records
 
-pub extended-is : (t : List ℕ) (s : code.Seat) → asSeat extended (extendedOf t s) ≡ heapSeat extended 60 t (asSeat ssns s)
-unfolding extendedOf extendedAt ssns imageIn
-extended-is t Nowhere = refl
-extended-is t (At at true) = go (eqb (num (image (ssns .shape .keep) (drop at t)) 3 2 / 16 % 2) 0) where
-  go : (c : Bool) → asSeat extended (pick c Nowhere (heapAt t (at + 60)))
-      ≡ under (pick c Ignored Required) nowhere (pick (eqb (num t (at + 60 + 4) 2) 0) nowhere (seat extended (num t (at + 60) 4) true))
+extended-is : (t : List ℕ) (a : ℕ) → asSeat extended (extendedAt t a) ≡ heapSeat extended 60 t (seat ssns a true)
+unfolding extendedAt ssns imageIn
+extended-is t a = go (eqb (num (image (ssns .shape .keep) (drop a t)) 3 2 / 16 % 2) 0) where
+  go : (c : Bool) → asSeat extended (pick c Nowhere (heapAt t (a + 60)))
+      ≡ under (pick c Ignored Required) nowhere (pick (eqb (num t (a + 60 + 4) 2) 0) nowhere (seat extended (num t (a + 60) 4) true))
   go true = refl
-  go false = heap-is extended t (at + 60)
-extended-is t (At at false) = refl
+  go false = heap-is extended t (a + 60)
+
+other-record : (t : List ℕ) (a k : ℕ) → Other k → asSeat (layoutOf (innerKind k)) (heapRecord t k a) ≡ heapSeat (layoutOf (innerKind k)) (nestAt k) t (seat noKind a true)
+unfolding heapRecord noKind
+other-record t a k o = rw (o .not3, o .not4) refl
+
+-- the heap record of the used record of kind k at a is the one that its reference names
+pub heap-record-is : (t : List ℕ) (a k : ℕ) → asSeat (layoutOf (innerKind k)) (heapRecord t k a) ≡ heapSeat (layoutOf (innerKind k)) (nestAt k) t (seat (layoutOf k) a true)
+unfolding heapRecord layoutOf header control host hfi security discovery info extended
+heap-record-is t a =
+    by-kind (λ k. asSeat (layoutOf (innerKind k)) (heapRecord t k a) ≡ heapSeat (layoutOf (innerKind k)) (nestAt k) t (seat (layoutOf k) a true))
+    refl refl refl (heap-is info t (a + 16)) (extended-is t a) refl refl refl refl
+    (λ k o. other-record t a k o ∙ ap (λ (l : Layout). heapSeat (layoutOf (innerKind k)) (nestAt k) t (seat l a true)) (sym (other-layout k o)))
+
+-- so it is the one of its owner's position
+pub heap-record-of : (t : List ℕ) (n a k : ℕ) → isOwner k ≡ true → seatOf t k n ≡ seat (layoutOf k) a true → asSeat (layoutOf (innerKind k)) (heapRecord t k a) ≡ seatOf t (innerKind k) n
+unfolding seatOf layoutOf
+heap-record-of t n a =
+    by-kind (λ k. isOwner k ≡ true → seatOf t k n ≡ seat (layoutOf k) a true → asSeat (layoutOf (innerKind k)) (heapRecord t k a) ≡ seatOf t (innerKind k) n)
+    (λ e s. absurd (true≢false (sym e)))
+    (λ e s. absurd (true≢false (sym e)))
+    (λ e s. absurd (true≢false (sym e)))
+    (λ e s. heap-record-is t a 3 ∙ ap (heapSeat info 16 t) (sym s))
+    (λ e s. heap-record-is t a 4 ∙ ap (heapSeat extended 60 t) (sym s))
+    (λ e s. absurd (true≢false (sym e)))
+    (λ e s. absurd (true≢false (sym e)))
+    (λ e s. absurd (true≢false (sym e)))
+    (λ e s. absurd (true≢false (sym e)))
+    (λ k o e s. absurd (true≢false (sym (rw (o .not3, o .not4) at e))))
+
+-- by an owner's seat
+pub owned-is : (t : List ℕ) (k : ℕ) (s : code.Seat) → asSeat (layoutOf (innerKind k)) (ownedOf t k s) ≡ heapSeat (layoutOf (innerKind k)) (nestAt k) t (asSeat (layoutOf k) s)
+unfolding ownedOf
+owned-is t k Nowhere = refl
+owned-is t k (At at true) = heap-record-is t at k
+owned-is t k (At at false) = refl

@@ -4,3 +4,5 @@ pub mod ReadLaws
 pub mod ObjectLaws
 pub mod MeaningLaws
 pub mod EntryLaws
+pub mod OwnLaws
+pub mod LentLaws

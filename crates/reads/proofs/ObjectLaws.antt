@@ -8,6 +8,7 @@ use lib.ListN.{length}
 use lib.Dec.{T, eqb, leb, leb→le, lit<}
 use mir.Facts.{and-yes}
 use borrow.Author.Tests.{eqb-true, eqb-false}
+use Rattle.table.specs.declared.Answer.{Answer}
 use Rattle.table.specs.declared.Region.{Region}
 use Rattle.table.specs.declared.Need.{Need}
 use Rattle.table.specs.declared.Need.the-variants.{Ignored, Optional, Required}
@@ -18,7 +19,7 @@ use Rattle.table.specs.FixedLayouts.{layoutOf, header, control, host, hfi, ssns
 use Rattle.table.specs.Objects.{under}
 use Rattle.table.specs.Rules.{answer, done, refRule, plainRule, refsRule}
 use Rattle.table.specs.Numbers.{heapIn, check}
-use Rattle.table.specs.Reads.{Seat, nowhere, seat, seatOf, needAt, hasPlain, noPlace, refPlace, placeAt, readPlace, shown}
+use Rattle.table.specs.Reads.{Seat, nowhere, seat, needAt, hasPlain, noPlace, refPlace, placeAt, shown}
 use Rattle.laws.specs.Sound.{first-of}
 use Rattle.laws.specs.Fields.{Bytes, imageIn, two-bytes}
 use Rattle.laws.specs.ListWalk.{by-layout}
@@ -28,8 +29,8 @@ use Rattle.needs.specs.Needs.{plainNeed}
 use Rattle.reader.specs.Accepted.{Accepted}
 use Rattle.reader.proofs.AcceptedLaws.{laid}
 use Rattle.images.proofs.Laws.{by-kind, other-layout}
-use Rattle.reads.specs.Seats.{Good}
-use Rattle.reads.proofs.SeatLaws.{seats-good, heap-object, ref-inside}
+use Rattle.reads.specs.Seats.{Good, InHeap}
+use Rattle.reads.proofs.SeatLaws.{heap-object, ref-inside}
 
 -- ---- references lie in their record, none to an object behind one to a heap record
 
@@ -109,52 +110,55 @@ plain-passes heap e t a img n q (plain p need content rest) o z h =
     go false f x r g = r g
 plain-passes heap e t a img n q (nest p need shape own rest) o z h = absurd (none-plain q rest o h)
 
-abbrev pub Room : List ℕ → Place → Type 0
-Room t p = p .at + p .len ≤ length t
+-- a place lies in the table, and what is not empty there in the heap
+abbrev Placed : List ℕ → Place → Type 0
+Placed t p = (p .at + p .len ≤ length t) × (0 < p .len → InHeap t (p .at) (p .len))
+
+-- none
+nowhere-placed : (t : List ℕ) (a : Answer) → Placed t (noPlace a)
+nowhere-placed t a = (omega arith, λ h. absurd (omega (arith, h)))
 
 -- under a need, of a reference that passes
-need-room : (t : List ℕ) (ok : Accepted t) (r : ℕ) (n : Need) → refRule (heapIn t) n (num t r 4) (num t (r + 4) 2) ≡ 0 → Room t (under n (noPlace done) (refPlace t r))
-need-room t ok r n z = go n z where
-  there : (m : Need) → (m ≡ Ignored → ⊥) → refRule (heapIn t) m (num t r 4) (num t (r + 4) 2) ≡ 0 → Room t (refPlace t r)
+need-placed : (t : List ℕ) (ok : Accepted t) (r : ℕ) (n : Need) → refRule (heapIn t) n (num t r 4) (num t (r + 4) 2) ≡ 0 → Placed t (under n (noPlace done) (refPlace t r))
+need-placed t ok r n z = go n z where
+  there : (m : Need) → (m ≡ Ignored → ⊥) → refRule (heapIn t) m (num t r 4) (num t (r + 4) 2) ≡ 0 → Placed t (refPlace t r)
   there m c y = by (eqb (num t (r + 4) 2) 0) refl where
-    by : (b : Bool) → eqb (num t (r + 4) 2) 0 ≡ b → Room t (pick b (noPlace done) (record { answer = done; present = true; at = num t r 4; len = num t (r + 4) 2 }))
-    by true f = omega arith
-    by false f = heap-object t (laid t ok) (num t r 4) (num t (r + 4) 2) (ref-inside t m (num t r 4) (num t (r + 4) 2) y c (omega (arith, eqb-false (num t (r + 4) 2) 0 f)))
+    by : (b : Bool) → eqb (num t (r + 4) 2) 0 ≡ b → Placed t (pick b (noPlace done) (record { answer = done; present = true; at = num t r 4; len = num t (r + 4) 2 }))
+    by true f = nowhere-placed t done
+    by false f =
+        let i = ref-inside t m (num t r 4) (num t (r + 4) 2) y c (omega (arith, eqb-false (num t (r + 4) 2) 0 f)) in
+        (heap-object t (laid t ok) (num t r 4) (num t (r + 4) 2) i, λ h. record { above = i .above; below = i .below })
 
-  go : (m : Need) → refRule (heapIn t) m (num t r 4) (num t (r + 4) 2) ≡ 0 → Room t (under m (noPlace done) (refPlace t r))
-  go Ignored y = omega arith
+  go : (m : Need) → refRule (heapIn t) m (num t r 4) (num t (r + 4) 2) ≡ 0 → Placed t (under m (noPlace done) (refPlace t r))
+  go Ignored y = nowhere-placed t done
   go Optional y = there Optional (λ f. let w : _≡_ {A = ℕ} 1 0 = ap (λ (x : Need). under x 0 1) f in omega arith) y
   go Required y = there Required (λ f. let w : _≡_ {A = ℕ} 1 0 = ap (λ (x : Need). under x 0 1) f in omega arith) y
 
-pub seat-room : (t : List ℕ) (ok : Accepted t) (q k : ℕ) (s : Seat) → Good t k s → Room t (placeAt t q s)
+seat-placed : (t : List ℕ) (ok : Accepted t) (q k : ℕ) (s : Seat) → Good t k s → Placed t (placeAt t q s)
 unfolding imageIn
-seat-room t ok q k nowhere g = omega arith
-seat-room t ok q k (seat l a on) g = go (hasPlain q (l .refs)) refl on (g .1 .passes)
+seat-placed t ok q k nowhere g = nowhere-placed t (answer 16 0 0)
+seat-placed t ok q k (seat l a on) g = go (hasPlain q (l .refs)) refl on (g .1 .passes)
   where
     inOrder : T (ordered (baseOf l) (l .refs))
     inOrder = subst (λ (m : Layout). T (ordered (baseOf m) (m .refs))) (sym (g .0)) (kinds-ordered k)
 
     go : (c : Bool) → hasPlain q (l .refs) ≡ c → (b : Bool) → (b ≡ true → refsRule (heapIn t) (g .1 .around) t a (imageIn l t a) (l .refs) ≡ 0)
-        → Room t (pick c (pick b (under (needAt q (l .refs) (shown t l a b)) (noPlace done) (refPlace t (a + q))) (noPlace done)) (noPlace (answer 16 0 0)))
-    go false e b p = omega arith
-    go true e false p = omega arith
+        → Placed t (pick c (pick b (under (needAt q (l .refs) (shown t l a b)) (noPlace done) (refPlace t (a + q))) (noPlace done)) (noPlace (answer 16 0 0)))
+    go false e b p = nowhere-placed t (answer 16 0 0)
+    go true e false p = nowhere-placed t done
     go true e true p =
-        need-room t ok (a + q) (needAt q (l .refs) (imageIn l t a))
+        need-placed t ok (a + q) (needAt q (l .refs) (imageIn l t a))
         (plain-passes (heapIn t) (g .1 .around) t a (imageIn l t a) (baseOf l) q (l .refs) inOrder (p refl) e)
 
--- of an accepted table, and of any bytes
-pub place-room : (t : List ℕ) → Accepted t → (k n q : ℕ) → placeAt t q (seatOf t k n) .at + placeAt t q (seatOf t k n) .len ≤ length t
-place-room t ok k n q = seat-room t ok q k (seatOf t k n) (seats-good t ok n k)
+pub seat-room : (t : List ℕ) (ok : Accepted t) (q k : ℕ) (s : Seat) → Good t k s → placeAt t q s .at + placeAt t q s .len ≤ length t
+seat-room t ok q k s g = seat-placed t ok q k s g .0
+
+-- an object that is there lies in the heap
+pub seat-heap : (t : List ℕ) (ok : Accepted t) (q k : ℕ) (s : Seat) → Good t k s → 0 < placeAt t q s .len → InHeap t (placeAt t q s .at) (placeAt t q s .len)
+seat-heap t ok q k s g = seat-placed t ok q k s g .1
 
 pub accepted : (t : List ℕ) → check t .number ≡ 0 → Accepted t
 accepted t e = record { good = check-zero t e }
-
-pub read-room : (t : List ℕ) (k n q : ℕ) → readPlace t k n q .at + readPlace t k n q .len ≤ length t
-unfolding readPlace
-read-room t k n q = go (eqb (check t .number) 0) refl where
-  go : (c : Bool) → eqb (check t .number) 0 ≡ c → Room t (pick c (placeAt t q (seatOf t k n)) (noPlace (check t)))
-  go true e = place-room t (accepted t (eqb-true (check t .number) 0 e)) k n q
-  go false e = omega arith
 
 -- ---- an object's place and length are small numbers
 

@@ -1,6 +1,6 @@
 -- In an accepted table each seat lies in the table, and the references of the record there pass. Assumes nothing.
 use mathlib.Core.Path.{_≡_, refl, sym, ap, _∙_}
-use mathlib.Core.Bool.{Bool, true, false, _&&_}
+use mathlib.Core.Bool.{Bool, true, false, true≢false, _&&_}
 use mathlib.Core.List.{List}
 use Prim.Native.Nat.{ℕ, _+_, _-_, _*_, _/_, _%_, _≤_, _<_}
 use native.Mathlib.Omega.{arith}
@@ -12,8 +12,8 @@ use Rattle.table.specs.declared.Region.{Region}
 use Rattle.table.specs.declared.Need.{Need}
 use Rattle.table.specs.declared.Need.the-variants.{Ignored, Optional, Required}
 use Rattle.table.specs.Bytes.{pick, num}
-use Rattle.table.specs.Layout.{Content, Env, Layout, Refs, Shape, baseOf, image, nest, plain}
-use Rattle.table.specs.FixedLayouts.{layoutOf, header, control, host, hfi, ssns, security, discovery, info, extended, whenSet}
+use Rattle.table.specs.Layout.{Content, Env, Layout, Refs, Shape, baseOf, image, isValid, nest, plain}
+use Rattle.table.specs.FixedLayouts.{layoutOf, header, control, host, hfi, ssns, security, discovery, info, extended, noKind, whenSet}
 use Rattle.table.specs.Objects.{under}
 use Rattle.table.specs.Rules.{firstOf, refRule, plainRule, nestRule, refsRule, isSound}
 use Rattle.table.specs.Numbers.{heapIn}
@@ -27,10 +27,14 @@ use Rattle.reader.specs.Accepted.{Accepted}
 use Rattle.indexes.specs.Indexes.{refsFault}
 use Rattle.lists.proofs.Laws.{flags-stand}
 use Rattle.reader.proofs.AcceptedLaws.{laid, driver-passes, host-passes, lists-pass, record-passes, record-in, used-passes, used-parts, required-in, optional-in}
-use Rattle.images.proofs.Laws.{by-kind, Other}
-use Rattle.reads.specs.Seats.{Seated, Entered, Listed, Good, Held, heapAt, extendedAt, heapRecord}
+use Rattle.images.proofs.Laws.{by-kind, Other, other-layout}
+use Rattle.reads.specs.Seats.{Seated, Standing, Listed, Good, Held, isHeaped, heapAt, extendedAt, heapRecord}
 use Rattle.reads.specs.declared.seats.Seat.the-variants.{Nowhere, At}
 use Rattle.reads.specs.Told.{innerKind}
+
+-- a record that is seated stands there
+pub standing : (t : List ℕ) (l : Layout) (a : ℕ) (on : Bool) → Seated t l a on → Standing t l a
+standing t l a on s = record { within = s .within; heaped = s .heaped; around = s .around; passes = λ e. absurd (true≢false (sym e)) }
 
 pick-good : (t : List ℕ) (k : ℕ) (c : Bool) (s : Seat) → (c ≡ true → Good t k s) → Good t k (pick c s nowhere)
 pick-good t k true s f = f refl
@@ -49,20 +53,34 @@ ref-inside t Required off len e c h = required-in (num t 36 4) (num t 40 4) off 
 
 -- ---- records of the lists
 
+-- a list holds no heap records
+list-kind : (k : ℕ) → 2 ≤ k → k ≤ 6 → isHeaped (layoutOf k .kind) ≡ true → ⊥
+unfolding layoutOf header control host hfi ssns security discovery info extended noKind
+list-kind =
+    by-kind (λ k. 2 ≤ k → k ≤ 6 → isHeaped (layoutOf k .kind) ≡ true → ⊥)
+    (λ x y e. omega arith)
+    (λ x y e. omega arith)
+    (λ x y e. true≢false (sym e))
+    (λ x y e. true≢false (sym e))
+    (λ x y e. true≢false (sym e))
+    (λ x y e. true≢false (sym e))
+    (λ x y e. true≢false (sym e))
+    (λ x y e. omega arith)
+    (λ x y e. omega arith)
+    (λ k o x y e. true≢false (sym (sym (ap (λ (l : Layout). isHeaped (l .kind)) (other-layout k o)) ∙ e)))
+
 -- position i + 1 of a list that passes
-pub list-entered : (t : List ℕ) (k c : ℕ) → Listed t k c → (i : ℕ) → i < getD t (c + 7) 0 → Entered t k (num t c 4 + i * num t (c + 4) 2)
+list-seated : (t : List ℕ) (k c : ℕ) → Listed t k c → (i : ℕ) → i < getD t (c + 7) 0
+    → let a = num t c 4 + i * num t (c + 4) 2 in Seated t (layoutOf k) a (isValid (layoutOf k .shape) (imageIn (layoutOf k) t a))
 unfolding refsFault
-list-entered t k c l i h =
+list-seated t k c l i h =
     let a = num t c 4 + i * num t (c + 4) 2 in
     let p = record-passes k (heapIn t) t c (l .passed) i h in
     record {
-      low = l .least;
-      high = l .most;
-      seated = record {
-        within = record-in t c (baseOf (layoutOf k)) i (l .inside) h;
-        around = envIn t (1 + i);
-        passes = λ on. used-parts k (heapIn t) t a (1 + i) (used-passes k (heapIn t) t a (1 + i) (l .least) (l .most) (sym (flag-is (layoutOf k) t a (flags-stand k (l .least) (l .most))) ∙ on) p) .1;
-      };
+      within = record-in t c (baseOf (layoutOf k)) i (l .inside) h;
+      heaped = λ e. absurd (list-kind k (l .least) (l .most) e);
+      around = envIn t (1 + i);
+      passes = λ on. used-parts k (heapIn t) t a (1 + i) (used-passes k (heapIn t) t a (1 + i) (l .least) (l .most) (sym (flag-is (layoutOf k) t a (flags-stand k (l .least) (l .most))) ∙ on) p) .1;
     }
 
 module _ (t : List ℕ) (ok : Accepted t) where
@@ -91,7 +109,7 @@ list-good t n k c l =
     let u = and-yes (leb 1 n) (leb n (getD t (c + 7) 0)) (rw b tt) in
     let lo = leb→le 1 n (u .0) in
     let hi = leb→le n (getD t (c + 7) 0) (u .1) in
-    (refl, list-entered t k c l (n - 1) (omega arith) .seated)
+    (refl, list-seated t k c l (n - 1) (omega arith))
 
 -- ---- heap records
 
@@ -143,8 +161,15 @@ module _ (t : List ℕ) (ok : Accepted t) (l : Layout) (k r : ℕ) (e : Env) (is
     go : (b : Bool) → eqb (num t (r + 4) 2) 0 ≡ b → Good t k (pick b nowhere (seat l (num t r 4) true))
     go true f = omega arith
     go false f =
-        let p = nest-passes t n (l .shape) e r own z c f in
-        (is, record { within = omega (arith, p .1, heap-object t (laid t ok) (num t r 4) (num t (r + 4) 2) (p .0)); around = e; passes = λ on. p .2 })
+        let p = nest-passes t n (l .shape) e r own z c f in (
+          is,
+          record {
+            within = omega (arith, p .1, heap-object t (laid t ok) (num t r 4) (num t (r + 4) 2) (p .0));
+            heaped = λ h. record { above = omega (arith, p .0); below = omega (arith, p .0, p .1) };
+            around = e;
+            passes = λ on. p .2;
+          },
+        )
 
   heap-good : (n : Need) → nestRule (heapIn t) n (l .shape) e t r own ≡ 0 → Good t k (under n nowhere (pick (eqb (num t (r + 4) 2) 0) nowhere (seat l (num t r 4) true)))
   heap-good Ignored z = omega arith
@@ -173,22 +198,15 @@ module _ (t : List ℕ) (ok : Accepted t) where
 
   pub header-seated : Seated t (layoutOf 0) 0 true
   unfolding layoutOf header refsFault
-  header-seated = record { within = omega (arith, laid t ok .lent); around = envIn t 0; passes = λ on. driver-passes t ok }
+  header-seated = record { within = omega (arith, laid t ok .lent); heaped = λ e. absurd (true≢false (sym e)); around = envIn t 0; passes = λ on. driver-passes t ok }
 
   control-seated : Seated t (layoutOf 1) 0 true
   unfolding layoutOf control refsRule
-  control-seated = record { within = omega (arith, laid t ok .lent); around = envIn t 0; passes = λ on. refl }
+  control-seated = record { within = omega (arith, laid t ok .lent); heaped = λ e. absurd (true≢false (sym e)); around = envIn t 0; passes = λ on. refl }
 
   host-seated : Seated t (layoutOf 2) (num t 72 4) true
   unfolding layoutOf host refsFault
-  host-seated = record { within = laid t ok .owner; around = envIn t 0; passes = λ on. used-parts 2 (heapIn t) t (num t 72 4) 0 (host-passes t ok .1) .1 }
-
-  pub host-entered : Entered t 2 (num t 72 4)
-  host-entered = record {
-    low = lit≤ tt;
-    high = lit≤ tt;
-    seated = record { within = host-seated .within; around = host-seated .around; passes = λ e. host-seated .passes refl };
-  }
+  host-seated = record { within = laid t ok .owner; heaped = λ e. absurd (true≢false (sym e)); around = envIn t 0; passes = λ on. used-parts 2 (heapIn t) t (num t 72 4) 0 (host-passes t ok .1) .1 }
 
   other-good : (n k : ℕ) → Other k → Good t k (seatOf t k n)
   unfolding seatOf

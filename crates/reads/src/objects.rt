@@ -1,7 +1,11 @@
-// The object of a reference of the record at a place: where it stands.
+// The object of a reference of a record, by the record's own bytes: where it stands.
 use table::Answer;
+use table::Extended;
+use table::Info;
 use table::Need;
 use table::Place;
+use table::Security;
+use table::Ssns;
 ghost use mathlib.Core.Path.{_≡_};
 ghost use mathlib.Core.Bool.{true};
 ghost use Prim.Native.Nat.{_+_, _≤_};
@@ -25,17 +29,18 @@ pub fn no_place(a: Answer) -> Place
     }
 }
 
-// What the reference at `r` names.
-fn ref_place(t: &[u8], r: usize) -> Place
-    requires { ⌜ r + 6 ≤ length (now t) ⌝ }
-    ensures { λ p. ⌜ p ≡ refPlace (now (t .entry)) r ⌝ }
+// What the reference at `r` of a record names; `x` are the record's bytes.
+fn ref_place(x: &[u8], r: usize) -> Place
+    requires { ⌜ r + 6 ≤ length (now x) ⌝ }
+    ensures { λ p. ⌜ p ≡ refPlace (now (x .entry)) r ⌝ }
 {
-    let len = wire::u16_at(t, r + 4);
+    let named = wire::reference_at(x, r);
     let answer = table::done();
+    let at = named.at;
+    let len = named.len;
     if len == 0 {
         return no_place(answer);
     }
-    let at = wire::u32_at(t, r);
     Place {
         answer: answer,
         present: true,
@@ -44,38 +49,38 @@ fn ref_place(t: &[u8], r: usize) -> Place
     }
 }
 
-fn named_place(t: &[u8], r: usize, need: Need) -> Place
-    requires { ⌜ r + 6 ≤ length (now t) ⌝ }
-    ensures { λ p. ⌜ p ≡ under need (noPlace answers.done) (refPlace (now (t .entry)) r) ⌝ }
+fn named_place(x: &[u8], r: usize, need: Need) -> Place
+    requires { ⌜ r + 6 ≤ length (now x) ⌝ }
+    ensures { λ p. ⌜ p ≡ under need (noPlace answers.done) (refPlace (now (x .entry)) r) ⌝ }
 {
     match need {
         Need::Ignored => no_place(table::done()),
-        Need::Optional => ref_place(t, r),
-        Need::Required => ref_place(t, r),
+        Need::Optional => ref_place(x, r),
+        Need::Required => ref_place(x, r),
     }
 }
 
-// Whether the reference at `off` counts.
-fn object_need(t: &[u8], kind: u8, a: usize, off: usize) -> Need
-    requires { ⌜ (a + baseOf (layoutOf kind) ≤ length (now t)) × (hasPlain off (layoutOf kind .refs) ≡ true) ⌝ }
-    ensures { λ r. ⌜ r ≡ needAt off (layoutOf kind .refs) (imageIn (layoutOf kind) (now (t .entry)) a) ⌝ }
+// Whether the reference at `off` of the record of a kind counts.
+fn object_need(x: &[u8], kind: u8, off: usize) -> Need
+    requires { ⌜ (baseOf (layoutOf kind) ≤ length (now x)) × (hasPlain off (layoutOf kind .refs) ≡ true) ⌝ }
+    ensures { λ r. ⌜ r ≡ needAt off (layoutOf kind .refs) (imageIn (layoutOf kind) (now (x .entry)) 0) ⌝ }
 {
     match kind {
-        4 => needs::ssns_need(flags::ssns_flags(t, a), off),
-        5 => needs::security_need(t, a, off),
-        7 => Need::Optional,
-        9 => Need::Optional,
+        Ssns::ID => needs::ssns_need(flags::ssns_flags(x, 0), off),
+        Security::ID => needs::security_need(x, 0, off),
+        Info::ID => Need::Optional,
+        Extended::ID => Need::Optional,
         _ => needs::plain_need(kind, off),
     }
 }
 
-// An unused record has no object.
-pub fn object_of(t: &[u8], kind: u8, a: usize, used: bool, off: usize) -> Place
-    requires { ⌜ (a + baseOf (layoutOf kind) ≤ length (now t)) × (hasPlain off (layoutOf kind .refs) ≡ true) ⌝ }
-    ensures { λ r. ⌜ r ≡ placeAt (now (t .entry)) off (seat (layoutOf kind) a used) ⌝ }
+// Where the object of that reference stands. An unused record has none.
+pub fn object_of(x: &[u8], kind: u8, used: bool, off: usize) -> Place
+    requires { ⌜ (baseOf (layoutOf kind) ≤ length (now x)) × (hasPlain off (layoutOf kind .refs) ≡ true) ⌝ }
+    ensures { λ r. ⌜ r ≡ placeAt (now (x .entry)) off (seat (layoutOf kind) 0 used) ⌝ }
 {
     if used {
-        return named_place(t, a + off, object_need(t, kind, a, off));
+        return named_place(x, off, object_need(x, kind, off));
     }
     no_place(table::done())
 }

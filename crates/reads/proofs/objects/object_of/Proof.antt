@@ -1,3 +1,6 @@
+use Prim.Native.Nat.{ℕ}
+use native.Mathlib.Nat.{zero-add}
+use mathlib.Core.Path.{ap, ap₂, sym, _∙_}
 use Rattle.table.specs.Rules.{done}
 use Rattle.table.specs.Objects.{under}
 use Rattle.table.specs.declared.Need.{Need}
@@ -5,14 +8,9 @@ use Rattle.reads.proofs.ObjectLaws.{plain-fits}
 use Rattle.laws.specs.Fields.{imageIn}
 use Rattle.table.specs.Reads.{noPlace, refPlace}
 use native.Mathlib.Omega.{arith}
-use Prim.Native.Nat.{_+_}
-use mathlib.Core.Path.{ap, _∙_}
 use borrow.Author.Needs.{needs}
 use Rattle.reads.proofs.objects.object_of.Statement.{statement}
 use Rattle.reads.proofs.objects.object_of.Tie as tie
-
-add-named-place : tie.Need-add-named-place
-add-named-place c = let a = c .before .before .args in omega (arith, plain-fits (a .kind) (a .off) (c .before .before .pre .1), c .before .before .pre .0)
 
 object-need-requires : tie.Need-object-need-requires
 object-need-requires c κs = search needs
@@ -22,7 +20,10 @@ named-place-requires c κs = let a = c .before .before .before .args in omega (a
 
 returns : tie.Need-returns
 unfolding imageIn
-returns c = rw (c .before .before .before .before .pre .1, c .before .before .if1 .taken) (c .named-place .ensures ∙ ap (λ (n : Need). under n (noPlace done) (refPlace (c .before .before .before .before .args .t .now) (c .before .before .before .before .args .a + c .before .before .before .before .args .off))) (c .before .object-need .ensures))
+returns c = let s = c .before .before .before .before in let x = s .args .x .now in let off = s .args .off in
+    rw (s .pre .1, c .before .before .if1 .taken)
+    (c .named-place .ensures
+    ∙ ap₂ (λ (n : Need) (i : ℕ). under n (noPlace done) (refPlace x i)) (c .before .object-need .ensures) (sym (zero-add off)))
 
 done-requires : tie.Need-done-requires
 done-requires c κs = search needs
@@ -37,7 +38,6 @@ pub object-of-spec : {M : Type 1} → statement M
 object-of-spec =
     tie.close
     (tie.spec
-    add-named-place
     object-need-requires
     named-place-requires
     returns

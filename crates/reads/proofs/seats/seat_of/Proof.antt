@@ -1,4 +1,5 @@
-use Rattle.reads.proofs.Laws.{single-is, info-is, extended-is}
+use Rattle.table.specs.declared.Region.{Region}
+use Rattle.reads.proofs.Laws.{single-is, owned-is}
 use Rattle.reader.proofs.AcceptedLaws.{laid}
 use Rattle.table.specs.Reads.{seatOf, heapSeat}
 use Rattle.table.specs.FixedLayouts.{layoutOf, header, control, host, hfi, ssns, security, discovery, info, extended}
@@ -16,8 +17,8 @@ single-seat-requires c κs = search needs
 single-seat-requires-2 : tie.Need-single-seat-requires-2
 single-seat-requires-2 c κs = search needs
 
-u32-at-requires : tie.Need-u32-at-requires
-u32-at-requires c κs = omega (arith, laid (c .before .before .args .t .now) (c .before .before .pre) .lent)
+reference-at-requires : tie.Need-reference-at-requires
+reference-at-requires c κs = omega (arith, laid (c .before .before .args .t .now) (c .before .before .pre) .lent)
 
 single-seat-requires-3 : tie.Need-single-seat-requires-3
 single-seat-requires-3 c κs = search needs
@@ -42,17 +43,17 @@ list-seat-requires-5 : tie.Need-list-seat-requires-5
 unfolding layoutOf hfi
 list-seat-requires-5 c κs = let l = laid (c .before .before .args .t .now) (c .before .before .pre) in (lit≤ tt, lit≤ tt, omega (arith, l .lent), l .hfi)
 
-info-seat-requires : tie.Need-info-seat-requires
+owned-seat-requires : tie.Need-owned-seat-requires
 unfolding layoutOf hfi
-info-seat-requires c κs = c .list-seat5 .ensures .1
+owned-seat-requires c κs = c .list-seat5 .ensures .1
 
 list-seat-requires-6 : tie.Need-list-seat-requires-6
 unfolding layoutOf ssns
 list-seat-requires-6 c κs = let l = laid (c .before .before .args .t .now) (c .before .before .pre) in (lit≤ tt, lit≤ tt, omega (arith, l .lent), l .ssns)
 
-extended-seat-requires : tie.Need-extended-seat-requires
+owned-seat-requires-2 : tie.Need-owned-seat-requires-2
 unfolding layoutOf ssns
-extended-seat-requires c κs = c .list-seat6 .ensures .1
+owned-seat-requires-2 c κs = c .list-seat6 .ensures .1
 
 returns : tie.Need-returns
 unfolding seatOf layoutOf
@@ -64,7 +65,7 @@ returns-2 c = rw (c .before .match .keys2, c .single-seat2 .ensures) (single-is 
 
 returns-3 : tie.Need-returns-3
 unfolding seatOf layoutOf
-returns-3 c = rw (c .before .before .match .keys3, c .single-seat3 .ensures, ← c .before .u32-at .ensures .0) (single-is host (c .before .before .before .before .args .n) (c .before .u32-at .result))
+returns-3 c = rw (c .before .before .match .keys3, c .single-seat3 .ensures, ← ap (λ (r : Region). r .at) (c .before .reference-at .ensures .0)) (single-is host (c .before .before .before .before .args .n) (c .before .reference-at .result .at))
 
 returns-4 : tie.Need-returns-4
 unfolding seatOf layoutOf
@@ -84,11 +85,11 @@ returns-7 c = rw (c .before .match .keys7) (c .list-seat4 .ensures .0)
 
 returns-8 : tie.Need-returns-8
 unfolding seatOf layoutOf
-returns-8 c = rw (c .before .before .match .keys8, c .info-seat .ensures) (info-is (c .before .before .before .before .args .t .now) (c .before .list-seat5 .result) ∙ ap (heapSeat info 16 (c .before .before .before .before .args .t .now)) (c .before .list-seat5 .ensures .0))
+returns-8 c = rw (c .before .before .match .keys8, c .owned-seat .ensures) (owned-is (c .before .before .before .before .args .t .now) 3 (c .before .list-seat5 .result) ∙ ap (heapSeat info 16 (c .before .before .before .before .args .t .now)) (c .before .list-seat5 .ensures .0))
 
 returns-9 : tie.Need-returns-9
 unfolding seatOf layoutOf
-returns-9 c = rw (c .before .before .match .keys9, c .extended-seat .ensures) (extended-is (c .before .before .before .before .args .t .now) (c .before .list-seat6 .result) ∙ ap (heapSeat extended 60 (c .before .before .before .before .args .t .now)) (c .before .list-seat6 .ensures .0))
+returns-9 c = rw (c .before .before .match .keys9, c .owned-seat2 .ensures) (owned-is (c .before .before .before .before .args .t .now) 4 (c .before .list-seat6 .result) ∙ ap (heapSeat extended 60 (c .before .before .before .before .args .t .now)) (c .before .list-seat6 .ensures .0))
 
 returns-10 : tie.Need-returns-10
 unfolding seatOf
@@ -100,16 +101,16 @@ seat-of-spec =
     (tie.spec
     single-seat-requires
     single-seat-requires-2
-    u32-at-requires
+    reference-at-requires
     single-seat-requires-3
     list-seat-requires
     list-seat-requires-2
     list-seat-requires-3
     list-seat-requires-4
     list-seat-requires-5
-    info-seat-requires
+    owned-seat-requires
     list-seat-requires-6
-    extended-seat-requires
+    owned-seat-requires-2
     returns
     returns-2
     returns-3

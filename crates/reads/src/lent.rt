@@ -1,0 +1,61 @@
+// The parts of an accepted table that its readers are lent: the heap, what lies in it, and the bytes of one record.
+use table::Extended;
+use table::Info;
+use table::Region;
+ghost use mathlib.Core.Path.{_≡_};
+ghost use Prim.Native.Nat.{_+_, _≤_, _<_};
+ghost use lib.ListN.{length};
+ghost use Rattle.table.specs.Bytes.{part};
+ghost use Rattle.table.specs.Layout.{baseOf};
+ghost use Rattle.table.specs.FixedLayouts.{layoutOf};
+ghost use Rattle.table.specs.Numbers.{heapIn};
+ghost use Rattle.reader.specs.Accepted.{Accepted};
+ghost use Rattle.reads.specs.Seats.{InHeap, Standing};
+
+// `len` of the caller's own bytes.
+pub fn part_of(t: &[u8], at: usize, len: usize) -> &[u8]
+    requires { ⌜ at + len ≤ length (now t) ⌝ }
+    ensures { λ r. ⌜ now r ≡ part (now (t .entry)) at len ⌝ }
+{
+    let end = at + len;
+    &t[at..end]
+}
+
+// The heap, which stands where `region` says. An empty one has no place.
+fn heap_of(t: &[u8], region: Region) -> &[u8]
+    requires { ⌜ Accepted (now t) × (region ≡ heapIn (now t)) ⌝ }
+    ensures { λ r. ⌜ now r ≡ part (now (t .entry)) (region .at) (region .len) ⌝ }
+{
+    let at = region.at;
+    let len = region.len;
+    if len == 0 {
+        return part_of(t, 0, 0);
+    }
+    part_of(t, at, len)
+}
+
+// What lies in the heap, `len` bytes from place `at` of the table on: a part of the heap. None have no place.
+pub fn heap_part(t: &[u8], at: usize, len: usize) -> &[u8]
+    requires { ⌜ Accepted (now t) × (0 < len → InHeap (now t) at len) ⌝ }
+    ensures { λ r. ⌜ now r ≡ part (now (t .entry)) at len ⌝ }
+{
+    if len == 0 {
+        return part_of(t, 0, 0);
+    }
+    let region = head::region_at(t, 36);
+    let heap = heap_of(t, region);
+    part_of(heap, at - region.at, len)
+}
+
+// The bytes of the record of a kind at `a`: a heap record is a part of the heap, any other a part of the table.
+pub fn record_at(t: &[u8], kind: u8, a: usize) -> &[u8]
+    requires { ⌜ Accepted (now t) × Standing (now t) (layoutOf kind) a ⌝ }
+    ensures { λ r. ⌜ now r ≡ part (now (t .entry)) a (baseOf (layoutOf kind)) ⌝ }
+{
+    let n = kinds::base_size(kind);
+    match kind {
+        Info::ID => heap_part(t, a, n),
+        Extended::ID => heap_part(t, a, n),
+        _ => part_of(t, a, n),
+    }
+}
