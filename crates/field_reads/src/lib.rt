@@ -1,4 +1,5 @@
 // A field of a record: of an accepted table, and of any bytes.
+use reads::lent::record_at;
 use reads::seats::Seat;
 use reads::seats::seat_of;
 use table::Answer;
@@ -23,25 +24,26 @@ fn refused_field(a: Answer) -> Field
     }
 }
 
-fn field_bytes(t: &[u8], kind: u8, a: usize, used: bool, off: usize, len: usize) -> [u8; 16]
-    requires { ⌜ (a + baseOf (layoutOf kind) ≤ length (now t)) × (off + len ≤ baseOf (layoutOf kind)) × (len ≤ 16) ⌝ }
-    ensures { λ r. ⌜ r ≡ padded 16 (part (shown (now (t .entry)) (layoutOf kind) a used) off len) ⌝ }
+// Of the record of a kind whose bytes are `x`: an unused one reads as zeros.
+fn field_bytes(x: &[u8], kind: u8, used: bool, off: usize, len: usize) -> [u8; 16]
+    requires { ⌜ (baseOf (layoutOf kind) ≤ length (now x)) × (off + len ≤ baseOf (layoutOf kind)) × (len ≤ 16) ⌝ }
+    ensures { λ r. ⌜ r ≡ padded 16 (part (shown (now (x .entry)) (layoutOf kind) 0 used) off len) ⌝ }
 {
     if used {
-        return images::field_at(t, kind, a, off, len);
+        return images::field_at(x, kind, off, len);
     }
     [0u8; 16]
 }
 
-fn field_of(t: &[u8], kind: u8, a: usize, used: bool, off: usize) -> Field
-    requires { ⌜ a + baseOf (layoutOf kind) ≤ length (now t) ⌝ }
-    ensures { λ r. ⌜ r ≡ fieldAt (now (t .entry)) off (seat (layoutOf kind) a used) ⌝ }
+fn field_of(x: &[u8], kind: u8, used: bool, off: usize) -> Field
+    requires { ⌜ baseOf (layoutOf kind) ≤ length (now x) ⌝ }
+    ensures { λ r. ⌜ r ≡ fieldAt (now (x .entry)) off (seat (layoutOf kind) 0 used) ⌝ }
 {
     let len = layouts::field_width(kind, off);
     if len == 0 {
         return refused_field(table::refuse(16, 0, 0));
     }
-    let bytes = field_bytes(t, kind, a, used, off, len);
+    let bytes = field_bytes(x, kind, used, off, len);
     let answer = table::done();
     Field {
         answer: answer,
@@ -59,7 +61,7 @@ pub fn field_in(t: &[u8], kind: u8, position: usize, off: usize) -> Field
     let s = seat_of(t, kind, position);
     match s {
         Seat::Nowhere => refused_field(table::refuse(16, 0, 0)),
-        Seat::At { at, used } => field_of(t, kind, at, used, off),
+        Seat::At { at, used } => field_of(record_at(t, kind, at), kind, used, off),
     }
 }
 

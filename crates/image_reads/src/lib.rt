@@ -1,10 +1,11 @@
 // The image of a record: of an accepted table for the crates above, which then check nothing again, and of any bytes.
+use reads::lent::record_at;
 use reads::seats::Seat;
 use reads::seats::seat_of;
 use table::Answer;
 use table::Image;
 ghost use mathlib.Core.Path.{_≡_};
-ghost use Prim.Native.Nat.{_+_, _≤_};
+ghost use Prim.Native.Nat.{_≤_};
 ghost use lib.ListN.{length};
 ghost use Rattle.table.specs.Bytes.{padded};
 ghost use Rattle.table.specs.Layout.{baseOf};
@@ -23,22 +24,22 @@ fn refused_image(a: Answer) -> Image
     }
 }
 
-// An unused record reads as zeros.
-fn image_bytes(t: &[u8], kind: u8, a: usize, used: bool) -> [u8; 128]
-    requires { ⌜ a + baseOf (layoutOf kind) ≤ length (now t) ⌝ }
-    ensures { λ r. ⌜ r ≡ padded 128 (shown (now (t .entry)) (layoutOf kind) a used) ⌝ }
+// Of the record of a kind whose bytes are `x`: an unused one reads as zeros.
+fn image_bytes(x: &[u8], kind: u8, used: bool) -> [u8; 128]
+    requires { ⌜ baseOf (layoutOf kind) ≤ length (now x) ⌝ }
+    ensures { λ r. ⌜ r ≡ padded 128 (shown (now (x .entry)) (layoutOf kind) 0 used) ⌝ }
 {
     if used {
-        return images::image_at(t, kind, a);
+        return images::image_at(x, kind);
     }
     [0u8; 128]
 }
 
-fn image_of(t: &[u8], kind: u8, a: usize, used: bool) -> Image
-    requires { ⌜ a + baseOf (layoutOf kind) ≤ length (now t) ⌝ }
-    ensures { λ r. ⌜ r ≡ imageAt (now (t .entry)) (seat (layoutOf kind) a used) ⌝ }
+fn image_of(x: &[u8], kind: u8, used: bool) -> Image
+    requires { ⌜ baseOf (layoutOf kind) ≤ length (now x) ⌝ }
+    ensures { λ r. ⌜ r ≡ imageAt (now (x .entry)) (seat (layoutOf kind) 0 used) ⌝ }
 {
-    let bytes = image_bytes(t, kind, a, used);
+    let bytes = image_bytes(x, kind, used);
     let len = kinds::base_size(kind);
     let answer = table::done();
     Image {
@@ -57,7 +58,7 @@ pub fn record_in(t: &[u8], kind: u8, position: usize) -> Image
     let s = seat_of(t, kind, position);
     match s {
         Seat::Nowhere => refused_image(table::refuse(16, 0, 0)),
-        Seat::At { at, used } => image_of(t, kind, at, used),
+        Seat::At { at, used } => image_of(record_at(t, kind, at), kind, used),
     }
 }
 

@@ -1,34 +1,28 @@
 // The object of a reference, by kind and position: where it stands, and the caller's own bytes there; of an accepted table, and of any bytes.
+use reads::lent::heap_part;
+use reads::lent::part_of;
+use reads::lent::record_at;
 use reads::objects::no_place;
 use reads::objects::object_of;
 use reads::seats::Seat;
 use reads::seats::seat_of;
 use table::Place;
 ghost use mathlib.Core.Path.{_≡_};
-ghost use Prim.Native.Nat.{_+_, _≤_};
+ghost use Prim.Native.Nat.{_≤_};
 ghost use lib.ListN.{length};
-ghost use Rattle.table.specs.Bytes.{part};
 ghost use Rattle.table.specs.Layout.{baseOf};
 ghost use Rattle.table.specs.FixedLayouts.{layoutOf};
 ghost use Rattle.table.specs.Reads.{seat, seatOf, placeAt, readPlace, readObject};
 ghost use Rattle.reader.specs.Accepted.{Accepted};
 ghost use Rattle.reads.specs.Objects.{objectIn};
 
-// `len` of the caller's own bytes.
-fn part_of(t: &[u8], at: usize, len: usize) -> &[u8]
-    requires { ⌜ at + len ≤ length (now t) ⌝ }
-    ensures { λ r. ⌜ now r ≡ part (now (t .entry)) at len ⌝ }
-{
-    let end = at + len;
-    &t[at..end]
-}
-
-fn place_of(t: &[u8], kind: u8, a: usize, used: bool, off: usize) -> Place
-    requires { ⌜ a + baseOf (layoutOf kind) ≤ length (now t) ⌝ }
-    ensures { λ r. ⌜ r ≡ placeAt (now (t .entry)) off (seat (layoutOf kind) a used) ⌝ }
+// Of the record of a kind whose bytes are `x`.
+fn place_of(x: &[u8], kind: u8, used: bool, off: usize) -> Place
+    requires { ⌜ baseOf (layoutOf kind) ≤ length (now x) ⌝ }
+    ensures { λ r. ⌜ r ≡ placeAt (now (x .entry)) off (seat (layoutOf kind) 0 used) ⌝ }
 {
     if layouts::has_object(kind, off) {
-        return object_of(t, kind, a, used, off);
+        return object_of(x, kind, used, off);
     }
     no_place(table::refuse(16, 0, 0))
 }
@@ -41,17 +35,19 @@ pub fn place_in(t: &[u8], kind: u8, position: usize, off: usize) -> Place
     let s = seat_of(t, kind, position);
     match s {
         Seat::Nowhere => no_place(table::refuse(16, 0, 0)),
-        Seat::At { at, used } => place_of(t, kind, at, used, off),
+        Seat::At { at, used } => place_of(record_at(t, kind, at), kind, used, off),
     }
 }
 
-// That object, empty where refused or absent.
+// That object, a part of the heap; empty where refused or absent.
 pub fn object_in(t: &[u8], kind: u8, position: usize, off: usize) -> &[u8]
     requires { ⌜ Accepted (now t) ⌝ }
     ensures { λ r. ⌜ now r ≡ objectIn (now (t .entry)) kind position off ⌝ }
 {
     let p = place_in(t, kind, position, off);
-    part_of(t, p.at, p.len)
+    let at = p.at;
+    let len = p.len;
+    heap_part(t, at, len)
 }
 
 // The same two of any bytes: first where the object stands.
@@ -69,6 +65,9 @@ pub fn object_place(t: &[u8], kind: u8, position: usize, off: usize) -> Place
 pub fn object(t: &[u8], kind: u8, position: usize, off: usize) -> &[u8]
     ensures { λ r. ⌜ now r ≡ readObject (now (t .entry)) kind position off ⌝ }
 {
-    let p = object_place(t, kind, position, off);
-    part_of(t, p.at, p.len)
+    let a = reader::check(t);
+    if a.number != 0 {
+        return part_of(t, 0, 0);
+    }
+    object_in(t, kind, position, off)
 }

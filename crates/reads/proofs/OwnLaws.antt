@@ -5,6 +5,7 @@ use mathlib.Core.List.{List}
 use Prim.Native.Nat.{ℕ, _+_, _/_, _%_, _≤_}
 use native.Mathlib.Nat.{zero-add}
 use native.Mathlib.Omega.{arith}
+use lib.ListN.{length}
 use lib.Dec.{eqb, lit≤}
 use Rattle.table.specs.declared.Place.{Place}
 use Rattle.table.specs.declared.Region.{Region}
@@ -15,7 +16,7 @@ use Rattle.table.specs.Objects.{under}
 use Rattle.table.specs.Rules.{answer, done}
 use Rattle.table.specs.Reads.{seat, shown, imageAt, widthAt, refusedField, fieldAt, hasPlain, needAt, noPlace, refPlace, placeAt}
 use Rattle.laws.specs.Fields.{imageIn, num-part}
-use Rattle.images.proofs.Laws.{by-kind, image-own}
+use Rattle.images.proofs.Laws.{by-kind, image-own, part-long}
 use Rattle.reads.specs.declared.seats.Seat.{Seat}
 use Rattle.reads.specs.declared.seats.Seat.the-variants.{Nowhere, At}
 use Rattle.reads.specs.Seats.{heapAt, extendedAt, heapRecord}
@@ -34,6 +35,9 @@ named x = pick (eqb (x .len) 0) (noPlace done) (record { answer = done; present 
 module _ (k : ℕ) (t : List ℕ) (a : ℕ) where
   abbrev own : List ℕ
   own = part t a (baseOf (layoutOf k))
+
+  pub own-long : a + baseOf (layoutOf k) ≤ length t → length own ≡ baseOf (layoutOf k)
+  own-long h = part-long t a (baseOf (layoutOf k)) h
 
   shown-own : (on : Bool) → shown own (layoutOf k) 0 on ≡ shown t (layoutOf k) a on
   unfolding imageIn

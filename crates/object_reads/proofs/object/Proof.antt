@@ -1,18 +1,33 @@
-use Rattle.reads.proofs.ObjectLaws.{read-room}
-use Rattle.table.specs.Reads.{readObject}
+use Rattle.reads.proofs.ObjectLaws.{accepted}
+use Rattle.reads.specs.Objects.{objectIn}
+use Rattle.table.specs.Reads.{readObject, readPlace}
+use Rattle.table.specs.Numbers.{check}
+use Rattle.table.specs.declared.Answer.{Answer}
+use borrow.Author.Tests.{eq-eqb, ne-eqb}
+use mathlib.Core.Path.{sym, ap, _∙_}
 use borrow.Author.Needs.{needs}
 use Rattle.object_reads.proofs.object.Statement.{statement}
 use Rattle.object_reads.proofs.object.Tie as tie
 
-object-place-requires : tie.Need-object-place-requires
-object-place-requires c κs = search needs
+check-requires : tie.Need-check-requires
+check-requires c κs = search needs
 
 part-of-requires : tie.Need-part-of-requires
-part-of-requires c κs = let a = c .before .before .args in rw (c .object-place .ensures) (read-room (a .t .now) (a .kind) (a .position) (a .off))
+part-of-requires c κs = search needs
 
 returns : tie.Need-returns
-unfolding readObject
-returns c = rw (← c .before .object-place .ensures) (c .part-of .ensures)
+unfolding readObject readPlace
+returns c = let t = c .before .before .before .before .before .args .t .now in let e = ap (λ (x : Answer). x .number) (c .before .before .before .check .ensures) in
+    rw (ne-eqb (check t .number) 0 (λ z. c .before .if1 .taken (e ∙ z))) (c .part-of .ensures)
+
+object-in-requires : tie.Need-object-in-requires
+object-in-requires c κs = accepted (c .before .before .before .before .args .t .now) (sym (ap (λ (x : Answer). x .number) (c .before .before .check .ensures)) ∙ c .if1 .left)
+
+returns-2 : tie.Need-returns-2
+unfolding readObject readPlace objectIn
+returns-2 c = let t = c .before .before .before .before .before .args .t .now in let e = ap (λ (x : Answer). x .number) (c .before .before .before .check .ensures) in
+    rw (eq-eqb (check t .number) 0 (sym e ∙ c .before .if1 .left)) (c .object-in .ensures)
 
 pub object-spec : {M : Type 1} → statement M
-object-spec = tie.close (tie.spec object-place-requires part-of-requires returns)
+object-spec =
+    tie.close (tie.spec check-requires part-of-requires returns object-in-requires returns-2)

@@ -1,5 +1,7 @@
-use Rattle.reads.proofs.ObjectLaws.{place-room}
+use Rattle.reads.proofs.ObjectLaws.{seat-heap}
+use Rattle.reads.proofs.SeatLaws.{seats-good}
 use Rattle.reads.specs.Objects.{objectIn}
+use Rattle.table.specs.Reads.{seatOf}
 use borrow.Author.Needs.{needs}
 use Rattle.object_reads.proofs.object_in.Statement.{statement}
 use Rattle.object_reads.proofs.object_in.Tie as tie
@@ -7,12 +9,13 @@ use Rattle.object_reads.proofs.object_in.Tie as tie
 place-in-requires : tie.Need-place-in-requires
 place-in-requires c κs = search needs
 
-part-of-requires : tie.Need-part-of-requires
-part-of-requires c κs = let a = c .before .before .args in rw (c .place-in .ensures) (place-room (a .t .now) (c .before .before .pre) (a .kind) (a .position) (a .off))
+heap-part-requires : tie.Need-heap-part-requires
+heap-part-requires c κs = let s = c .before .before in let a = s .args in let t = a .t .now in
+    (s .pre, rw (c .place-in .ensures) (seat-heap t (s .pre) (a .off) (a .kind) (seatOf t (a .kind) (a .position)) (seats-good t (s .pre) (a .position) (a .kind))))
 
 returns : tie.Need-returns
 unfolding objectIn
-returns c = rw (← c .before .place-in .ensures) (c .part-of .ensures)
+returns c = rw (← c .before .place-in .ensures) (c .heap-part .ensures)
 
 pub object-in-spec : {M : Type 1} → statement M
-object-in-spec = tie.close (tie.spec place-in-requires part-of-requires returns)
+object-in-spec = tie.close (tie.spec place-in-requires heap-part-requires returns)

@@ -53,9 +53,15 @@ loop-again c = let a = c .before .before .before .before .before .before .args i
     let n = length-imageIn (layoutOf (a .kind)) (a .x .now) 0 in
     let l = part-long s (a .off) (a .width) (omega (arith, n, c .before .before .before .before .before .before .pre .1)) in
     let h : c .before .before .loop .i < a .width = c .before .loop-test .taken in
-    let v : bitAnd (getD (a .x .now) (a .off + c .before .before .loop .i) 0) (getD (c .before .before .before .masks-of .result) (a .off + c .before .before .loop .i) 0) ≡ getD s (a .off + c .before .before .loop .i) 0 = ap (λ (m : List ℕ). bitAnd (getD (a .x .now) (a .off + c .before .before .loop .i) 0) (getD m (a .off + c .before .before .loop .i) 0)) (c .before .before .before .masks-of .ensures ∙ ap (masksFor (a .kind)) (c .before .before .before .before .counts-more .ensures)) ∙ masked-byte (a .kind) (a .x .now) (a .off + c .before .before .loop .i) (omega (arith, h, c .before .before .before .before .before .before .pre .1)) in
-    let w = v ∙ sym (part-byte s (a .off) (a .width) (c .before .before .loop .i) h) in
-    (search picks, rw (c .before .before .loop .inv .1, w) (over-more (replicate 16 0) (part s (a .off) (a .width)) (c .before .before .loop .i) (omega (arith, l, h)) (omega (arith, h, c .before .before .before .before .before .before .pre .2))))
+    let v : bitAnd (getD (a .x .now) (a .off + c .before .before .loop .i) 0) (getD (c .before .before .before .masks-of .result) (a .off + c .before .before .loop .i) 0) ≡ getD s
+    (a .off + c .before .before .loop .i) 0 = ap (λ (m : List ℕ). bitAnd (getD (a .x .now) (a .off + c .before .before .loop .i) 0) (getD m (a .off + c .before .before .loop .i) 0))
+    (c .before .before .before .masks-of .ensures ∙ ap (masksFor (a .kind)) (c .before .before .before .before .counts-more .ensures))
+    ∙ masked-byte (a .kind) (a .x .now) (a .off + c .before .before .loop .i) (omega (arith, h, c .before .before .before .before .before .before .pre .1)) in
+    let w = v ∙ sym (part-byte s (a .off) (a .width) (c .before .before .loop .i) h) in (
+      search picks,
+      rw (c .before .before .loop .inv .1, w) (over-more (replicate 16 0) (part s (a .off) (a .width)) (c .before .before .loop .i) (omega (arith, l, h)) (omega
+          (arith, h, c .before .before .before .before .before .before .pre .2))),
+    )
 
 returns : tie.Need-returns Inv-loop μ-loop
 returns c = let a = c .before .before .before .before .before .args in
@@ -63,7 +69,8 @@ returns c = let a = c .before .before .before .before .before .args in
     let n = length-imageIn (layoutOf (a .kind)) (a .x .now) 0 in
     let l = part-long s (a .off) (a .width) (omega (arith, n, c .before .before .before .before .before .pre .1)) in
     let e : c .before .loop .i ≡ length (part s (a .off) (a .width)) = omega (arith, l) in
-    c .before .loop .inv .1 ∙ ap (over (replicate 16 0) (part s (a .off) (a .width))) e ∙ over-padded 16 (part s (a .off) (a .width)) (omega (arith, l, c .before .before .before .before .before .pre .2))
+    c .before .loop .inv .1 ∙ ap (over (replicate 16 0) (part s (a .off) (a .width))) e
+    ∙ over-padded 16 (part s (a .off) (a .width)) (omega (arith, l, c .before .before .before .before .before .pre .2))
 
 pub field-at-spec : {M : Type 1} → statement M
 field-at-spec =

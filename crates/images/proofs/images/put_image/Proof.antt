@@ -37,7 +37,13 @@ shared-slice-read-out : tie.Need-shared-slice-read-out Inv-loop μ-loop
 shared-slice-read-out c = search picks
 
 array-read-out : tie.Need-array-read-out Inv-loop μ-loop
-array-read-out c = omega (arith, c .before .loop-test .taken, c .before .before .before .base-size .ensures, base-small (c .before .before .before .before .before .before .before .before .args .kind))
+array-read-out c = omega (
+  arith,
+  c .before .loop-test .taken,
+  c .before .before .before .base-size .ensures,
+  base-small
+      (c .before .before .before .before .before .before .before .before .args .kind),
+)
 
 add-out : tie.Need-add-out Inv-loop μ-loop
 add-out c = search picks
@@ -58,14 +64,21 @@ loop-again c = let a = c .before .before .before .before .before .before .before
     let i = c .before .before .loop .i in
     let h : i < length s = omega (arith, n, c .before .loop-test .taken, c .before .before .before .base-size .ensures) in
     let v : bitAnd (getD (a .x .now) i 0) (getD (c .before .before .before .before .masks-of .result) i 0) ≡ getD s i 0 =
-    ap (λ (m : List ℕ). bitAnd (getD (a .x .now) i 0) (getD m i 0)) (c .before .before .before .before .masks-of .ensures ∙ ap (masksFor (a .kind)) (c .before .before .before .before .before .counts-more .ensures)) ∙ masked-byte (a .kind) (a .x .now) i (omega (arith, n, h)) in
-    (search picks, rw (c .before .before .loop .inv .1, v) (paste-more (a .out .now) (a .d) s i (omega (arith, n, c .before .before .before .before .before .before .before .before .pre)) h), simp length-set (search picks))
+    ap (λ (m : List ℕ). bitAnd (getD (a .x .now) i 0) (getD m i 0)) (c .before .before .before .before .masks-of .ensures
+    ∙ ap (masksFor (a .kind)) (c .before .before .before .before .before .counts-more .ensures)) ∙ masked-byte (a .kind) (a .x .now) i (omega (arith, n, h)) in (
+      search picks,
+      rw (c .before .before .loop .inv .1, v) (paste-more (a .out .now) (a .d) s i (omega
+          (arith, n, c .before .before .before .before .before .before .before .before .pre)) h),
+      simp length-set (search picks),
+    )
 
 same-length : tie.Need-same-length Inv-loop μ-loop
 same-length c = search picks
 
 returns : tie.Need-returns Inv-loop μ-loop
-returns c = let a = c .before .before .before .before .before .before .before .args in let s = imageIn (layoutOf (a .kind)) (a .x .now) 0 in let n = length-imageIn (layoutOf (a .kind)) (a .x .now) 0 in c .before .loop .inv .1 ∙ paste-done (a .out .now) (a .d) s (c .before .loop .i) (omega (arith, n, c .before .before .base-size .ensures))
+returns c = let a = c .before .before .before .before .before .before .before .args in let s = imageIn (layoutOf (a .kind)) (a .x .now) 0 in
+    let n = length-imageIn (layoutOf (a .kind)) (a .x .now) 0 in
+    c .before .loop .inv .1 ∙ paste-done (a .out .now) (a .d) s (c .before .loop .i) (omega (arith, n, c .before .before .base-size .ensures))
 
 pub put-image-spec : {M : Type 1} → statement M
 put-image-spec =

@@ -15,7 +15,8 @@ returns c = search needs
 
 part-of-requires-2 : tie.Need-part-of-requires-2
 unfolding heapIn
-part-of-requires-2 c κs = let s = c .before .before in let t = s .args .t .now in let e = ap (λ (r : Region). r .at) (s .pre .1) in let f = ap (λ (r : Region). r .len) (s .pre .1) in omega (arith, e, f, laid t (s .pre .0) .heap .heap-in (omega (arith, f, c .if1 .left)))
+part-of-requires-2 c κs = let s = c .before .before in let t = s .args .t .now in let e = ap (λ (r : Region). r .at) (s .pre .1) in let f = ap (λ (r : Region). r .len) (s .pre .1) in
+    omega (arith, e, f, laid t (s .pre .0) .heap .heap-in (omega (arith, f, c .if1 .left)))
 
 returns-2 : tie.Need-returns-2
 returns-2 c = search needs

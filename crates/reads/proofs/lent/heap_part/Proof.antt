@@ -25,13 +25,16 @@ unfolding heapIn
 heap-of-requires c κs = (c .before .before .before .pre .0, c .region-at .ensures .0)
 
 sub-part-of : tie.Need-sub-part-of
-sub-part-of c = let s = c .before .before .before .before .before in let i = s .pre .1 (omega (arith, c .before .before .before .if1 .left)) in omega (arith, i, ap (λ (r : Region). r .at) (c .before .before .region-at .ensures .0))
+sub-part-of c = let s = c .before .before .before .before .before in let i = s .pre .1 (omega (arith, c .before .before .before .if1 .left)) in
+    omega (arith, i, ap (λ (r : Region). r .at) (c .before .before .region-at .ensures .0))
 
 part-of-requires-2 : tie.Need-part-of-requires-2
-part-of-requires-2 c κs = let s = c .before .before .before .before .before in let a = s .args in let h : 0 < a .len = omega (arith, c .before .before .before .if1 .left) in rw (c .before .heap-of .ensures, c .before .before .region-at .ensures .0) (inside-heap (a .t .now) (s .pre .0) (a .at) (a .len) h (s .pre .1 h))
+part-of-requires-2 c κs = let s = c .before .before .before .before .before in let a = s .args in let h : 0 < a .len = omega (arith, c .before .before .before .if1 .left) in
+    rw (c .before .heap-of .ensures, c .before .before .region-at .ensures .0) (inside-heap (a .t .now) (s .pre .0) (a .at) (a .len) h (s .pre .1 h))
 
 returns-2 : tie.Need-returns-2
-returns-2 c = let s = c .before .before .before .before .before .before in let a = s .args in let t = a .t .now in let h : 0 < a .len = omega (arith, c .before .before .before .before .if1 .left) in
+returns-2 c = let s = c .before .before .before .before .before .before in let a = s .args in let t = a .t .now in
+    let h : 0 < a .len = omega (arith, c .before .before .before .before .if1 .left) in
     c .part-of2 .ensures
     ∙ ap (λ (x : List ℕ). part x (a .at - c .before .before .before .region-at .result .at) (a .len)) (c .before .before .heap-of .ensures)
     ∙ ap (λ (r : Region). part (part t (r .at) (r .len)) (a .at - r .at) (a .len)) (c .before .before .before .region-at .ensures .0)

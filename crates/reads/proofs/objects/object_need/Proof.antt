@@ -27,7 +27,8 @@ plain-need-requires c κs = search needs
 
 returns : tie.Need-returns
 unfolding layoutOf
-returns c = rw (c .before .before .match .keys1) (c .ssns-need .ensures ∙ ap (λ (f : ℕ). ssnsNeed f (c .before .before .before .before .args .off)) (c .before .ssns-flags .ensures) ∙ ssns-need (imageIn ssns (c .before .before .before .before .args .x .now) 0) (c .before .before .before .before .args .off))
+returns c = rw (c .before .before .match .keys1) (c .ssns-need .ensures ∙ ap (λ (f : ℕ). ssnsNeed f (c .before .before .before .before .args .off)) (c .before .ssns-flags .ensures)
+    ∙ ssns-need (imageIn ssns (c .before .before .before .before .args .x .now) 0) (c .before .before .before .before .args .off))
 
 returns-2 : tie.Need-returns-2
 unfolding layoutOf
@@ -42,7 +43,8 @@ unfolding layoutOf extended
 returns-4 c = rw (c .match .keys4) (only-one (eqb (c .before .before .args .off) 12) (rw (c .match .keys4) at (c .before .before .pre .1)))
 
 returns-5 : tie.Need-returns-5
-returns-5 c = let a = c .before .before .before .args in let m = c .before .match .rest in c .plain-need .ensures ∙ plain-need (a .off) (imageIn (layoutOf (a .kind)) (a .x .now) 0) (a .kind) (m .0 .0 .0 .1) (m .0 .0 .1) (m .0 .1) (m .1) (c .before .before .before .pre .1)
+returns-5 c = let a = c .before .before .before .args in let m = c .before .match .rest in
+    c .plain-need .ensures ∙ plain-need (a .off) (imageIn (layoutOf (a .kind)) (a .x .now) 0) (a .kind) (m .0 .0 .0 .1) (m .0 .0 .1) (m .0 .1) (m .1) (c .before .before .before .pre .1)
 
 pub object-need-spec : {M : Type 1} → statement M
 object-need-spec =

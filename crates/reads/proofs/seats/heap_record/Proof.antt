@@ -18,7 +18,8 @@ part-of-requires : tie.Need-part-of-requires
 part-of-requires c κs = search needs
 
 inner-seat-requires : tie.Need-inner-seat-requires
-inner-seat-requires c κs = let s = c .before .before .before in let n = c .before .base-size in let l = part-long (s .args .t .now) (s .args .a) (n .result) (omega (arith, n .ensures, s .pre)) in omega (arith, ap length (c .part-of .ensures), l, n .ensures)
+inner-seat-requires c κs = let s = c .before .before .before in let n = c .before .base-size in let l = part-long (s .args .t .now) (s .args .a) (n .result) (omega (arith, n .ensures, s .pre)) in
+    omega (arith, ap length (c .part-of .ensures), l, n .ensures)
 
 returns : tie.Need-returns
 returns c = let a = c .before .before .before .before .args in

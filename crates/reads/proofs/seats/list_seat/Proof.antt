@@ -15,13 +15,12 @@ use borrow.Author.Needs.{needs}
 use Rattle.reads.proofs.seats.list_seat.Statement.{statement}
 use Rattle.reads.proofs.seats.list_seat.Tie as tie
 
--- helpers
 -- the record lies in the table
-inside : (c : tie.After-u16-at) → let a = c .before .before .before .before .before .before .before .args in num (a .t .now) (a .c) 4 + (a .n - 1) * c .u16-at .result + baseOf (layoutOf (a .kind)) ≤ length (a .t .now)
+inside : (c : tie.After-u16-at) → let a = c .before .before .before .before .before .before .before .args in num (a .t .now) (a .c) 4 + (a .n - 1) * c .u16-at .result + baseOf (layoutOf
+    (a .kind)) ≤ length (a .t .now)
 inside c = let s = c .before .before .before .before .before .before .before in let a = s .args in
-    rw (← c .u16-at .ensures .0) at (record-in (a .t .now) (a .c) (baseOf (layoutOf (a .kind))) (a .n - 1) (s .pre .3) (omega (arith, c .before .before .before .wide .ensures .0, c .before .before .if2 .left)))
-
--- end
+    rw (← c .u16-at .ensures .0) at (record-in (a .t .now) (a .c) (baseOf (layoutOf (a .kind))) (a .n - 1) (s .pre .3) (omega
+    (arith, c .before .before .before .wide .ensures .0, c .before .before .if2 .left)))
 
 returns : tie.Need-returns
 returns c = let a = c .before .before .args in (sym (list-none (a .kind) (a .t .now) (a .c) (a .n) (c .if1 .taken)), search needs)
@@ -63,15 +62,28 @@ part-of-requires : tie.Need-part-of-requires
 part-of-requires c κs = omega (arith, inside (c .before), c .u32-at .ensures .0, c .before .before .base-size .ensures)
 
 is-used-requires : tie.Need-is-used-requires
-is-used-requires c κs = let s = c .before .before .before .before .before .before .before .before .before in let a = s .args in let n = c .before .before .before .base-size in let at = c .before .u32-at .result + (a .n - 1) * c .before .before .u16-at .result in
-    let l = part-long (a .t .now) at (n .result) (omega (arith, inside (c .before .before), c .before .u32-at .ensures .0, n .ensures)) in (s .pre .0, s .pre .1, omega (arith, ap length (c .part-of .ensures), l, n .ensures))
+is-used-requires c κs = let s = c .before .before .before .before .before .before .before .before .before in let a = s .args in let n = c .before .before .before .base-size in
+    let at = c .before .u32-at .result + (a .n - 1) * c .before .before .u16-at .result in
+    let l = part-long (a .t .now) at (n .result) (omega (arith, inside (c .before .before), c .before .u32-at .ensures .0, n .ensures)) in
+    (s .pre .0, s .pre .1, omega (arith, ap length (c .part-of .ensures), l, n .ensures))
 
 returns-3 : tie.Need-returns-3
-returns-3 c = let s = c .before .before .before .before .before .before .before .before .before .before in let a = s .args in let t = a .t .now in let l = layoutOf (a .kind) in let start = num t (a .c) 4 + (a .n - 1) * num t (a .c + 4) 2 in
-    let e : c .before .before .u32-at .result + (a .n - 1) * c .before .before .before .u16-at .result ≡ start = ap₂ (λ (x y : ℕ). x + (a .n - 1) * y) (c .before .before .u32-at .ensures .0) (c .before .before .before .u16-at .ensures .0) in
+returns-3 c = let s = c .before .before .before .before .before .before .before .before .before .before in let a = s .args in let t = a .t .now in let l = layoutOf (a .kind) in
+    let start = num t (a .c) 4 + (a .n - 1) * num t (a .c + 4) 2 in
+    let e : c .before .before .u32-at .result + (a .n - 1) * c .before .before .before .u16-at .result ≡ start = ap₂ (λ (x y : ℕ). x + (a .n - 1) * y) (c .before .before .u32-at .ensures .0)
+    (c .before .before .before .u16-at .ensures .0) in
     let f : c .is-used .result ≡ isValid (l .shape) (imageIn l t start) =
-    c .is-used .ensures ∙ ap (λ (x : List ℕ). isValid (l .shape) (imageIn l x 0)) (c .before .part-of .ensures ∙ ap₂ (part t) e (c .before .before .before .before .base-size .ensures)) ∙ ap (isValid (l .shape)) (image-own (a .kind) t start) in
-    (ap₂ (seat l) e f ∙ sym (list-there (a .kind) t (a .c) (a .n) (omega (arith, c .before .before .before .before .before .before .before .before .if1 .left)) (omega (arith, c .before .before .before .before .before .before .wide .ensures .0, c .before .before .before .before .before .if2 .left))), omega (arith, inside (c .before .before .before), c .before .before .u32-at .ensures .0))
+    c .is-used .ensures ∙ ap (λ (x : List ℕ). isValid (l .shape) (imageIn l x 0)) (c .before .part-of .ensures ∙ ap₂ (part t) e (c .before .before .before .before .base-size .ensures))
+    ∙ ap (isValid (l .shape)) (image-own (a .kind) t start) in (
+      ap₂ (seat l) e f ∙ sym (list-there (a .kind) t (a .c) (a .n) (omega (arith, c .before .before .before .before .before .before .before .before .if1 .left)) (omega
+          (arith, c .before .before .before .before .before .before .wide .ensures .0, c .before .before .before .before .before .if2 .left))),
+      omega (
+        arith,
+        inside
+            (c .before .before .before),
+        c .before .before .u32-at .ensures .0,
+      ),
+    )
 
 pub list-seat-spec : {M : Type 1} → statement M
 list-seat-spec =

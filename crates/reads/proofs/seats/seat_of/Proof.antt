@@ -65,7 +65,8 @@ returns-2 c = rw (c .before .match .keys2, c .single-seat2 .ensures) (single-is 
 
 returns-3 : tie.Need-returns-3
 unfolding seatOf layoutOf
-returns-3 c = rw (c .before .before .match .keys3, c .single-seat3 .ensures, ← ap (λ (r : Region). r .at) (c .before .reference-at .ensures .0)) (single-is host (c .before .before .before .before .args .n) (c .before .reference-at .result .at))
+returns-3 c = rw (c .before .before .match .keys3, c .single-seat3 .ensures, ← ap (λ (r : Region). r .at) (c .before .reference-at .ensures .0)) (single-is host
+    (c .before .before .before .before .args .n) (c .before .reference-at .result .at))
 
 returns-4 : tie.Need-returns-4
 unfolding seatOf layoutOf
@@ -85,11 +86,13 @@ returns-7 c = rw (c .before .match .keys7) (c .list-seat4 .ensures .0)
 
 returns-8 : tie.Need-returns-8
 unfolding seatOf layoutOf
-returns-8 c = rw (c .before .before .match .keys8, c .owned-seat .ensures) (owned-is (c .before .before .before .before .args .t .now) 3 (c .before .list-seat5 .result) ∙ ap (heapSeat info 16 (c .before .before .before .before .args .t .now)) (c .before .list-seat5 .ensures .0))
+returns-8 c = rw (c .before .before .match .keys8, c .owned-seat .ensures) (owned-is (c .before .before .before .before .args .t .now) 3 (c .before .list-seat5 .result)
+    ∙ ap (heapSeat info 16 (c .before .before .before .before .args .t .now)) (c .before .list-seat5 .ensures .0))
 
 returns-9 : tie.Need-returns-9
 unfolding seatOf layoutOf
-returns-9 c = rw (c .before .before .match .keys9, c .owned-seat2 .ensures) (owned-is (c .before .before .before .before .args .t .now) 4 (c .before .list-seat6 .result) ∙ ap (heapSeat extended 60 (c .before .before .before .before .args .t .now)) (c .before .list-seat6 .ensures .0))
+returns-9 c = rw (c .before .before .match .keys9, c .owned-seat2 .ensures) (owned-is (c .before .before .before .before .args .t .now) 4 (c .before .list-seat6 .result)
+    ∙ ap (heapSeat extended 60 (c .before .before .before .before .args .t .now)) (c .before .list-seat6 .ensures .0))
 
 returns-10 : tie.Need-returns-10
 unfolding seatOf
