@@ -2,50 +2,65 @@
 use mathlib.Core.Path.{_≡_, refl, sym, ap, subst, _∙_}
 use mathlib.Core.Bool.{Bool, true, false, true≢false}
 use mathlib.Core.List.{List}
-use Prim.Native.Nat.{ℕ, _+_, _≤_}
+use Prim.Native.Nat.{ℕ, _≤_}
+use native.Mathlib.Nat.{zero-add}
 use native.Mathlib.Omega.{arith}
-use lib.ListN.{length, drop}
+use lib.ListN.{length}
 use lib.Dec.{eqb}
 use borrow.Author.Tests.{eqb-true}
+use Rattle.table.specs.declared.Place.{Place}
 use Rattle.table.specs.declared.Need.{Need}
 use Rattle.table.specs.declared.Need.the-variants.{Ignored, Optional, Required}
-use Rattle.table.specs.Bytes.{pick, num}
-use Rattle.table.specs.Layout.{Layout, Refs, none, plain, nest, image}
+use Rattle.table.specs.Bytes.{pick, part}
+use Rattle.table.specs.Layout.{Layout, Refs, none, plain, nest, baseOf, image, referenceAt}
 use Rattle.table.specs.FixedLayouts.{layoutOf, header, control, host, hfi, ssns, security, discovery, info, extended, noKind}
 use Rattle.table.specs.Objects.{under}
 use Rattle.table.specs.Rules.{done}
 use Rattle.table.specs.Reads.{seat, hasPlain, needAt, noPlace, refPlace, placeAt}
 use Rattle.laws.specs.Fields.{imageIn}
 use Rattle.images.proofs.Laws.{by-kind, other-layout}
+use Rattle.reads.proofs.OwnLaws.{placeAt-own}
 
--- ---- the length of an object, and where it stands, by the bytes of its reference
+-- ---- the length of an object, and where it stands, by its reference in the record's own bytes
 
-module _ (t : List ℕ) (l : Layout) (a p : ℕ) (h : hasPlain p (l .refs) ≡ true) where
+module _ (x : List ℕ) (l : Layout) (p : ℕ) (h : hasPlain p (l .refs) ≡ true) where
   abbrev need : Need
-  need = needAt p (l .refs) (image (l .shape .keep) (drop a t))
+  need = needAt p (l .refs) (image (l .shape .keep) x)
 
-  pub place-len : placeAt t p (seat l a true) .len ≡ under need 0 (num t (a + p + 4) 2)
-  place-len = rw h (go need) where
-    there : (c : Bool) → eqb (num t (a + p + 4) 2) 0 ≡ c
-        → pick c (noPlace done) (record { answer = done; present = true; at = num t (a + p) 4; len = num t (a + p + 4) 2 }) .len ≡ num t (a + p + 4) 2
-    there true e = sym (eqb-true (num t (a + p + 4) 2) 0 e)
+  abbrev here : Place
+  here = placeAt x p (seat l 0 true)
+
+  abbrev named : Bool → Place
+  named c = pick c (noPlace done) (record { answer = done; present = true; at = referenceAt x p .at; len = referenceAt x p .len })
+
+  pub place-len : here .len ≡ under need 0 (referenceAt x p .len)
+  place-len = rw (h, zero-add p) (go need) where
+    there : (c : Bool) → eqb (referenceAt x p .len) 0 ≡ c → named c .len ≡ referenceAt x p .len
+    there true e = sym (eqb-true (referenceAt x p .len) 0 e)
     there false e = refl
 
-    go : (m : Need) → under m (noPlace done) (refPlace t (a + p)) .len ≡ under m 0 (num t (a + p + 4) 2)
+    go : (m : Need) → under m (noPlace done) (refPlace x p) .len ≡ under m 0 (referenceAt x p .len)
     go Ignored = refl
-    go Optional = there (eqb (num t (a + p + 4) 2) 0) refl
-    go Required = there (eqb (num t (a + p + 4) 2) 0) refl
+    go Optional = there (eqb (referenceAt x p .len) 0) refl
+    go Required = there (eqb (referenceAt x p .len) 0) refl
 
-  pub place-start : (placeAt t p (seat l a true) .len ≡ 0 → ⊥) → placeAt t p (seat l a true) .at ≡ num t (a + p) 4
-  place-start = rw h (go need) where
-    there : (c : Bool) → let q = pick c (noPlace done) (record { answer = done; present = true; at = num t (a + p) 4; len = num t (a + p + 4) 2 }) in (q .len ≡ 0 → ⊥) → q .at ≡ num t (a + p) 4
+  pub place-start : (here .len ≡ 0 → ⊥) → here .at ≡ referenceAt x p .at
+  place-start = rw (h, zero-add p) (go need) where
+    there : (c : Bool) → (named c .len ≡ 0 → ⊥) → named c .at ≡ referenceAt x p .at
     there true z = absurd (z refl)
     there false z = refl
 
-    go : (m : Need) → (under m (noPlace done) (refPlace t (a + p)) .len ≡ 0 → ⊥) → under m (noPlace done) (refPlace t (a + p)) .at ≡ num t (a + p) 4
+    go : (m : Need) → (under m (noPlace done) (refPlace x p) .len ≡ 0 → ⊥) → under m (noPlace done) (refPlace x p) .at ≡ referenceAt x p .at
     go Ignored z = absurd (z refl)
-    go Optional z = there (eqb (num t (a + p + 4) 2) 0) z
-    go Required z = there (eqb (num t (a + p + 4) 2) 0) z
+    go Optional z = there (eqb (referenceAt x p .len) 0) z
+    go Required z = there (eqb (referenceAt x p .len) 0) z
+
+-- where an object of the used record of kind k at a starts
+pub own-start : (t : List ℕ) (k a p : ℕ) → hasPlain p (layoutOf k .refs) ≡ true → (placeAt t p (seat (layoutOf k) a true) .len ≡ 0 → ⊥)
+    → referenceAt (part t a (baseOf (layoutOf k))) p .at ≡ placeAt t p (seat (layoutOf k) a true) .at
+own-start t k a p h z =
+    let e = placeAt-own k t a p true in
+    sym (place-start (part t a (baseOf (layoutOf k))) (layoutOf k) p h (λ y. z (sym (ap (λ (q : Place). q .len) e) ∙ y))) ∙ ap (λ (q : Place). q .at) e
 
 -- references to objects that are never ignored
 abbrev Heeded : Refs → Type 0
@@ -83,16 +98,16 @@ pub never-ignored : (k q : ℕ) (img : List ℕ) (x y : ℕ) → eqb k 5 ≡ fal
 never-ignored k q img x y n h = heeded-counts (layoutOf k .refs) (kinds-heeded k n) q img x y h
 
 -- those of a security record: c says whether the one at p counts
-pub security-len : (t : List ℕ) (k a p : ℕ) → k ≡ 5 → hasPlain p (layoutOf k .refs) ≡ true → (c : Bool) → c ≡ under (needAt p (security .refs) (imageIn security t a)) false true
-    → placeAt t p (seat (layoutOf k) a true) .len ≡ pick c (num t (a + p + 4) 2) 0
+pub security-len : (x : List ℕ) (k p : ℕ) → k ≡ 5 → hasPlain p (layoutOf k .refs) ≡ true → (c : Bool) → c ≡ under (needAt p (security .refs) (imageIn security x 0)) false true
+    → placeAt x p (seat (layoutOf k) 0 true) .len ≡ pick c (referenceAt x p .len) 0
 unfolding layoutOf imageIn
-security-len t k a p e h c f =
-    ap (λ (j : ℕ). placeAt t p (seat (layoutOf j) a true) .len) e
-    ∙ place-len t security a p (ap (λ (j : ℕ). hasPlain p (layoutOf j .refs)) (sym e) ∙ h)
-    ∙ go (needAt p (security .refs) (image (security .shape .keep) (drop a t))) (num t (a + p + 4) 2)
-    ∙ ap (λ (b : Bool). pick b (num t (a + p + 4) 2) 0) (sym f)
+security-len x k p e h c f =
+    ap (λ (j : ℕ). placeAt x p (seat (layoutOf j) 0 true) .len) e
+    ∙ place-len x security p (ap (λ (j : ℕ). hasPlain p (layoutOf j .refs)) (sym e) ∙ h)
+    ∙ go (needAt p (security .refs) (image (security .shape .keep) x)) (referenceAt x p .len)
+    ∙ ap (λ (b : Bool). pick b (referenceAt x p .len) 0) (sym f)
   where
-    go : (m : Need) (x : ℕ) → under m 0 x ≡ pick (under m false true) x 0
-    go Ignored x = refl
-    go Optional x = refl
-    go Required x = refl
+    go : (m : Need) (n : ℕ) → under m 0 n ≡ pick (under m false true) n 0
+    go Ignored n = refl
+    go Optional n = refl
+    go Required n = refl

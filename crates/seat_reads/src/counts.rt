@@ -1,5 +1,6 @@
 // How many records each list has, and the header's bytes.
-use crate::objects::part_of;
+use reads::lent::part_of;
+use table::Control;
 use table::Discovery;
 use table::Hfi;
 use table::Security;
@@ -16,10 +17,10 @@ pub fn count_byte(t: &[u8], kind: u8) -> u8
     ensures { λ r. ⌜ r ≡ countOf (now (t .entry)) kind ⌝ }
 {
     match kind {
-        Hfi::ID => t[87],
-        Ssns::ID => t[95],
-        Security::ID => t[103],
-        Discovery::ID => t[111],
+        Hfi::ID => t[Control::HFI_COUNT],
+        Ssns::ID => t[Control::SSNS_COUNT],
+        Security::ID => t[Control::SECURITY_COUNT],
+        Discovery::ID => t[Control::DISCOVERY_COUNT],
         _ => 0,
     }
 }

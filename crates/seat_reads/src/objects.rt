@@ -1,4 +1,7 @@
 // The objects of the used record of a kind that stands at `a`.
+use reads::lent::heap_part;
+use reads::lent::part_of;
+use reads::lent::record_at;
 use table::Need;
 use table::Security;
 ghost use mathlib.Core.Path.{_≡_};
@@ -14,21 +17,12 @@ ghost use Rattle.laws.specs.Fields.{imageIn};
 ghost use Rattle.reader.specs.Accepted.{Accepted};
 ghost use Rattle.reads.specs.Seats.{Seated};
 
-// `len` of the caller's own bytes.
-pub fn part_of(t: &[u8], at: usize, len: usize) -> &[u8]
-    requires { ⌜ at + len ≤ length (now t) ⌝ }
-    ensures { λ r. ⌜ now r ≡ part (now (t .entry)) at len ⌝ }
+// Whether the reference at `p` of a security record counts; `x` are the record's bytes.
+fn counts(x: &[u8], p: usize) -> bool
+    requires { ⌜ 64 ≤ length (now x) ⌝ }
+    ensures { λ r. ⌜ r ≡ under (needAt p (security .refs) (imageIn security (now (x .entry)) 0)) false true ⌝ }
 {
-    let end = at + len;
-    &t[at..end]
-}
-
-// Whether the reference at `p` of the security record at `a` counts.
-fn counts(t: &[u8], a: usize, p: usize) -> bool
-    requires { ⌜ a + 64 ≤ length (now t) ⌝ }
-    ensures { λ r. ⌜ r ≡ under (needAt p (security .refs) (imageIn security (now (t .entry)) a)) false true ⌝ }
-{
-    let need = needs::security_need(t, a, p);
+    let need = needs::security_need(x, 0, p);
     match need {
         Need::Ignored => false,
         Need::Optional => true,
@@ -36,27 +30,36 @@ fn counts(t: &[u8], a: usize, p: usize) -> bool
     }
 }
 
-// The length of the object that the reference at `p` names. Only a security record ignores references to objects.
-pub fn object_len(t: &[u8], kind: u8, a: usize, p: usize) -> usize
-    requires { ⌜ (a + baseOf (layoutOf kind) ≤ length (now t)) × (hasPlain p (layoutOf kind .refs) ≡ true) ⌝ }
-    ensures { λ r. ⌜ (r ≡ placeAt (now (t .entry)) p (seat (layoutOf kind) a true) .len) × (r ≤ 65535) ⌝ }
+// The length of the object that the reference at `p` of the record of a kind names. Only a security record ignores references to objects.
+fn named_len(x: &[u8], kind: u8, p: usize) -> usize
+    requires { ⌜ (baseOf (layoutOf kind) ≤ length (now x)) × (hasPlain p (layoutOf kind .refs) ≡ true) ⌝ }
+    ensures { λ r. ⌜ (r ≡ placeAt (now (x .entry)) p (seat (layoutOf kind) 0 true) .len) × (r ≤ 65535) ⌝ }
 {
     if kind != Security::ID {
-        return wire::u16_at(t, a + p + 4);
+        return wire::reference_at(x, p).len;
     }
-    if counts(t, a, p) {
-        return wire::u16_at(t, a + p + 4);
+    if counts(x, p) {
+        return wire::reference_at(x, p).len;
     }
     0
 }
 
-// An object of `len` bytes, which is its length and not 0: the caller's own bytes, exactly that part.
+// The same of the record at `a`. All that is known of it here is that it lies in the table.
+pub fn object_len(t: &[u8], kind: u8, a: usize, p: usize) -> usize
+    requires { ⌜ (a + baseOf (layoutOf kind) ≤ length (now t)) × (hasPlain p (layoutOf kind .refs) ≡ true) ⌝ }
+    ensures { λ r. ⌜ (r ≡ placeAt (now (t .entry)) p (seat (layoutOf kind) a true) .len) × (r ≤ 65535) ⌝ }
+{
+    named_len(part_of(t, a, kinds::base_size(kind)), kind, p)
+}
+
+// An object of `len` bytes, which is its length and not 0: the caller's own bytes, exactly that part of the heap.
 pub fn object_bytes(t: &[u8], kind: u8, a: usize, p: usize, len: usize) -> &[u8]
     requires { ⌜ Accepted (now t) × Seated (now t) (layoutOf kind) a true × (hasPlain p (layoutOf kind .refs) ≡ true) ⌝ }
     requires { ⌜ (len ≡ placeAt (now t) p (seat (layoutOf kind) a true) .len) × (0 < len) ⌝ }
     ensures { λ r. ⌜ now r ≡ part (now (t .entry)) (placeAt (now (t .entry)) p (seat (layoutOf kind) a true) .at) (placeAt (now (t .entry)) p (seat (layoutOf kind) a true) .len) ⌝ }
 {
-    part_of(t, wire::u32_at(t, a + p), len)
+    let named = wire::reference_at(record_at(t, kind, a), p);
+    heap_part(t, named.at, len)
 }
 
 // The object itself: the caller's own bytes, exactly that part; none where it is absent.

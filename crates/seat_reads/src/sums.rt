@@ -1,6 +1,7 @@
 // Sums of bytes. Where the driver signature is longer than all else in the table, it is not gone over: the table's own bytes add up to 0, so the
 // signature's sum is known by that of the others.
 use crate::objects::object_part;
+use table::Header;
 ghost use mathlib.Core.Path.{_≡_};
 ghost use Prim.Native.Nat.{_+_, _%_, _≤_};
 ghost use lib.ListN.{length};
@@ -32,10 +33,10 @@ pub fn driver_sum(t: &[u8]) -> u8
     requires { ⌜ Accepted (now t) ⌝ }
     ensures { λ r. ⌜ r ≡ total (driverOf (now (t .entry))) % 256 ⌝ }
 {
-    let x = object_part(t, 0, 0, 44);
+    let x = object_part(t, Header::ID, 0, 44);
     let d = x.len();
     let n = wire::u32_at(t, 4);
-    let at = wire::u32_at(t, 44);
+    let at = wire::reference_at(t, 44).at;
     // Never so in an accepted table: its objects lie within its own length. What inner calls know of them is that they lie in the caller's bytes.
     if at + d > n {
         return wire::sum8(x);

@@ -7,8 +7,6 @@ use Rattle.reads.specs.Told.{countOf}
 use Rattle.table.proofs.Rules.{picks}
 use Rattle.seat_reads.proofs.counts.count_byte.Statement.{statement}
 use Rattle.seat_reads.proofs.counts.count_byte.Tie as tie
-use Rattle.seat_reads.proofs.counts.count_byte.Reads as reads
-use Rattle.seat_reads.proofs.counts.count_byte.Lts as lts
 
 shared-slice-read-result : tie.Need-shared-slice-read-result
 shared-slice-read-result c = omega (arith, laid (c .before .before .args .t .now) (c .before .before .pre) .lent)
@@ -24,19 +22,23 @@ shared-slice-read-result-4 c = omega (arith, laid (c .before .before .args .t .n
 
 returns : tie.Need-returns
 unfolding countOf
-returns c = rw (c .before .match .keys1) (sym (counted (c .before .before .args .t .now) (λ i. omega (arith, c .shared-slice-known .given i)) (c .before .before .pre) 87 tt (unfold control in refl)))
+returns c = rw (c .before .match .keys1) (sym (counted (c .before .before .args .t .now) (λ i. omega (arith, c .shared-slice-known .given i)) (c .before .before .pre) 87 tt
+    (unfold control in refl)))
 
 returns-2 : tie.Need-returns-2
 unfolding countOf
-returns-2 c = rw (c .before .match .keys2) (sym (counted (c .before .before .args .t .now) (λ i. omega (arith, c .shared-slice-known2 .given i)) (c .before .before .pre) 95 tt (unfold control in refl)))
+returns-2 c = rw (c .before .match .keys2) (sym (counted (c .before .before .args .t .now) (λ i. omega (arith, c .shared-slice-known2 .given i)) (c .before .before .pre) 95 tt
+    (unfold control in refl)))
 
 returns-3 : tie.Need-returns-3
 unfolding countOf
-returns-3 c = rw (c .before .match .keys3) (sym (counted (c .before .before .args .t .now) (λ i. omega (arith, c .shared-slice-known3 .given i)) (c .before .before .pre) 103 tt (unfold control in refl)))
+returns-3 c = rw (c .before .match .keys3) (sym (counted (c .before .before .args .t .now) (λ i. omega (arith, c .shared-slice-known3 .given i)) (c .before .before .pre) 103 tt
+    (unfold control in refl)))
 
 returns-4 : tie.Need-returns-4
 unfolding countOf
-returns-4 c = rw (c .before .match .keys4) (sym (counted (c .before .before .args .t .now) (λ i. omega (arith, c .shared-slice-known4 .given i)) (c .before .before .pre) 111 tt (unfold control in refl)))
+returns-4 c = rw (c .before .match .keys4) (sym (counted (c .before .before .args .t .now) (λ i. omega (arith, c .shared-slice-known4 .given i)) (c .before .before .pre) 111 tt
+    (unfold control in refl)))
 
 returns-5 : tie.Need-returns-5
 unfolding countOf

@@ -5,19 +5,16 @@ use native.Mathlib.Omega.{arith}
 use Rattle.reader.proofs.AcceptedLaws.{laid}
 use Rattle.reads.proofs.MeaningLaws.{oem-told}
 use Rattle.reads.specs.Told.{oemOf}
-use Rattle.table.proofs.Rules.{picks}
 use Rattle.seat_reads.proofs.counts.oem.Statement.{statement}
 use Rattle.seat_reads.proofs.counts.oem.Tie as tie
-use Rattle.seat_reads.proofs.counts.oem.Reads as reads
-use Rattle.seat_reads.proofs.counts.oem.Lts as lts
-use Rattle.seat_reads.proofs.objects.part_of.Reads as part-of-reads
 
 part-of-requires : tie.Need-part-of-requires
 part-of-requires c κs = omega (arith, laid (c .before .args .t .now) (c .before .pre) .lent)
 
 returns : tie.Need-returns
 unfolding oemOf
-returns c = (c .part-of .ensures ∙ sym (oem-told (c .before .before .args .t .now) (λ i. omega (arith, c .before .shared-slice-known .given i)) (c .before .before .pre)), ap length (c .part-of .ensures) ∙ part-long (c .before .before .args .t .now) 10 26 (omega (arith, laid (c .before .before .args .t .now) (c .before .before .pre) .lent)))
+returns c = (c .part-of .ensures ∙ sym (oem-told (c .before .before .args .t .now) (λ i. omega (arith, c .before .shared-slice-known .given i)) (c .before .before .pre)), ap length
+    (c .part-of .ensures) ∙ part-long (c .before .before .args .t .now) 10 26 (omega (arith, laid (c .before .before .args .t .now) (c .before .before .pre) .lent)))
 
 pub oem-spec : {M : Type 1} → statement M
 oem-spec = tie.close (tie.spec part-of-requires returns)

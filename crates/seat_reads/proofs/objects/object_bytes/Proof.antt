@@ -1,31 +1,43 @@
-use mathlib.Core.Path.{refl, sym, ap, ap₂, _∙_}
-use mathlib.Core.Bool.{true}
-use Prim.Native.Nat.{ℕ}
-use native.Mathlib.Omega.{arith}
-use Rattle.table.specs.Bytes.{part}
-use Rattle.table.specs.FixedLayouts.{layoutOf}
+use Rattle.seat_reads.proofs.ObjectLaws.{own-start}
+use Rattle.reads.proofs.ObjectLaws.{plain-fits, seat-heap}
+use Rattle.reads.proofs.SeatLaws.{standing}
+use Rattle.reads.proofs.OwnLaws.{own-long}
 use Rattle.table.specs.Reads.{seat, placeAt}
-use Rattle.reads.proofs.ObjectLaws.{plain-fits, seat-room}
-use Rattle.seat_reads.proofs.ObjectLaws.{place-start}
-use Rattle.table.proofs.Rules.{picks}
+use Rattle.table.specs.FixedLayouts.{layoutOf}
+use Rattle.table.specs.Layout.{referenceAt}
+use Rattle.table.specs.Bytes.{part}
+use Rattle.table.specs.declared.Region.{Region}
+use lib.ListN.{length}
+use native.Mathlib.Omega.{arith}
+use Prim.Native.Nat.{ℕ}
+use mathlib.Core.List.{List}
+use mathlib.Core.Bool.{true}
+use mathlib.Core.Path.{_≡_, refl, ap, ap₂, _∙_}
 use Rattle.seat_reads.proofs.objects.object_bytes.Statement.{statement}
 use Rattle.seat_reads.proofs.objects.object_bytes.Tie as tie
-use Rattle.seat_reads.proofs.objects.object_bytes.Reads as reads
-use Rattle.seat_reads.proofs.objects.object_bytes.Lts as lts
-use Rattle.seat_reads.proofs.objects.part_of.Reads as part-of-reads
-use Rattle.wire.proofs.u32_at.Reads as u32-at-reads
 
-add-u32-at : tie.Need-add-u32-at
-add-u32-at c = let s = c .before in omega (arith, plain-fits (s .args .kind) (s .args .p) (s .pre .0 .2), s .pre .0 .1 .within)
+-- the object starts where its reference says
+start : (c : tie.After-reference-at) → let a = c .before .before .before .args in c .reference-at .result .at ≡ placeAt (a .t .now) (a .p) (seat (layoutOf (a .kind)) (a .a) true) .at
+start c = let s = c .before .before .before in let a = s .args in
+    ap (λ (r : Region). r .at) (c .reference-at .ensures .0)
+    ∙ ap (λ (x : List ℕ). referenceAt x (a .p) .at) (c .before .record-at .ensures)
+    ∙ own-start (a .t .now) (a .kind) (a .a) (a .p) (s .pre .0 .2) (λ e. omega (arith, s .pre .1, e))
 
-u32-at-requires : tie.Need-u32-at-requires
-u32-at-requires c κs = let s = c .before in omega (arith, plain-fits (s .args .kind) (s .args .p) (s .pre .0 .2), s .pre .0 .1 .within)
+record-at-requires : tie.Need-record-at-requires
+record-at-requires c κs = let s = c .before in (s .pre .0 .0, standing (s .args .t .now) (layoutOf (s .args .kind)) (s .args .a) true (s .pre .0 .1))
 
-part-of-requires : tie.Need-part-of-requires
-part-of-requires c κs = let s = c .before .before in let a = s .args in let t = a .t .now in let l = layoutOf (a .kind) in let q = placeAt t (a .p) (seat l (a .a) true) in let z = place-start t l (a .a) (a .p) (s .pre .0 .2) (λ e. omega (arith, s .pre .1 .0, s .pre .1 .1, e)) in omega (arith, seat-room t (s .pre .0 .0) (a .p) (a .kind) (seat l (a .a) true) (refl, s .pre .0 .1), c .u32-at .ensures .0, s .pre .1 .0, z)
+reference-at-requires : tie.Need-reference-at-requires
+reference-at-requires c κs = let s = c .before .before in let a = s .args in
+    omega (arith, plain-fits (a .kind) (a .p) (s .pre .0 .2), ap length (c .record-at .ensures), own-long (a .kind) (a .t .now) (a .a) (s .pre .0 .1 .within))
+
+heap-part-requires : tie.Need-heap-part-requires
+heap-part-requires c κs = let s = c .before .before .before in let a = s .args in let t = a .t .now in let q = seat (layoutOf (a .kind)) (a .a) true in
+    let i = seat-heap t (s .pre .0 .0) (a .p) (a .kind) q (refl, s .pre .0 .1) (omega (arith, s .pre .1)) in
+    (s .pre .0 .0, λ h. record { above = omega (arith, i, start c); below = omega (arith, i, start c, s .pre .1 .0) })
 
 returns : tie.Need-returns
-returns c = let s = c .before .before .before in let a = s .args in let t = a .t .now in let l = layoutOf (a .kind) in let q = placeAt t (a .p) (seat l (a .a) true) in let z = place-start t l (a .a) (a .p) (s .pre .0 .2) (λ e. omega (arith, s .pre .1 .0, s .pre .1 .1, e)) in c .part-of .ensures ∙ ap₂ (part t) (c .before .u32-at .ensures .0 ∙ sym z) (s .pre .1 .0)
+returns c = let s = c .before .before .before .before in c .heap-part .ensures ∙ ap₂ (part (s .args .t .now)) (start (c .before)) (s .pre .1 .0)
 
 pub object-bytes-spec : {M : Type 1} → statement M
-object-bytes-spec = tie.close (tie.spec add-u32-at u32-at-requires part-of-requires returns)
+object-bytes-spec =
+    tie.close (tie.spec record-at-requires reference-at-requires heap-part-requires returns)

@@ -1,21 +1,13 @@
-use mathlib.Core.Path.{refl, sym, ap, ap₂, _∙_}
+use mathlib.Core.Path.{sym, ap, _∙_}
 use mathlib.Core.Bool.{true}
 use Prim.Native.Nat.{ℕ}
 use native.Mathlib.Omega.{arith}
 use Rattle.table.specs.Bytes.{part}
 use Rattle.table.specs.FixedLayouts.{layoutOf}
 use Rattle.table.specs.Reads.{seat, placeAt}
-use Rattle.reads.proofs.ObjectLaws.{plain-fits, seat-room}
-use Rattle.seat_reads.proofs.ObjectLaws.{place-start}
-use Rattle.table.proofs.Rules.{picks}
 use borrow.Author.Needs.{needs}
 use Rattle.seat_reads.proofs.objects.object_part.Statement.{statement}
 use Rattle.seat_reads.proofs.objects.object_part.Tie as tie
-use Rattle.seat_reads.proofs.objects.object_part.Reads as reads
-use Rattle.seat_reads.proofs.objects.object_part.Lts as lts
-use Rattle.seat_reads.proofs.objects.object_bytes.Reads as object-bytes-reads
-use Rattle.seat_reads.proofs.objects.object_len.Reads as object-len-reads
-use Rattle.seat_reads.proofs.objects.part_of.Reads as part-of-reads
 
 object-len-requires : tie.Need-object-len-requires
 object-len-requires c κs = search needs
@@ -24,7 +16,8 @@ part-of-requires : tie.Need-part-of-requires
 part-of-requires c κs = search needs
 
 returns : tie.Need-returns
-returns c = let s = c .before .before .before .before in let a = s .args in let t = a .t .now in let l = layoutOf (a .kind) in let q = placeAt t (a .p) (seat l (a .a) true) in c .part-of .ensures ∙ ap (λ (n : ℕ). part t (q .at) n) (sym (c .before .if1 .taken) ∙ c .before .before .object-len .ensures .0)
+returns c = let s = c .before .before .before .before in let a = s .args in let t = a .t .now in let l = layoutOf (a .kind) in let q = placeAt t (a .p) (seat l (a .a) true) in
+    c .part-of .ensures ∙ ap (λ (n : ℕ). part t (q .at) n) (sym (c .before .if1 .taken) ∙ c .before .before .object-len .ensures .0)
 
 object-bytes-requires : tie.Need-object-bytes-requires
 object-bytes-requires c κs = let s = c .before .before .before in (s .pre, (c .before .object-len .ensures .0, omega (arith, c .if1 .left)))

@@ -1,3 +1,4 @@
+use Rattle.table.specs.declared.Region.{Region}
 use mathlib.Core.Path.{_≡_, refl, sym, ap, ap₂, _∙_}
 use mathlib.Core.List.{List}
 use mathlib.Core.Bool.{true}
@@ -15,17 +16,9 @@ use Rattle.images.proofs.Laws.{part-long}
 use Rattle.seat_reads.specs.Driver.{driverOf}
 use Rattle.seat_reads.proofs.SumLaws.{part-front, accepted-sum}
 use Rattle.seat_reads.proofs.ObjectLaws.{place-start}
-use Rattle.table.proofs.Rules.{picks}
 use borrow.Author.Needs.{needs}
 use Rattle.seat_reads.proofs.sums.driver_sum.Statement.{statement}
 use Rattle.seat_reads.proofs.sums.driver_sum.Tie as tie
-use Rattle.seat_reads.proofs.sums.driver_sum.Reads as reads
-use Rattle.seat_reads.proofs.sums.driver_sum.Lts as lts
-use Rattle.seat_reads.proofs.objects.object_part.Reads as object-part-reads
-use Rattle.seat_reads.proofs.sums.sum_but.Reads as sum-but-reads
-use Rattle.std.proofs.num.wrapping_sub_u8.Reads as wrapping-sub-u8-reads
-use Rattle.wire.proofs.sum8.Reads as sum8-reads
-use Rattle.wire.proofs.u32_at.Reads as u32-at-reads
 
 object-part-requires : tie.Need-object-part-requires
 unfolding layoutOf header
@@ -34,8 +27,8 @@ object-part-requires c κs = (c .before .pre, header-seated (c .before .args .t 
 u32-at-requires : tie.Need-u32-at-requires
 u32-at-requires c κs = omega (arith, laid (c .before .before .args .t .now) (c .before .before .pre) .lent)
 
-u32-at-requires-2 : tie.Need-u32-at-requires-2
-u32-at-requires-2 c κs = omega (arith, laid (c .before .before .before .args .t .now) (c .before .before .before .pre) .lent)
+reference-at-requires : tie.Need-reference-at-requires
+reference-at-requires c κs = omega (arith, laid (c .before .before .before .args .t .now) (c .before .before .before .pre) .lent)
 
 add-if1 : tie.Need-add-if1
 add-if1 c = search needs
@@ -71,15 +64,18 @@ wrapping-sub-u8-requires : tie.Need-wrapping-sub-u8-requires
 wrapping-sub-u8-requires c κs = search needs
 
 returns-3 : tie.Need-returns-3
-returns-3 c = let s = c .before .before .before .before .before .before .before .before .before in let t = s .args .t .now in let ok = s .pre in let o = c .before .before .before .before .before .before .before .object-part in let n = c .before .before .before .before .before .before .u32-at in let at = c .before .before .before .before .before .u32-at2 in let d = length (o .result .now) in
+returns-3 c = let s = c .before .before .before .before .before .before .before .before .before in let t = s .args .t .now in let ok = s .pre in
+    let o = c .before .before .before .before .before .before .before .object-part in let n = c .before .before .before .before .before .before .u32-at in
+    let at = c .before .before .before .before .before .reference-at in let d = length (o .result .now) in
     let q = placeAt t 44 (seat (layoutOf 0) 0 true) in
     let g : hasPlain 44 (layoutOf 0 .refs) ≡ true = unfold layoutOf header in refl in
     let l : d ≡ q .len = ap length (o .ensures) ∙ part-long t (q .at) (q .len) (seat-room t ok 44 0 (seat (layoutOf 0) 0 true) (refl, header-seated t ok)) in
     let some : q .len ≡ 0 → ⊥ = λ e. omega (arith, l, e, c .before .before .before .if2 .left) in
     let z : total (take (n .result - 0) t) % 256 ≡ 0 = ap (λ (m : ℕ). total (take m t) % 256) (sub-zero (n .result) ∙ n .ensures .0) ∙ accepted-sum t ok in
-    let same : part (take (n .result - 0) t) (at .result) d ≡ driverOf t =
-    ap (λ (m : ℕ). part (take m t) (at .result) d) (sub-zero (n .result)) ∙ part-front t (n .result) (at .result) d (omega (arith, c .before .before .before .before .if1 .left)) (omega (arith, laid t ok .sized, n .ensures .0))
-    ∙ ap₂ (part t) (at .ensures .0 ∙ sym (place-start t (layoutOf 0) 0 44 g some)) l in
+    let same : part (take (n .result - 0) t) (at .result .at) d ≡ driverOf t =
+    ap (λ (m : ℕ). part (take m t) (at .result .at) d) (sub-zero (n .result))
+    ∙ part-front t (n .result) (at .result .at) d (omega (arith, c .before .before .before .before .if1 .left)) (omega (arith, laid t ok .sized, n .ensures .0))
+    ∙ ap₂ (part t) (ap (λ (r : Region). r .at) (at .ensures .0) ∙ sym (place-start t (layoutOf 0) 44 g some)) l in
     omega (arith, z, ap total same, c .before .sum-but .ensures, c .wrapping-sub-u8 .ensures)
 
 pub driver-sum-spec : {M : Type 1} → statement M
@@ -88,7 +84,7 @@ driver-sum-spec =
     (tie.spec
     object-part-requires
     u32-at-requires
-    u32-at-requires-2
+    reference-at-requires
     add-if1
     sum8-requires
     returns

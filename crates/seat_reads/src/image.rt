@@ -1,0 +1,19 @@
+// The image of the used record of a kind that stands at `a`.
+use reads::lent::record_at;
+ghost use mathlib.Core.Path.{_≡_};
+ghost use mathlib.Core.Bool.{true};
+ghost use lib.ListN.{length};
+ghost use Rattle.table.specs.Layout.{baseOf};
+ghost use Rattle.table.specs.FixedLayouts.{layoutOf};
+ghost use Rattle.table.specs.Reads.{seat, imageAt};
+ghost use Rattle.reader.specs.Accepted.{Accepted};
+ghost use Rattle.reads.specs.Seats.{Seated};
+ghost use Rattle.reads.specs.Told.{bytesOf};
+
+// Into `part`, which it fills.
+pub fn image_into(part: &mut [u8], t: &[u8], kind: u8, a: usize)
+    requires { ⌜ Accepted (now t) × Seated (now t) (layoutOf kind) a true × (length (now part) ≡ baseOf (layoutOf kind)) ⌝ }
+    ensures { λ r. ⌜ now (part .exit) ≡ bytesOf (imageAt (now (t .entry)) (seat (layoutOf kind) a true)) ⌝ }
+{
+    images::put_image(part, 0, record_at(t, kind, a), kind);
+}
