@@ -21,17 +21,12 @@ pub fn part_of(t: &[u8], at: usize, len: usize) -> &[u8]
     &t[at..end]
 }
 
-// The heap, which stands where `region` says. An empty one has no place.
+// The heap, which stands where `region` says and is not empty.
 fn heap_of(t: &[u8], region: Region) -> &[u8]
-    requires { ⌜ Accepted (now t) × (region ≡ heapIn (now t)) ⌝ }
+    requires { ⌜ Accepted (now t) × (region ≡ heapIn (now t)) × (0 < region .len) ⌝ }
     ensures { λ r. ⌜ now r ≡ part (now (t .entry)) (region .at) (region .len) ⌝ }
 {
-    let at = region.at;
-    let len = region.len;
-    if len == 0 {
-        return part_of(t, 0, 0);
-    }
-    part_of(t, at, len)
+    part_of(t, region.at, region.len)
 }
 
 // What lies in the heap, `len` bytes from place `at` of the table on: a part of the heap. None have no place.

@@ -8,18 +8,12 @@ use Rattle.reads.proofs.lent.heap_of.Statement.{statement}
 use Rattle.reads.proofs.lent.heap_of.Tie as tie
 
 part-of-requires : tie.Need-part-of-requires
-part-of-requires c κs = search needs
+unfolding heapIn
+part-of-requires c κs = let s = c .before in let e = ap (λ (r : Region). r .at) (s .pre .1) in let f = ap (λ (r : Region). r .len) (s .pre .1) in
+    omega (arith, e, f, laid (s .args .t .now) (s .pre .0) .heap .heap-in (omega (arith, f, s .pre .2)))
 
 returns : tie.Need-returns
 returns c = search needs
 
-part-of-requires-2 : tie.Need-part-of-requires-2
-unfolding heapIn
-part-of-requires-2 c κs = let s = c .before .before in let t = s .args .t .now in let e = ap (λ (r : Region). r .at) (s .pre .1) in let f = ap (λ (r : Region). r .len) (s .pre .1) in
-    omega (arith, e, f, laid t (s .pre .0) .heap .heap-in (omega (arith, f, c .if1 .left)))
-
-returns-2 : tie.Need-returns-2
-returns-2 c = search needs
-
 pub heap-of-spec : {M : Type 1} → statement M
-heap-of-spec = tie.close (tie.spec part-of-requires returns part-of-requires-2 returns-2)
+heap-of-spec = tie.close (tie.spec part-of-requires returns)

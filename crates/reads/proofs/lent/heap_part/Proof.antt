@@ -22,7 +22,8 @@ region-at-requires c κs = omega (arith, laid (c .before .before .args .t .now) 
 
 heap-of-requires : tie.Need-heap-of-requires
 unfolding heapIn
-heap-of-requires c κs = (c .before .before .before .pre .0, c .region-at .ensures .0)
+heap-of-requires c κs = let s = c .before .before .before in let h = s .pre .1 (omega (arith, c .before .if1 .left)) in
+    (s .pre .0, c .region-at .ensures .0, omega (arith, h, c .before .if1 .left, ap (λ (r : Region). r .len) (c .region-at .ensures .0)))
 
 sub-part-of : tie.Need-sub-part-of
 sub-part-of c = let s = c .before .before .before .before .before in let i = s .pre .1 (omega (arith, c .before .before .before .if1 .left)) in
