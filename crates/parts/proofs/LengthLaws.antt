@@ -1,8 +1,9 @@
 -- How long what is laid is, and what a reference names by its numbers. Assumes nothing.
 use mathlib.Core.Path.{_≡_, refl, sym, ap, ap₂, subst, _∙_}
 use mathlib.Core.Bool.{Bool, true, false}
-use mathlib.Core.List.{List, [], _∷_, append-nil}
-use Prim.Native.Nat.{ℕ, _+_, _≤_}
+use mathlib.Core.List.{List, [], _∷_}
+use Prim.Native.Nat.{ℕ, suc, _+_, _≤_, _<_}
+use native.Mathlib.Omega.{arith}
 use lib.ListN.{length, getD, length-append, length-replicate}
 use lib.Dec.{T}
 use Rattle.table.specs.Bytes.{part}
@@ -24,15 +25,15 @@ use Rattle.reads.specs.Told.{innerKind, toldEntry}
 use Rattle.reads.proofs.SeatLaws.{seats-good, record-held}
 use Rattle.reads.proofs.EntryLaws.{seated-at, entry-nowhere, entry-off, entry-on}
 use Rattle.reads.proofs.ObjectLaws.{seat-room}
-use Rattle.parts.specs.Parts.{Part, refsOf, OneObject, slotsIn, recordPart, partAt, recordBytes, bytesAt, spansOver, objectsOver}
-use Rattle.parts.proofs.PartLaws.{plain-part, nest-part, plain-bytes, nest-bytes, single, one-object, own-size, sized-all, heaped-all}
+use Rattle.parts.specs.Parts.{Part, refsOf, allPlain, slotsIn, recordPart, partAt, recordBytes, bytesAt, spansOver, objectsOver}
+use Rattle.parts.proofs.PartLaws.{plain-part, nest-part, plain-bytes, nest-bytes, plain-each, inner-plain, sized-all, heaped-all}
 
 refs-ok : (k : ℕ) → T (okRefs 0 (layoutOf k .shape .keep) (layoutOf k .refs))
 unfolding header control host hfi ssns security discovery info extended noKind
 refs-ok = by-layout (λ l. T (okRefs 0 (l .shape .keep) (l .refs))) tt tt tt tt tt tt tt tt tt tt
 
 -- a record with its references is as long as its image
-patched-long : (t : List ℕ) (k a h : ℕ) → length (patched h (imageIn (layoutOf k) t a) (slotsIn (layoutOf k) t a)) ≡ baseOf (layoutOf k)
+pub patched-long : (t : List ℕ) (k a h : ℕ) → length (patched h (imageIn (layoutOf k) t a) (slotsIn (layoutOf k) t a)) ≡ baseOf (layoutOf k)
 patched-long t k a h = length-patched (layoutOf k .shape .keep) h (imageIn (layoutOf k) t a) (slotsIn (layoutOf k) t a) (refs-ok k) (length-imageIn (layoutOf k) t a)
 
 module _ (t : List ℕ) (ok : Accepted t) (k a : ℕ) (s : Seated t (layoutOf k) a true) where
@@ -50,27 +51,32 @@ module _ (t : List ℕ) (ok : Accepted t) (k a : ℕ) (s : Seated t (layoutOf k)
   object-long : (h p : ℕ) → hasPlain p (layoutOf k .refs) ≡ true → length (bytesAt t k a h p) ≡ partAt t k a p .span
   object-long h p e = ap length (object-bytes h p e) ∙ part-long t (partAt t k a p .at) (partAt t k a p .len) (object-room p e) ∙ sym (object-span p e)
 
-  -- ---- a heap record's one object
+  -- ---- what all references name, where what each names takes its span
 
-  pub one-heaped : (h : ℕ) → OneObject k → heapOf h (slotsIn (layoutOf k) t a) ≡ bytesAt t k a h (getD (refsOf k) 0 0)
-  unfolding objectsOver
-  one-heaped h o = heaped-all t ok k a s h ∙ ap (objectsOver t k a h) (single (refsOf k) (o .one)) ∙ append-nil (bytesAt t k a h (getD (refsOf k) 0 0))
+  objects-long : (ps : List ℕ) → ((i : ℕ) → i < length ps → (h : ℕ) → length (bytesAt t k a h (getD ps i 0)) ≡ partAt t k a (getD ps i 0) .span)
+      → (h : ℕ) → length (objectsOver t k a h ps) ≡ spansOver t k a ps
+  unfolding objectsOver spansOver
+  objects-long [] f h = refl
+  objects-long (p ∷ ps) f h =
+      length-append (bytesAt t k a h p) (objectsOver t k a (h + partAt t k a p .span) ps)
+      ∙ ap₂ _+_ (f 0 (omega arith) h) (objects-long ps (λ i b. f (suc i) (omega arith)) (h + partAt t k a p .span))
 
-  pub one-size : OneObject k → sizeOf (slotsIn (layoutOf k) t a) ≡ partAt t k a (getD (refsOf k) 0 0) .span
-  one-size o = own-size t ok k a s o ∙ sym (ap (λ (q : Part). q .span) (plain-part t ok k a s (getD (refsOf k) 0 0) (o .object)))
+  all-long : ((i : ℕ) → i < length (refsOf k) → (h : ℕ) → length (bytesAt t k a h (getD (refsOf k) i 0)) ≡ partAt t k a (getD (refsOf k) i 0) .span)
+      → (h : ℕ) → length (heapOf h (slotsIn (layoutOf k) t a)) ≡ sizeOf (slotsIn (layoutOf k) t a)
+  all-long f h = ap length (heaped-all t ok k a s h) ∙ objects-long (refsOf k) f h ∙ sym (sized-all t ok k a s)
 
-  one-long : (h : ℕ) → OneObject k → length (heapOf h (slotsIn (layoutOf k) t a)) ≡ sizeOf (slotsIn (layoutOf k) t a)
-  one-long h o = ap length (one-heaped h o) ∙ object-long h (getD (refsOf k) 0 0) (o .object) ∙ sym (one-size o)
+  plain-long : allPlain k ≡ true → (h : ℕ) → length (heapOf h (slotsIn (layoutOf k) t a)) ≡ sizeOf (slotsIn (layoutOf k) t a)
+  plain-long o = all-long (λ i b h. object-long h (getD (refsOf k) i 0) (plain-each k o i b))
 
 -- ---- a heap record
 
-record-long : (t : List ℕ) (ok : Accepted t) (k h : ℕ) (s : Seat) → Held t k s → OneObject k → length (recordBytes t k h s) ≡ recordPart t k s .span
+record-long : (t : List ℕ) (ok : Accepted t) (k h : ℕ) (s : Seat) → Held t k s → allPlain k ≡ true → length (recordBytes t k h s) ≡ recordPart t k s .span
 unfolding recordBytes recordPart
 record-long t ok k h Nowhere g o = refl
 record-long t ok k h (At b on) g o =
     let h₁ : ℕ = h + baseOf (layoutOf k) in
     length-append (patched h₁ (imageIn (layoutOf k) t b) (slotsIn (layoutOf k) t b)) (heapOf h₁ (slotsIn (layoutOf k) t b))
-    ∙ ap₂ _+_ (patched-long t k b h₁) (one-long t ok k b g h₁ o)
+    ∙ ap₂ _+_ (patched-long t k b h₁) (plain-long t ok k b g o h₁)
 
 module _ (t : List ℕ) (ok : Accepted t) (k a : ℕ) (s : Seated t (layoutOf k) a true) where
   held : Held t (innerKind k) (heapRecord t k a)
@@ -79,7 +85,7 @@ module _ (t : List ℕ) (ok : Accepted t) (k a : ℕ) (s : Seated t (layoutOf k)
   nest-long : (h p : ℕ) → hasPlain p (layoutOf k .refs) ≡ false → length (bytesAt t k a h p) ≡ partAt t k a p .span
   nest-long h p e =
       ap length (nest-bytes t ok k a s h p e)
-      ∙ record-long t ok (innerKind k) h (heapRecord t k a) held (one-object k)
+      ∙ record-long t ok (innerKind k) h (heapRecord t k a) held (inner-plain k)
       ∙ sym (ap (λ (q : Part). q .span) (nest-part t ok k a s p e))
 
   -- what a reference names takes its span
@@ -89,14 +95,8 @@ module _ (t : List ℕ) (ok : Accepted t) (k a : ℕ) (s : Seated t (layoutOf k)
     go true e = object-long t ok k a s h p e
     go false e = nest-long h p e
 
-  objects-long : (h : ℕ) (ps : List ℕ) → length (objectsOver t k a h ps) ≡ spansOver t k a ps
-  unfolding objectsOver spansOver
-  objects-long h [] = refl
-  objects-long h (p ∷ ps) =
-      length-append (bytesAt t k a h p) (objectsOver t k a (h + partAt t k a p .span) ps) ∙ ap₂ _+_ (bytes-long h p) (objects-long (h + partAt t k a p .span) ps)
-
   pub slots-long : (h : ℕ) → length (heapOf h (slotsIn (layoutOf k) t a)) ≡ sizeOf (slotsIn (layoutOf k) t a)
-  slots-long h = ap length (heaped-all t ok k a s h) ∙ objects-long h (refsOf k) ∙ sym (sized-all t ok k a s)
+  slots-long = all-long t ok k a s (λ i b h. bytes-long h (getD (refsOf k) i 0))
 
 -- ---- the record of a kind and position
 

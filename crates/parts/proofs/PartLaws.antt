@@ -1,6 +1,6 @@
 -- What the references of a record name, one after the other, is what its slots say: bytes taken, stores, bytes in the heap. Assumes nothing.
 use mathlib.Core.Path.{_≡_, refl, sym, ap, ap₂, subst, _∙_}
-use mathlib.Core.Bool.{Bool, true, false, true≢false}
+use mathlib.Core.Bool.{Bool, true, false, _&&_, true≢false}
 use mathlib.Core.List.{List, [], _∷_, _++_}
 use Prim.Native.Nat.{ℕ, zero, suc, _+_, _-_, _*_, _/_, _%_, _≤_, _<_}
 use native.Mathlib.Nat.{add-zero, zero-add, sub-zero}
@@ -12,7 +12,7 @@ use lib.Dec.{eqb, lit<}
 use borrow.Author.Tests.{eqb-true}
 use Rattle.table.specs.declared.Need.{Need}
 use Rattle.table.specs.declared.Need.the-variants.{Ignored, Optional, Required}
-use Rattle.table.specs.Bytes.{pick, part, num, Edit, edit}
+use Rattle.table.specs.Bytes.{pick, part, num, every, Edit, edit}
 use Rattle.table.specs.Layout.{Shape, Layout, Refs, none, plain, nest, Slots, gone, rec, image, isValid, unused, used, baseOf, offsets}
 use Rattle.table.specs.FixedLayouts.{layoutOf, header, control, host, hfi, ssns, security, discovery, info, extended, noKind, whenSet}
 use Rattle.table.specs.Objects.{under, readSlots, readEntry, readList, sizeOf, sizeEntry, sizeList, sizeBody, spanBody, readBody, stores, heapOf, ref6}
@@ -32,7 +32,7 @@ use Rattle.reads.specs.Told.{innerKind, imageOf, toldEntry, toldList, countAt, 
 use Rattle.reads.proofs.ObjectLaws.{seat-room}
 use Rattle.reads.proofs.MeaningLaws.{place-is, told-all}
 use Rattle.table.specs.Reads.{seatOf}
-use Rattle.parts.specs.Parts.{Part, refsOf, OneObject, slotsIn, listOf, listFrom, objectPart, recordPart, partAt, recordBytes, bytesAt, spansOver, storesOver, objectsOver}
+use Rattle.parts.specs.Parts.{Part, refsOf, isPlain, allPlain, slotsIn, listOf, listFrom, objectPart, recordPart, partAt, recordBytes, bytesAt, spansOver, storesOver, objectsOver}
 
 -- ---- a heap record, or none
 
@@ -215,12 +215,6 @@ module _ (t : List ℕ) (ok : Accepted t) (a : ℕ) where
 
 -- ---- all references of a record
 
--- a table of one offset
-pub single : (ps : List ℕ) → length ps ≡ 1 → ps ≡ getD ps 0 0 ∷ []
-single [] e = absurd (omega arith)
-single (p ∷ []) e = refl
-single (p ∷ q ∷ ps) e = absurd (omega arith)
-
 module _ (t : List ℕ) (ok : Accepted t) (k a : ℕ) (s : Seated t (layoutOf k) a true) where
   pub sized-all : sizeOf (slotsIn (layoutOf k) t a) ≡ spansOver t k a (refsOf k)
   unfolding slotsIn
@@ -234,20 +228,28 @@ module _ (t : List ℕ) (ok : Accepted t) (k a : ℕ) (s : Seated t (layoutOf k)
   unfolding slotsIn
   heaped-all h = slots-heaped t ok k a s (layoutOf k .refs) (all-fit t ok a k s) h
 
-  -- the one object of a heap record
-  pub own-size : OneObject k → sizeOf (slotsIn (layoutOf k) t a) ≡ placeAt t (getD (refsOf k) 0 0) (seat (layoutOf k) a true) .len
-  unfolding spansOver
-  own-size o =
-      let p : ℕ = getD (refsOf k) 0 0 in
-      sized-all ∙ ap (spansOver t k a) (single (refsOf k) (o .one)) ∙ add-zero (partAt t k a p .span) ∙ ap (λ (q : Part). q .span) (plain-part t ok k a s p (o .object))
+-- ---- kinds whose references are all to objects
 
--- transport info and extended info are such
-pub one-object : (k : ℕ) → OneObject (innerKind k)
-unfolding layoutOf info extended
-one-object k = go (eqb k 3) where
-  go : (c : Bool) → OneObject (pick c 7 9)
-  go true = record { one = refl; object = refl }
-  go false = record { one = refl; object = refl }
+both-true : (a b : Bool) → (a && b) ≡ true → (a ≡ true) × (b ≡ true)
+both-true true b e = (refl, e)
+both-true false b e = absurd (true≢false (sym e))
+
+every-at : (g : ℕ → Bool) (ps : List ℕ) → every g ps ≡ true → (i : ℕ) → i < length ps → g (getD ps i 0) ≡ true
+every-at g [] e i h = absurd (omega arith)
+every-at g (p ∷ ps) e zero h = both-true (g p) (every g ps) e .0
+every-at g (p ∷ ps) e (suc i) h = every-at g ps (both-true (g p) (every g ps) e .1) i (omega arith)
+
+pub plain-each : (k : ℕ) → allPlain k ≡ true → (i : ℕ) → i < length (refsOf k) → hasPlain (getD (refsOf k) i 0) (layoutOf k .refs) ≡ true
+unfolding allPlain
+plain-each k e = every-at (isPlain k) (refsOf k) e
+
+-- heap records are such
+pub inner-plain : (k : ℕ) → allPlain (innerKind k) ≡ true
+unfolding allPlain layoutOf info extended
+inner-plain k = go (eqb k 3) where
+  go : (c : Bool) → allPlain (pick c 7 9) ≡ true
+  go true = refl
+  go false = refl
 
 -- a reference of the table of offsets
 pub offset-is : (ps full : List ℕ) (n i : ℕ) → take n ps ≡ full → n ≡ length full → i < n → getD ps i 0 ≡ getD full i 0
@@ -263,6 +265,16 @@ module _ (t : List ℕ) (k a : ℕ) where
   pub spans-done : (ps : List ℕ) → spansOver t k a (drop (length ps) ps) ≡ 0
   unfolding spansOver
   spans-done ps = ap (spansOver t k a) (drop-length ps)
+
+  -- a walk over the references has added up those before number i; it goes on with w, that of number i
+  abbrev pub Adding : ℕ → ℕ → Type 0
+  Adding sum i = sum + spansOver t k a (drop i (refsOf k)) ≡ spansOver t k a (refsOf k)
+
+  pub adding-more : (sum i w p : ℕ) → Adding sum i → i < length (refsOf k) → p ≡ getD (refsOf k) i 0 → w ≡ partAt t k a p .span → Adding (sum + w) (i + 1)
+  adding-more sum i w p e h o q =
+      let m = spans-more (refsOf k) i h in
+      let v : w ≡ partAt t k a (getD (refsOf k) i 0) .span = q ∙ ap (λ (x : ℕ). partAt t k a x .span) o in
+      omega (arith, e, m, v)
 
 -- ---- a list, position by position
 

@@ -1,11 +1,9 @@
 -- What the references of a record name, as it is to be laid in a heap: where it stands, its length, and the bytes it takes. Definitions only.
-use mathlib.Core.Path.{_≡_}
-use mathlib.Core.Bool.{true}
+use mathlib.Core.Bool.{Bool, true}
 use mathlib.Core.List.{List, [], _∷_, _++_}
 use Prim.Native.Nat.{ℕ, _+_, _-_}
-use lib.ListN.{length, getD}
 use Rattle.table.specs.declared.Place.{Place}
-use Rattle.table.specs.Bytes.{pick, part, Edit, edit}
+use Rattle.table.specs.Bytes.{pick, part, every, Edit, edit}
 use Rattle.table.specs.Layout.{Layout, Slots, Entry, baseOf, offsets}
 use Rattle.table.specs.FixedLayouts.{layoutOf}
 use Rattle.table.specs.Objects.{readSlots, sizeOf, patched, heapOf}
@@ -27,10 +25,12 @@ pub record Part : Type 0 where
 abbrev pub refsOf : ℕ → List ℕ
 refsOf k = offsets (layoutOf k .refs)
 
--- a kind that has one reference, to an object
-pub record OneObject (k : ℕ) : Type 0 where
-  pub one : length (refsOf k) ≡ 1
-  pub object : hasPlain (getD (refsOf k) 0 0) (layoutOf k .refs) ≡ true
+-- all references of kind k are to objects
+abbrev pub isPlain : ℕ → ℕ → Bool
+isPlain k p = hasPlain p (layoutOf k .refs)
+
+unfoldable pub allPlain : ℕ → Bool
+allPlain k = every (isPlain k) (refsOf k)
 
 -- the objects and heap records of the record of layout l at a
 unfoldable pub slotsIn : (l : Layout) → List ℕ → ℕ → Slots (l .refs)

@@ -19,7 +19,7 @@ ghost use Rattle.parts.specs.Parts.{listOf};
 // The heap bytes of the record of a kind and position; an unused one takes none.
 pub fn entry_size(t: &[u8], kind: u8, n: usize) -> usize
     requires { ⌜ Accepted (now t) ⌝ }
-    ensures { λ r. ⌜ (r ≡ sizeEntry (toldEntry (layoutOf kind) (now (t .entry)) kind n)) × (r ≤ 786432) ⌝ }
+    ensures { λ r. ⌜ (r ≡ sizeEntry (toldEntry (layoutOf kind) (now (t .entry)) kind n)) × (r ≤ 2400000) ⌝ }
 {
     let s = seat_of(t, kind, n);
     match s {
@@ -31,7 +31,7 @@ pub fn entry_size(t: &[u8], kind: u8, n: usize) -> usize
 // The same of the list of a kind.
 pub fn list_size(t: &[u8], kind: u8) -> usize
     requires { ⌜ Accepted (now t) ⌝ }
-    ensures { λ r. ⌜ (r ≡ sizeList (listOf (now (t .entry)) kind)) × (r ≤ 200540160) ⌝ }
+    ensures { λ r. ⌜ (r ≡ sizeList (listOf (now (t .entry)) kind)) × (r ≤ 612000000) ⌝ }
 {
     let n = count_of(t, kind);
     let mut sum: usize = 0;
@@ -57,7 +57,7 @@ pub fn records_size(t: &[u8]) -> usize
 // The heap bytes of all: driver signature, host, lists.
 pub fn heap_size(t: &[u8]) -> usize
     requires { ⌜ Accepted (now t) ⌝ }
-    ensures { λ r. ⌜ (r ≡ heapLen (meaning (now (t .entry)))) × (r ≤ 1000000000) ⌝ }
+    ensures { λ r. ⌜ (r ≡ heapLen (meaning (now (t .entry)))) × (r ≤ 2452800000) ⌝ }
 {
     let driver = entry_size(t, 0, 0);
     let owner = entry_size(t, 2, 0);

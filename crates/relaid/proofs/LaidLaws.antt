@@ -10,7 +10,7 @@ use lib.Seq.{drop-cons, drop-length, getD-drop}
 use Rattle.table.specs.Bytes.{splice, part, Edit, apply}
 use Rattle.table.specs.Layout.{baseOf}
 use Rattle.table.specs.FixedLayouts.{layoutOf}
-use Rattle.table.specs.Objects.{stores, patched, heapOf}
+use Rattle.table.specs.Objects.{sizeOf, stores, patched, heapOf}
 use Rattle.table.specs.Reads.{seat, hasPlain, placeAt}
 use Rattle.laws.specs.ByteLaws.{length-splice}
 use Rattle.laws.specs.Fields.{imageIn, length-imageIn}
@@ -23,10 +23,10 @@ use Rattle.reads.specs.declared.seats.Seat.the-variants.{At}
 use Rattle.reads.specs.Seats.{Seated}
 use Rattle.reads.proofs.ObjectLaws.{seat-room}
 use Rattle.images.proofs.Laws.{part-long}
-use Rattle.parts.specs.Parts.{refsOf, OneObject, slotsIn, partAt, recordPart, bytesAt, recordBytes, storesOver, objectsOver}
-use Rattle.parts.proofs.PartLaws.{stored-all, heaped-all, single, plain-bytes}
-use Rattle.parts.proofs.LengthLaws.{bytes-long, object-span, one-heaped}
-use Rattle.relaid.specs.Laid.{laid, applyAt}
+use Rattle.parts.specs.Parts.{refsOf, slotsIn, partAt, recordPart, bytesAt, recordBytes, spansOver, storesOver, objectsOver}
+use Rattle.parts.proofs.PartLaws.{sized-all, stored-all, heaped-all, plain-bytes, spans-more, spans-done}
+use Rattle.parts.proofs.LengthLaws.{patched-long, bytes-long, object-span}
+use Rattle.relaid.specs.Laid.{laid, applyAt, named}
 
 -- ---- stores into a record that is laid
 
@@ -76,21 +76,25 @@ module _ (t : List ℕ) (k a : ℕ) where
   refs-below i h =
       stores-below (drop i (refsOf k)) (baseOf (layoutOf k)) (λ j b. rw (getD-drop i (refsOf k) j 0) (refs-within k (i + j) (omega (arith, b, length-drop i (refsOf k))))) h
 
-module _ (t : List ℕ) (ok : Accepted t) (k a : ℕ) (s : Seated t (layoutOf k) a true) where
   -- what is left to lay from number i on: references in the record at d, and from h on what they name
-  abbrev pub toGo : List ℕ → ℕ → ℕ → ℕ → List ℕ
+  abbrev toGo : List ℕ → ℕ → ℕ → ℕ → List ℕ
   toGo x d h i = splice (applyAt x d (storesOver t k a h (drop i (refsOf k)))) h (objectsOver t k a h (drop i (refsOf k)))
 
+  -- a walk over the references that began with x₀, and has laid those before number i
+  abbrev pub Walk : List ℕ → ℕ → ℕ → List ℕ → ℕ → ℕ → Type 0
+  Walk x₀ d u x h i = (h + spansOver t k a (drop i (refsOf k)) ≡ u + spansOver t k a (refsOf k)) × (u ≤ h) × (length x ≡ length x₀) × (toGo x d h i ≡ toGo x₀ d u 0)
+
+module _ (t : List ℕ) (ok : Accepted t) (k a : ℕ) (s : Seated t (layoutOf k) a true) where
   go-more : (x : List ℕ) (d h i : ℕ) → i < length (refsOf k) → let p = getD (refsOf k) i 0 in let w = partAt t k a p .span in
-      toGo x d h i
+      toGo t k a x d h i
       ≡ splice (applyAt (splice x (d + p) (refNum h (partAt t k a p .len))) d (storesOver t k a (h + w) (drop (i + 1) (refsOf k)))) h (bytesAt t k a h p ++ objectsOver t k a (h + w) (drop (i + 1) (refsOf k)))
   unfolding applyAt storesOver objectsOver
   go-more x d h i l =
       ap (λ (qs : List ℕ). splice (applyAt x d (storesOver t k a h qs)) h (objectsOver t k a h qs)) (drop-cons (refsOf k) i 0 l ∙ ap (λ (j : ℕ). getD (refsOf k) i 0 ∷ drop j (refsOf k)) (sym (add-one i)))
 
   -- a turn: y is what the reference number i left of x
-  pub named-turn : (x y : List ℕ) (d h i u : ℕ) → i < length (refsOf k) → let p = getD (refsOf k) i 0 in let w = partAt t k a p .span in
-      d + baseOf (layoutOf k) ≤ h → h + w ≤ length x → u ≡ h + w → y ≡ laid x (d + p) (refNum h (partAt t k a p .len)) h (bytesAt t k a h p) → toGo y d u (i + 1) ≡ toGo x d h i
+  named-turn : (x y : List ℕ) (d h i u : ℕ) → i < length (refsOf k) → let p = getD (refsOf k) i 0 in let w = partAt t k a p .span in
+      d + baseOf (layoutOf k) ≤ h → h + w ≤ length x → u ≡ h + w → y ≡ laid x (d + p) (refNum h (partAt t k a p .len)) h (bytesAt t k a h p) → toGo t k a y d u (i + 1) ≡ toGo t k a x d h i
   named-turn x y d h i u l below room eu ey =
       let p : ℕ = getD (refsOf k) i 0 in
       let w : ℕ = partAt t k a p .span in
@@ -110,13 +114,39 @@ module _ (t : List ℕ) (ok : Accepted t) (k a : ℕ) (s : Seated t (layoutOf k)
       ∙ splice-join (applyAt x₁ d es) h (bytesAt t k a h p) os (omega (arith, l₁, l₂, lb))
       ∙ sym (go-more x d h i l)
 
-  pub go-done : (x : List ℕ) (d h : ℕ) → toGo x d h (length (refsOf k)) ≡ x
+  go-done : (x : List ℕ) (d h : ℕ) → toGo t k a x d h (length (refsOf k)) ≡ x
   unfolding applyAt storesOver objectsOver
   go-done x d h = ap (λ (qs : List ℕ). splice (applyAt x d (storesOver t k a h qs)) h (objectsOver t k a h qs)) (drop-length (refsOf k)) ∙ sym (splice-none x h)
 
   -- all of them
-  pub go-all : (x : List ℕ) (d h : ℕ) → toGo x d h 0 ≡ splice (applyAt x d (stores h (slotsIn (layoutOf k) t a))) h (heapOf h (slotsIn (layoutOf k) t a))
+  go-all : (x : List ℕ) (d h : ℕ) → toGo t k a x d h 0 ≡ named x d h (slotsIn (layoutOf k) t a)
   go-all x d h = ap₂ (λ (es : List Edit) (g : List ℕ). splice (applyAt x d es) h g) (sym (stored-all t ok k a s h)) (sym (heaped-all t ok k a s h))
+
+  -- the walk: room for the next reference's part, a turn, and its end
+  module _ (x₀ : List ℕ) (d u : ℕ) (low : d + baseOf (layoutOf k) ≤ u) (room : u + sizeOf (slotsIn (layoutOf k) t a) ≤ length x₀) (x : List ℕ) (h i : ℕ) (w : Walk t k a x₀ d u x h i) where
+    module _ (p : ℕ) (l : i < length (refsOf k)) (o : p ≡ getD (refsOf k) i 0) where
+      pub walk-room : (d + p + 6 ≤ h) × (h + partAt t k a p .span ≤ length x)
+      walk-room =
+          let m = spans-more t k a (refsOf k) i l in
+          let v = ap (λ (q : ℕ). partAt t k a q .span) o in
+          let z = sized-all t ok k a s in
+          (omega (arith, refs-within k i l, o, w .1), omega (arith, w .0, w .2, m, v, z))
+
+      pub walk-turn : (y : List ℕ) (v : ℕ) → v ≡ h + partAt t k a p .span → length y ≡ length x
+          → y ≡ laid x (d + p) (refNum h (partAt t k a p .len)) h (bytesAt t k a h p) → Walk t k a x₀ d u y v (i + 1)
+      walk-turn y v ev ly ey =
+          let m = spans-more t k a (refsOf k) i l in
+          let e : v ≡ h + partAt t k a (getD (refsOf k) i 0) .span = ev ∙ ap (λ (q : ℕ). h + partAt t k a q .span) o in
+          let f = ey ∙ ap (λ (q : ℕ). laid x (d + q) (refNum h (partAt t k a q .len)) h (bytesAt t k a h q)) o in
+          let r = walk-room .1 in
+          let g = ap (λ (q : ℕ). partAt t k a q .span) o in
+          (omega (arith, w .0, m, e), omega (arith, ev, w .1), ly ∙ w .2, named-turn x y d h i v l (omega (arith, w .1)) (omega (arith, r, g)) e f ∙ w .3)
+
+    pub walk-done : i ≡ length (refsOf k) → (h ≡ u + sizeOf (slotsIn (layoutOf k) t a)) × (x ≡ named x₀ d u (slotsIn (layoutOf k) t a))
+    walk-done e = (
+      omega (arith, rw e at (w .0), spans-done t k a (refsOf k), sized-all t ok k a s),
+      sym (ap (toGo t k a x d h) e ∙ go-done x d h) ∙ w .3 ∙ go-all x₀ d u,
+    )
 
   -- a record: its image first
   pub record-laid : (x : List ℕ) (d h : ℕ) → d + baseOf (layoutOf k) ≤ length x
@@ -131,48 +161,39 @@ module _ (t : List ℕ) (ok : Accepted t) (k a : ℕ) (s : Seated t (layoutOf k)
   -- ---- an object
 
   module _ (p : ℕ) (e : hasPlain p (layoutOf k .refs) ≡ true) where
-    abbrev named : List ℕ
-    named = part t (placeAt t p (seat (layoutOf k) a true) .at) (placeAt t p (seat (layoutOf k) a true) .len)
+    abbrev object : List ℕ
+    object = part t (placeAt t p (seat (layoutOf k) a true) .at) (placeAt t p (seat (layoutOf k) a true) .len)
 
-    pub object-laid : (xs : List ℕ) → xs ≡ named → (h : ℕ) → xs ≡ bytesAt t k a h p
+    pub object-laid : (xs : List ℕ) → xs ≡ object → (h : ℕ) → xs ≡ bytesAt t k a h p
     object-laid xs q h = q ∙ sym (plain-bytes t ok k a s h p e)
 
     module _ (len : ℕ) (q : len ≡ placeAt t p (seat (layoutOf k) a true) .len) where
-      long : len ≡ length named
+      long : len ≡ length object
       long = q ∙ sym (part-long t (placeAt t p (seat (layoutOf k) a true) .at) (placeAt t p (seat (layoutOf k) a true) .len) (seat-room t ok p k (seat (layoutOf k) a true) (refl, s)))
 
       pub object-size : len ≡ partAt t k a p .span
-      object-size = long ∙ ap length (object-laid named refl 0) ∙ bytes-long t ok k a s 0 p
+      object-size = long ∙ ap length (object-laid object refl 0) ∙ bytes-long t ok k a s 0 p
 
       pub object-len : len ≡ partAt t k a p .len
       object-len = object-size ∙ object-span t ok k a s p e
 
       pub object-none : len ≡ 0 → (h : ℕ) → bytesAt t k a h p ≡ []
-      object-none z h = sym (object-laid named refl h) ∙ ap (λ (n : ℕ). part t (placeAt t p (seat (layoutOf k) a true) .at) n) (sym q ∙ z)
+      object-none z h = sym (object-laid object refl h) ∙ ap (λ (n : ℕ). part t (placeAt t p (seat (layoutOf k) a true) .at) n) (sym q ∙ z)
 
-  -- ---- a heap record with its one object
+  -- ---- a heap record with its objects behind it
 
-  pub held-laid : OneObject k → (x y z : List ℕ) (r h : ℕ) → let p = getD (refsOf k) 0 0 in let b = baseOf (layoutOf k) in
-      h + b + partAt t k a p .span ≤ length x → y ≡ splice (splice x r (refNum h b)) h (imageIn (layoutOf k) t a) → r + 6 ≤ h
-      → z ≡ laid y (h + p) (refNum (h + b) (partAt t k a p .len)) (h + b) (bytesAt t k a (h + b) p)
+  pub held-laid : (x z : List ℕ) (r h : ℕ) → let b = baseOf (layoutOf k) in
+      r + 6 ≤ h → h + (b + sizeOf (slotsIn (layoutOf k) t a)) ≤ length x
+      → z ≡ named (splice (splice x r (refNum h b)) h (imageIn (layoutOf k) t a)) h (h + b) (slotsIn (layoutOf k) t a)
       → z ≡ laid x r (refNum h (recordPart t k (At a true) .len)) h (recordBytes t k h (At a true))
-  unfolding recordPart recordBytes patched storesOver
-  held-laid o x y z r h room ey low ez =
-      let p : ℕ = getD (refsOf k) 0 0 in
+  unfolding recordPart recordBytes
+  held-laid x z r h low room ez =
       let b : ℕ = baseOf (layoutOf k) in
       let x₁ : List ℕ = splice x r (refNum h b) in
-      let y₁ : List ℕ = imageIn (layoutOf k) t a in
-      let f : List ℕ = refNum (h + b) (partAt t k a p .len) in
+      let y : List ℕ = patched (h + b) (imageIn (layoutOf k) t a) (slotsIn (layoutOf k) t a) in
+      let g : List ℕ = heapOf (h + b) (slotsIn (layoutOf k) t a) in
       let lx : length x₁ ≡ length x = length-splice x r (refNum h b) (omega (arith, length-ref h b)) in
-      let ly : length y₁ ≡ b = length-imageIn (layoutOf k) t a in
-      let lf : length f ≡ 6 = length-ref (h + b) (partAt t k a p .len) in
-      let wi : p + 6 ≤ b = refs-within k 0 (omega (arith, o .one)) in
-      let lz : length (splice y₁ p f) ≡ b = length-splice y₁ p f (omega (arith, ly, lf, wi)) ∙ ly in
-      let g : List ℕ = bytesAt t k a (h + b) p in
-      let pa : splice y₁ p f ≡ apply y₁ (stores (h + b) (slotsIn (layoutOf k) t a)) =
-      sym (ap (apply y₁) (stored-all t ok k a s (h + b) ∙ ap (storesOver t k a (h + b)) (single (refsOf k) (o .one)))) in
-      ez ∙ ap (λ (v : List ℕ). laid v (h + p) f (h + b) g) ey
-      ∙ ap (λ (v : List ℕ). splice v (h + b) g) (splice-inside x₁ h y₁ p f (omega (arith, ly, lf, wi)) (omega (arith, lx, ly)))
-      ∙ ap (λ (n : ℕ). splice (splice x₁ h (splice y₁ p f)) (h + n) g) (sym lz)
-      ∙ splice-join x₁ h (splice y₁ p f) g (omega (arith, lx, lz))
-      ∙ ap₂ (λ (u v : List ℕ). splice x₁ h (u ++ v)) pa (sym (one-heaped t ok k a s (h + b) o))
+      let ly : length y ≡ b = patched-long t k a (h + b) in
+      ez ∙ ap (λ (v : List ℕ). splice v (h + b) g) (record-laid x₁ h (h + b) (omega (arith, lx)))
+      ∙ ap (λ (n : ℕ). splice (splice x₁ h y) (h + n) g) (sym ly)
+      ∙ splice-join x₁ h y g (omega (arith, lx, ly))

@@ -11,19 +11,19 @@ ghost use lib.ListN.{length, replicate};
 ghost use Rattle.table.specs.Bytes.{splice};
 ghost use Rattle.table.specs.Layout.{baseOf};
 ghost use Rattle.table.specs.FixedLayouts.{layoutOf};
-ghost use Rattle.table.specs.Objects.{sizeOf, stores, patched, heapOf, sizeEntry, recEntry, heapEntry};
+ghost use Rattle.table.specs.Objects.{sizeOf, patched, heapOf, sizeEntry, recEntry, heapEntry};
 ghost use Rattle.laws.specs.Fields.{imageIn};
 ghost use Rattle.reader.specs.Accepted.{Accepted};
 ghost use Rattle.reads.specs.Seats.{Seated};
 ghost use Rattle.reads.specs.Told.{toldEntry};
 ghost use Rattle.parts.specs.Parts.{slotsIn};
-ghost use Rattle.relaid.specs.Laid.{laid, applyAt};
+ghost use Rattle.relaid.specs.Laid.{laid, named};
 
 // The references of the record at `a` in the record laid at `d`, and what they name from `u` on; the first byte behind that.
 pub fn lay_named(out: &mut [u8], d: usize, u: usize, t: &[u8], kind: u8, a: usize) -> usize
     requires { ⌜ Accepted (now t) × Seated (now t) (layoutOf kind) a true ⌝ }
-    requires { ⌜ (d + baseOf (layoutOf kind) ≤ u) × (u + sizeOf (slotsIn (layoutOf kind) (now t) a) ≤ length (now out)) × (u + sizeOf (slotsIn (layoutOf kind) (now t) a) ≤ 65536) ⌝ }
-    ensures { λ r. ⌜ (r ≡ u + sizeOf (slotsIn (layoutOf kind) (now (t .entry)) a)) × (now (out .exit) ≡ splice (applyAt (now (out .entry)) d (stores u (slotsIn (layoutOf kind) (now (t .entry)) a))) u (heapOf u (slotsIn (layoutOf kind) (now (t .entry)) a))) ⌝ }
+    requires { ⌜ (d + baseOf (layoutOf kind) ≤ u) × (u + sizeOf (slotsIn (layoutOf kind) (now t) a) ≤ length (now out)) ⌝ }
+    ensures { λ r. ⌜ (r ≡ u + sizeOf (slotsIn (layoutOf kind) (now (t .entry)) a)) × (now (out .exit) ≡ named (now (out .entry)) d u (slotsIn (layoutOf kind) (now (t .entry)) a)) ⌝ }
 {
     let refs = kinds::reference_offsets(kind);
     let n = refs.count;
@@ -39,7 +39,7 @@ pub fn lay_named(out: &mut [u8], d: usize, u: usize, t: &[u8], kind: u8, a: usiz
 // A used record at `d`, and what it names from `u` on; the first byte behind that.
 fn lay_used(out: &mut [u8], d: usize, u: usize, t: &[u8], kind: u8, a: usize) -> usize
     requires { ⌜ Accepted (now t) × Seated (now t) (layoutOf kind) a true ⌝ }
-    requires { ⌜ (d + baseOf (layoutOf kind) ≤ u) × (u + sizeOf (slotsIn (layoutOf kind) (now t) a) ≤ length (now out)) × (u + sizeOf (slotsIn (layoutOf kind) (now t) a) ≤ 65536) ⌝ }
+    requires { ⌜ (d + baseOf (layoutOf kind) ≤ u) × (u + sizeOf (slotsIn (layoutOf kind) (now t) a) ≤ length (now out)) ⌝ }
     ensures { λ r. ⌜ (r ≡ u + sizeOf (slotsIn (layoutOf kind) (now (t .entry)) a)) × (now (out .exit) ≡ laid (now (out .entry)) d (patched u (imageIn (layoutOf kind) (now (t .entry)) a) (slotsIn (layoutOf kind) (now (t .entry)) a)) u (heapOf u (slotsIn (layoutOf kind) (now (t .entry)) a))) ⌝ }
 {
     put_record(out, d, t, kind, a);
@@ -58,7 +58,7 @@ fn lay_unused(out: &mut [u8], d: usize, u: usize, kind: u8) -> usize
 // The record of a kind and position at `d`, and what it names from `u` on.
 pub fn lay_entry(out: &mut [u8], d: usize, u: usize, t: &[u8], kind: u8, n: usize) -> usize
     requires { ⌜ Accepted (now t) ⌝ }
-    requires { ⌜ (d + baseOf (layoutOf kind) ≤ u) × (u + sizeEntry (toldEntry (layoutOf kind) (now t) kind n) ≤ length (now out)) × (u + sizeEntry (toldEntry (layoutOf kind) (now t) kind n) ≤ 65536) ⌝ }
+    requires { ⌜ (d + baseOf (layoutOf kind) ≤ u) × (u + sizeEntry (toldEntry (layoutOf kind) (now t) kind n) ≤ length (now out)) ⌝ }
     ensures { λ r. ⌜ (r ≡ u + sizeEntry (toldEntry (layoutOf kind) (now (t .entry)) kind n)) × (now (out .exit) ≡ laid (now (out .entry)) d (recEntry u (toldEntry (layoutOf kind) (now (t .entry)) kind n)) u (heapEntry u (toldEntry (layoutOf kind) (now (t .entry)) kind n))) ⌝ }
 {
     let s = seat_of(t, kind, n);

@@ -19,7 +19,7 @@ ghost use Rattle.relaid.specs.Laid.{laid};
 // The list of a kind.
 pub fn lay_list(out: &mut [u8], d: usize, u: usize, t: &[u8], kind: u8) -> usize
     requires { ⌜ Accepted (now t) ⌝ }
-    requires { ⌜ (d + countOf (now t) kind * baseOf (layoutOf kind) ≤ u) × (u + sizeList (listOf (now t) kind) ≤ length (now out)) × (u + sizeList (listOf (now t) kind) ≤ 65536) ⌝ }
+    requires { ⌜ (d + countOf (now t) kind * baseOf (layoutOf kind) ≤ u) × (u + sizeList (listOf (now t) kind) ≤ length (now out)) ⌝ }
     ensures { λ r. ⌜ (r ≡ u + sizeList (listOf (now (t .entry)) kind)) × (now (out .exit) ≡ laid (now (out .entry)) d (recsList u (listOf (now (t .entry)) kind)) u (heapList u (listOf (now (t .entry)) kind))) ⌝ }
 {
     let n = count_of(t, kind);
@@ -38,7 +38,7 @@ pub fn lay_list(out: &mut [u8], d: usize, u: usize, t: &[u8], kind: u8) -> usize
 // The four lists from byte 160 on, and what they name from `u` on.
 pub fn lay_lists(out: &mut [u8], u: usize, t: &[u8])
     requires { ⌜ Accepted (now t) ⌝ }
-    requires { ⌜ (160 + spanBody (meaning (now t) .lists) ≤ u) × (u + sizeBody (meaning (now t) .lists) ≤ length (now out)) × (u + sizeBody (meaning (now t) .lists) ≤ 65536) ⌝ }
+    requires { ⌜ (160 + spanBody (meaning (now t) .lists) ≤ u) × (u + sizeBody (meaning (now t) .lists) ≤ length (now out)) ⌝ }
     ensures { λ r. ⌜ now (out .exit) ≡ laid (now (out .entry)) 160 (recsBody u (meaning (now (t .entry)) .lists)) u (heapBody u (meaning (now (t .entry)) .lists)) ⌝ }
 {
     let ssns = 160 + count_of(t, 3) * Hfi::SIZE;

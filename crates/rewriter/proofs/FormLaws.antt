@@ -4,7 +4,7 @@ use mathlib.Core.Bool.{true}
 use mathlib.Core.List.{List, [], _∷_, _++_, append-assoc, append-nil}
 use Prim.Native.Nat.{ℕ, _+_, _-_, _≤_, _<_}
 use native.Mathlib.Omega.{arith}
-use lib.ListN.{length, getD, take, length-append}
+use lib.ListN.{length, take, length-append}
 use lib.Seq.{take-at, drop-at}
 use native.Mathlib.Nat.{add-zero}
 use Rattle.table.specs.Bytes.{splice, part}
@@ -28,9 +28,9 @@ use Rattle.reads.proofs.SeatLaws.{header-seated}
 use Rattle.reads.proofs.MeaningLaws.{told-all, oem-told}
 use Rattle.reads.specs.Told.{toldEntry, countAt, countOf, oemOf, told}
 use Rattle.seat_reads.specs.Driver.{driverOf}
-use Rattle.parts.specs.Parts.{refsOf, OneObject, slotsIn, partAt, bytesAt, storesOver}
-use Rattle.parts.proofs.PartLaws.{stored-all, length-told}
-use Rattle.parts.proofs.LengthLaws.{one-size, one-heaped, slots-long, record-bytes, heap-bytes}
+use Rattle.parts.specs.Parts.{refsOf, slotsIn, partAt, bytesAt, spansOver, storesOver, objectsOver}
+use Rattle.parts.proofs.PartLaws.{sized-all, stored-all, heaped-all, length-told}
+use Rattle.parts.proofs.LengthLaws.{slots-long, record-bytes, heap-bytes}
 use Rattle.relaid.specs.Laid.{laid, applyAt}
 use Rattle.relaid.proofs.LaidLaws.{object-size, object-laid}
 use Rattle.relaid_lists.proofs.RunLaws.{Piece, piece, recsOf, heapsOf, run-laid, link}
@@ -218,24 +218,31 @@ module _ (t : List ℕ) (b : Bytes t) (ok : Accepted t) where
         ∙ ap (λ (i : ℕ). splice (splice x 0 (recsOf all)) i (heapsOf all)) r0
         ∙ splice-join x 0 (recsOf all) (heapsOf all) (omega (arith, recs-all)) ∙ ap (splice x 0) all-is
 
+    -- the header names one object
+    one-span : spansOver t 0 0 (refsOf 0) ≡ partAt t 0 0 44 .span
+    unfolding layoutOf header spansOver
+    one-span = add-zero (partAt t 0 0 44 .span)
+
+    one-object : (h : ℕ) → objectsOver t 0 0 h (refsOf 0) ≡ bytesAt t 0 0 h 44
+    unfolding layoutOf header objectsOver
+    one-object h = append-nil (bytesAt t 0 0 h 44)
+
     -- the driver signature stands first in the heap, byte for byte
     pub signature-here : (d : ℕ) → d ≡ placeAt t 44 (seat (layoutOf 0) 0 true) .len → (n - k + d ≤ n) × (part (laidOut m n 0 k) (n - k) d ≡ driverOf t)
     signature-here d e =
-        let o : OneObject 0 = unfold layoutOf header in record { one = refl; object = refl } in
         let g : hasPlain 44 (layoutOf 0 .refs) ≡ true = unfold layoutOf header in refl in
-        let q : getD (refsOf 0) 0 0 ≡ 44 = unfold layoutOf header in refl in
         let sd = header-seated t ok in
         let st = starts in
         let hl = heap-length in
         let fl = form-length in
         let e0 : n - k ≡ h₀ = omega arith in
-        let sz : sizeOf drv ≡ d = one-size t ok 0 0 sd o ∙ ap (λ (p : ℕ). partAt t 0 0 p .span) q ∙ sym (object-size t ok 0 0 sd 44 g d e) in
+        let sz : sizeOf drv ≡ d = sized-all t ok 0 0 sd ∙ one-span ∙ sym (object-size t ok 0 0 sd 44 g d e) in
         let rest : List ℕ = heapEntry h₁ own ++ (heapBody h₂ (m .lists) ++ []) in (
           omega (arith, e0, sz),
           ap₂ (λ (x : List ℕ) (i : ℕ). part x i d) (sym all-is) e0
               ∙ ap (take d) (drop-at (recsOf all) (heapsOf all) h₀ recs-all)
               ∙ take-at (heapOf h₀ drv) rest d (slots-long t ok 0 0 sd h₀ ∙ sz)
-              ∙ one-heaped t ok 0 0 sd h₀ o
-              ∙ ap (bytesAt t 0 0 h₀) q
+              ∙ heaped-all t ok 0 0 sd h₀
+              ∙ one-object h₀
               ∙ sym (object-laid t ok 0 0 sd 44 g (driverOf t) refl h₀),
         )

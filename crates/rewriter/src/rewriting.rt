@@ -37,8 +37,7 @@ fn lay_front(out: &mut [u8], t: &[u8], n: usize, h: usize, k: usize, d: usize)
 
 // The one form but for its checksum, which is 0. The header is written once it is known how long the driver signature is, over the reference to it.
 fn lay_form(out: &mut [u8], t: &[u8], n: usize, k: usize)
-    requires { ⌜ Accepted (now t) × (n ≡ formLength (meaning (now t))) × (k ≡ heapLen (meaning (now t))) ⌝ }
-    requires { ⌜ (n ≤ length (now out)) × (n ≤ 65536) ⌝ }
+    requires { ⌜ Accepted (now t) × (n ≡ formLength (meaning (now t))) × (k ≡ heapLen (meaning (now t))) × (n ≤ length (now out)) ⌝ }
     ensures { λ r. ⌜ now (out .exit) ≡ splice (now (out .entry)) 0 (laidOut (meaning (now (t .entry))) n 0 k) ⌝ }
 {
     let h = n - k;

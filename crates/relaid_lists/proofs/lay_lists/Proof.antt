@@ -41,19 +41,19 @@ add-discovery c = search needs
 
 lay-list-requires : tie.Need-lay-list-requires
 unfolding layoutOf hfi
-lay-list-requires c κs = let s = c .before .before .before .before .before .before in let a = s .args in let t = a .t .now in let ok = s .pre .0 in let sp = span-parts t (λ i. omega (arith, c .before .before .before .before .shared-slice-known .given i)) ok in let sb = size-body t (λ i. omega (arith, c .before .before .before .before .shared-slice-known .given i)) ok (a .u) in let w = c .before .before .before .count-of .ensures .0 in let v = c .before .before .count-of2 .ensures .0 in let x = c .before .count-of3 .ensures .0 in (ok, (omega (arith, sp, s .pre .1), omega (arith, sb, s .pre .1), omega (arith, sb, s .pre .1)))
+lay-list-requires c κs = let s = c .before .before .before .before .before .before in let a = s .args in let t = a .t .now in let ok = s .pre .0 in let sp = span-parts t (λ i. omega (arith, c .before .before .before .before .shared-slice-known .given i)) ok in let sb = size-body t (λ i. omega (arith, c .before .before .before .before .shared-slice-known .given i)) ok (a .u) in let w = c .before .before .before .count-of .ensures .0 in let v = c .before .before .count-of2 .ensures .0 in let x = c .before .count-of3 .ensures .0 in (ok, (omega (arith, sp, s .pre .1), omega (arith, sb, s .pre .1)))
 
 lay-list-requires-2 : tie.Need-lay-list-requires-2
 unfolding layoutOf ssns
-lay-list-requires-2 c κs = let s = c .before .before .before .before .before .before .before .before .before .before in let a = s .args in let t = a .t .now in let ok = s .pre .0 in let sp = span-parts t (λ i. omega (arith, c .before .before .before .before .before .before .before .before .shared-slice-known .given i)) ok in let sb = size-body t (λ i. omega (arith, c .before .before .before .before .before .before .before .before .shared-slice-known .given i)) ok (a .u) in let w = c .before .before .before .before .before .before .before .count-of .ensures .0 in let v = c .before .before .before .before .before .before .count-of2 .ensures .0 in let x = c .before .before .before .before .before .count-of3 .ensures .0 in let p = c .before .before .before .lay-list in (ok, (omega (arith, sp, s .pre .1, w, p .ensures .0), omega (arith, sb, s .pre .1, p .ensures .0, p .kept .0), omega (arith, sb, s .pre .1, p .ensures .0)))
+lay-list-requires-2 c κs = let s = c .before .before .before .before .before .before .before .before .before .before in let a = s .args in let t = a .t .now in let ok = s .pre .0 in let sp = span-parts t (λ i. omega (arith, c .before .before .before .before .before .before .before .before .shared-slice-known .given i)) ok in let sb = size-body t (λ i. omega (arith, c .before .before .before .before .before .before .before .before .shared-slice-known .given i)) ok (a .u) in let w = c .before .before .before .before .before .before .before .count-of .ensures .0 in let v = c .before .before .before .before .before .before .count-of2 .ensures .0 in let x = c .before .before .before .before .before .count-of3 .ensures .0 in let p = c .before .before .before .lay-list in (ok, (omega (arith, sp, s .pre .1, w, p .ensures .0), omega (arith, sb, s .pre .1, p .ensures .0, p .kept .0)))
 
 lay-list-requires-3 : tie.Need-lay-list-requires-3
 unfolding layoutOf security
-lay-list-requires-3 c κs = let s = c .before .before .before .before .before .before .before .before .before .before .before .before .before .before in let a = s .args in let t = a .t .now in let ok = s .pre .0 in let sp = span-parts t (λ i. omega (arith, c .before .before .before .before .before .before .before .before .before .before .before .before .shared-slice-known .given i)) ok in let sb = size-body t (λ i. omega (arith, c .before .before .before .before .before .before .before .before .before .before .before .before .shared-slice-known .given i)) ok (a .u) in let w = c .before .before .before .before .before .before .before .before .before .before .before .count-of .ensures .0 in let v = c .before .before .before .before .before .before .before .before .before .before .count-of2 .ensures .0 in let x = c .before .before .before .before .before .before .before .before .before .count-of3 .ensures .0 in let p = c .before .before .before .before .before .before .before .lay-list in let q = c .before .before .before .lay-list2 in (ok, (omega (arith, sp, s .pre .1, w, v, p .ensures .0, q .ensures .0), omega (arith, sb, s .pre .1, p .ensures .0, p .kept .0, q .ensures .0, q .kept .0), omega (arith, sb, s .pre .1, p .ensures .0, q .ensures .0)))
+lay-list-requires-3 c κs = let s = c .before .before .before .before .before .before .before .before .before .before .before .before .before .before in let a = s .args in let t = a .t .now in let ok = s .pre .0 in let sp = span-parts t (λ i. omega (arith, c .before .before .before .before .before .before .before .before .before .before .before .before .shared-slice-known .given i)) ok in let sb = size-body t (λ i. omega (arith, c .before .before .before .before .before .before .before .before .before .before .before .before .shared-slice-known .given i)) ok (a .u) in let w = c .before .before .before .before .before .before .before .before .before .before .before .count-of .ensures .0 in let v = c .before .before .before .before .before .before .before .before .before .before .count-of2 .ensures .0 in let x = c .before .before .before .before .before .before .before .before .before .count-of3 .ensures .0 in let p = c .before .before .before .before .before .before .before .lay-list in let q = c .before .before .before .lay-list2 in (ok, (omega (arith, sp, s .pre .1, w, v, p .ensures .0, q .ensures .0), omega (arith, sb, s .pre .1, p .ensures .0, p .kept .0, q .ensures .0, q .kept .0)))
 
 lay-list-requires-4 : tie.Need-lay-list-requires-4
 unfolding layoutOf discovery
-lay-list-requires-4 c κs = let s = c .before .before .before .before .before .before .before .before .before .before .before .before .before .before .before .before .before .before in let a = s .args in let t = a .t .now in let ok = s .pre .0 in let sp = span-parts t (λ i. omega (arith, c .before .before .before .before .before .before .before .before .before .before .before .before .before .before .before .before .shared-slice-known .given i)) ok in let sb = size-body t (λ i. omega (arith, c .before .before .before .before .before .before .before .before .before .before .before .before .before .before .before .before .shared-slice-known .given i)) ok (a .u) in let w = c .before .before .before .before .before .before .before .before .before .before .before .before .before .before .before .count-of .ensures .0 in let v = c .before .before .before .before .before .before .before .before .before .before .before .before .before .before .count-of2 .ensures .0 in let x = c .before .before .before .before .before .before .before .before .before .before .before .before .before .count-of3 .ensures .0 in let p = c .before .before .before .before .before .before .before .before .before .before .before .lay-list in let q = c .before .before .before .before .before .before .before .lay-list2 in let r = c .before .before .before .lay-list3 in (ok, (omega (arith, sp, s .pre .1, w, v, x, p .ensures .0, q .ensures .0, r .ensures .0), omega (arith, sb, s .pre .1, p .ensures .0, p .kept .0, q .ensures .0, q .kept .0, r .ensures .0, r .kept .0), omega (arith, sb, s .pre .1, p .ensures .0, q .ensures .0, r .ensures .0)))
+lay-list-requires-4 c κs = let s = c .before .before .before .before .before .before .before .before .before .before .before .before .before .before .before .before .before .before in let a = s .args in let t = a .t .now in let ok = s .pre .0 in let sp = span-parts t (λ i. omega (arith, c .before .before .before .before .before .before .before .before .before .before .before .before .before .before .before .before .shared-slice-known .given i)) ok in let sb = size-body t (λ i. omega (arith, c .before .before .before .before .before .before .before .before .before .before .before .before .before .before .before .before .shared-slice-known .given i)) ok (a .u) in let w = c .before .before .before .before .before .before .before .before .before .before .before .before .before .before .before .count-of .ensures .0 in let v = c .before .before .before .before .before .before .before .before .before .before .before .before .before .before .count-of2 .ensures .0 in let x = c .before .before .before .before .before .before .before .before .before .before .before .before .before .count-of3 .ensures .0 in let p = c .before .before .before .before .before .before .before .before .before .before .before .lay-list in let q = c .before .before .before .before .before .before .before .lay-list2 in let r = c .before .before .before .lay-list3 in (ok, (omega (arith, sp, s .pre .1, w, v, x, p .ensures .0, q .ensures .0, r .ensures .0), omega (arith, sb, s .pre .1, p .ensures .0, p .kept .0, q .ensures .0, q .kept .0, r .ensures .0, r .kept .0)))
 
 same-length : tie.Need-same-length
 same-length c = search needs

@@ -1,6 +1,6 @@
-use Rattle.parts.proofs.PartLaws.{offset-is, spans-more, spans-done, sized-all}
-use Rattle.parts.specs.Parts.{refsOf, partAt, spansOver}
-use lib.ListN.{length, drop}
+use Rattle.parts.proofs.PartLaws.{offset-is, Adding, adding-more, spans-done, sized-all}
+use Rattle.parts.specs.Parts.{refsOf}
+use lib.ListN.{length}
 use native.Mathlib.Omega.{arith}
 use native.Mathlib.Nat.{zero-add}
 use Prim.Native.Nat.{ℕ, _+_, _-_, _*_, _≤_}
@@ -10,7 +10,7 @@ use Rattle.parts.proofs.references.named_size.Statement.{statement}
 use Rattle.parts.proofs.references.named_size.Tie as tie
 
 abbrev Inv-loop : tie.InvT-loop
-Inv-loop t kind a refs n total₀ i₀ total i = (i ≤ n) × (total + spansOver t kind a (drop i (refsOf kind)) ≡ spansOver t kind a (refsOf kind)) × (total ≤ 131072 * i)
+Inv-loop t kind a refs n total₀ i₀ total i = (i ≤ n) × (Adding t kind a total i) × (total ≤ 400000 * i)
 
 abbrev μ-loop : tie.MeasureT-loop
 μ-loop t kind a refs n total₀ i₀ total i = n - i
@@ -41,9 +41,8 @@ loop-less c = omega (arith, c .before .before .loop-test .taken)
 
 loop-again : tie.Need-loop-again Inv-loop μ-loop
 loop-again c = let a = c .before .before .before .before .before .before .args in let r = c .before .before .before .before .reference-offsets in let l = c .before .before .before .loop in let q = c .span-at in let h = c .before .before .loop-test .taken in
-    let e = q .ensures .0 ∙ ap (λ (p : ℕ). partAt (a .t .now) (a .kind) (a .a) p .span) (offset-is (r .result .at) (refsOf (a .kind)) (r .result .count) (l .i) (r .ensures .0) (r .ensures .1) h) in
-    let m = spans-more (a .t .now) (a .kind) (a .a) (refsOf (a .kind)) (l .i) (omega (arith, h, r .ensures .1)) in
-    (omega (arith, h), omega (arith, l .inv .1, m, e), omega (arith, l .inv .2, q .ensures .1))
+    let o = offset-is (r .result .at) (refsOf (a .kind)) (r .result .count) (l .i) (r .ensures .0) (r .ensures .1) h in
+    (omega (arith, h), adding-more (a .t .now) (a .kind) (a .a) (l .total) (l .i) (q .result) _ (l .inv .1) (omega (arith, h, r .ensures .1)) o (q .ensures .0), omega (arith, l .inv .2, q .ensures .1))
 
 returns : tie.Need-returns Inv-loop μ-loop
 returns c = let s = c .before .before .before .before in let a = s .args in let r = c .before .before .reference-offsets in let l = c .before .loop in

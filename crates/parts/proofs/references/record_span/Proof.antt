@@ -1,4 +1,6 @@
 use Rattle.parts.specs.Parts.{recordPart}
+use Rattle.laws.specs.ListWalk.{base-small}
+use native.Mathlib.Omega.{arith}
 use mathlib.Core.Path.{refl}
 use lib.Dec.{lit≤}
 use borrow.Author.Needs.{needs}
@@ -11,8 +13,14 @@ enum-told c = search needs
 enum-known-s : tie.Need-enum-known-s
 enum-known-s c = search needs
 
-held-span-requires : tie.Need-held-span-requires
-held-span-requires c κs = let s = c .before .before .before .before .pre in (s .0, rw (c .before .s .given .1) at (s .1), s .2)
+base-size-requires : tie.Need-base-size-requires
+base-size-requires c κs = search needs
+
+objects-size-requires : tie.Need-objects-size-requires
+objects-size-requires c κs = let s = c .before .before .before .before .before .pre in (s .0, rw (c .before .before .s .given .1) at (s .1), s .2)
+
+add-result : tie.Need-add-result
+add-result c = omega (arith, c .before .base-size .ensures, base-small (c .before .before .before .before .before .before .args .kind), c .objects-size .ensures .1)
 
 returns : tie.Need-returns
 unfolding recordPart
@@ -20,7 +28,8 @@ returns c = rw (c .enum-told .given .1) (refl, lit≤ tt)
 
 returns-2 : tie.Need-returns-2
 unfolding recordPart
-returns-2 c = rw (c .before .before .s .given .1) (c .held-span .ensures)
+returns-2 c = let k = c .before .before .before .before .before .before .args .kind in let b = c .before .base-size .ensures in let o = c .objects-size .ensures in rw (c .before .before .before .s .given .1) (omega (arith, b, o .0), omega (arith, b, base-small k, o .1))
 
 pub record-span-spec : {M : Type 1} → statement M
-record-span-spec = tie.close (tie.spec enum-told enum-known-s held-span-requires returns returns-2)
+record-span-spec =
+    tie.close (tie.spec enum-told enum-known-s base-size-requires objects-size-requires add-result returns returns-2)

@@ -4,7 +4,7 @@ use Prim.Native.Nat.{ℕ}
 use Rattle.reads.specs.declared.seats.Seat.{Seat}
 use Rattle.reads.proofs.SeatLaws.{record-held}
 use Rattle.parts.specs.Parts.{Part, recordPart}
-use Rattle.parts.proofs.PartLaws.{plain-part, nest-part, one-object}
+use Rattle.parts.proofs.PartLaws.{plain-part, nest-part, inner-plain}
 use borrow.Author.Needs.{needs}
 use Rattle.parts.proofs.references.span_at.Statement.{statement}
 use Rattle.parts.proofs.references.span_at.Tie as tie
@@ -25,7 +25,7 @@ heap-record-requires : tie.Need-heap-record-requires
 heap-record-requires c κs = search needs
 
 record-span-requires : tie.Need-record-span-requires
-record-span-requires c κs = let s = c .before .before .before .before .before in let a = s .args in rw (c .before .inner-kind .ensures, c .heap-record .ensures) (s .pre .0, record-held (a .t .now) (s .pre .0) (a .a) (a .kind) (refl, s .pre .1), one-object (a .kind))
+record-span-requires c κs = let s = c .before .before .before .before .before in let a = s .args in rw (c .before .inner-kind .ensures, c .heap-record .ensures) (s .pre .0, record-held (a .t .now) (s .pre .0) (a .a) (a .kind) (refl, s .pre .1), inner-plain (a .kind))
 
 returns-2 : tie.Need-returns-2
 returns-2 c = let s = c .before .before .before .before .before .before in let a = s .args in let o = c .record-span .ensures in

@@ -14,7 +14,7 @@ use Rattle.parts.proofs.sizes.entry_size.Reads as entry-size-reads
 use Rattle.seat_reads.proofs.counts.count_of.Reads as count-of-reads
 
 abbrev Inv-loop : tie.InvT-loop
-Inv-loop t kind n sum₀ i₀ sum i = (i ≤ n) × (sum + sizeList (listFrom t kind n i) ≡ sizeList (listOf t kind)) × (sum ≤ 786432 * i)
+Inv-loop t kind n sum₀ i₀ sum i = (i ≤ n) × (sum + sizeList (listFrom t kind n i) ≡ sizeList (listOf t kind)) × (sum ≤ 2400000 * i)
 
 abbrev μ-loop : tie.MeasureT-loop
 μ-loop t kind n sum₀ i₀ sum i = n - i

@@ -24,6 +24,9 @@ use Rattle.writer.proofs.stores.copy_into.Reads as copy-into-reads
 object-len-requires : tie.Need-object-len-requires
 object-len-requires c κs = search needs
 
+add-put-slot : tie.Need-add-put-slot
+add-put-slot c = search needs
+
 put-slot-requires : tie.Need-put-slot-requires
 put-slot-requires c κs = search needs
 
@@ -32,7 +35,7 @@ same-length c = search needs
 
 returns : tie.Need-returns
 returns c = let s = c .before .before .before .before .before .before .before .before in let a = s .args in let t = a .t .now in let k = a .kind in let ok = s .pre .0 .0 in let d = s .pre .0 .1 in let w = s .pre .0 .2 in let o = c .before .before .before .before .before .object-len in let r = refNum (a .h) (partAt t k (a .a) (a .p) .len) in
-    (omega (arith, object-size t ok k (a .a) d (a .p) w (o .result) (o .ensures .0), c .if1 .taken), c .before .before .before .put-slot .ensures ∙ ap (λ (m : ℕ). splice (a .out .now) (a .r) (refNum (a .h) m)) (object-len t ok k (a .a) d (a .p) w (o .result) (o .ensures .0)) ∙ splice-none (splice (a .out .now) (a .r) r) (a .h) ∙ ap (λ (g : List ℕ). laid (a .out .now) (a .r) r (a .h) g) (sym (object-none t ok k (a .a) d (a .p) w (o .result) (o .ensures .0) (c .if1 .taken) (a .h))))
+    (omega (arith, object-size t ok k (a .a) d (a .p) w (o .result) (o .ensures .0), c .if1 .taken), c .before .before .before .put-slot .ensures ∙ ap (λ (m : ℕ). splice (a .out .now) (a .d + a .p) (refNum (a .h) m)) (object-len t ok k (a .a) d (a .p) w (o .result) (o .ensures .0)) ∙ splice-none (splice (a .out .now) (a .d + a .p) r) (a .h) ∙ ap (λ (g : List ℕ). laid (a .out .now) (a .d + a .p) r (a .h) g) (sym (object-none t ok k (a .a) d (a .p) w (o .result) (o .ensures .0) (c .if1 .taken) (a .h))))
 
 object-bytes-requires : tie.Need-object-bytes-requires
 object-bytes-requires c κs = let s = c .before .before .before .before .before .before .before .before .before in let a = s .args in let t = a .t .now in let k = a .kind in let ok = s .pre .0 .0 in let d = s .pre .0 .1 in let w = s .pre .0 .2 in let o = c .before .before .before .before .before .before .object-len in ((ok, d, w), (o .ensures .0, omega (arith, c .before .if1 .left)))
@@ -47,13 +50,14 @@ same-length-2 : tie.Need-same-length-2
 same-length-2 c = search needs
 
 returns-2 : tie.Need-returns-2
-returns-2 c = let s = c .before .before .before .before .before .before .before .before .before .before .before .before .before in let a = s .args in let t = a .t .now in let k = a .kind in let ok = s .pre .0 .0 in let d = s .pre .0 .1 in let w = s .pre .0 .2 in let o = c .before .before .before .before .before .before .before .before .before .before .object-len in let x = c .before .before .before .object-bytes in (ap (λ (m : ℕ). a .h + m) (object-size t ok k (a .a) d (a .p) w (o .result) (o .ensures .0)), c .before .before .copy-into .ensures ∙ ap₂ (λ (y g : List ℕ). splice y (a .h) g) (c .before .before .before .before .before .before .before .before .put-slot .ensures ∙ ap (λ (m : ℕ). splice (a .out .now) (a .r) (refNum (a .h) m)) (object-len t ok k (a .a) d (a .p) w (o .result) (o .ensures .0))) (object-laid t ok k (a .a) d (a .p) w (x .result .now) (x .ensures) (a .h)))
+returns-2 c = let s = c .before .before .before .before .before .before .before .before .before .before .before .before .before in let a = s .args in let t = a .t .now in let k = a .kind in let ok = s .pre .0 .0 in let d = s .pre .0 .1 in let w = s .pre .0 .2 in let o = c .before .before .before .before .before .before .before .before .before .before .object-len in let x = c .before .before .before .object-bytes in (ap (λ (m : ℕ). a .h + m) (object-size t ok k (a .a) d (a .p) w (o .result) (o .ensures .0)), c .before .before .copy-into .ensures ∙ ap₂ (λ (y g : List ℕ). splice y (a .h) g) (c .before .before .before .before .before .before .before .before .put-slot .ensures ∙ ap (λ (m : ℕ). splice (a .out .now) (a .d + a .p) (refNum (a .h) m)) (object-len t ok k (a .a) d (a .p) w (o .result) (o .ensures .0))) (object-laid t ok k (a .a) d (a .p) w (x .result .now) (x .ensures) (a .h)))
 
 pub lay-object-spec : {M : Type 1} → statement M
 lay-object-spec =
     tie.close
     (tie.spec
     object-len-requires
+    add-put-slot
     put-slot-requires
     same-length
     returns

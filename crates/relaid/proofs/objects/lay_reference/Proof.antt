@@ -1,4 +1,4 @@
-use Rattle.parts.proofs.PartLaws.{nest-part, nest-bytes, one-object}
+use Rattle.parts.proofs.PartLaws.{nest-part, nest-bytes, inner-plain}
 use Rattle.reads.proofs.SeatLaws.{record-held}
 use Rattle.reads.specs.declared.seats.Seat.{Seat}
 use mathlib.Core.Path.{refl, sym, ap, ap₂, _∙_}
@@ -14,9 +14,6 @@ use Rattle.relaid.proofs.objects.lay_reference.Tie as tie
 
 has-object-requires : tie.Need-has-object-requires
 has-object-requires c κs = search needs
-
-add-lay-object : tie.Need-add-lay-object
-add-lay-object c = search needs
 
 lay-object-requires : tie.Need-lay-object-requires
 lay-object-requires c κs = let s = c .before .before .before .before .before in ((s .pre .0 .0, s .pre .0 .1, sym (c .before .before .has-object .ensures) ∙ c .before .if1 .taken), s .pre .1)
@@ -40,7 +37,7 @@ lay-record-requires : tie.Need-lay-record-requires
 lay-record-requires c κs = let s = c .before .before .before .before .before .before .before in let a = s .args in let t = a .t .now in let k = a .kind in let ok = s .pre .0 .0 in let d = s .pre .0 .1 in
     let w = ap (λ (q : Part). q .span) (nest-part t ok k (a .a) d (a .p) (sym (c .before .before .before .before .has-object .ensures) ∙ c .before .before .before .if1 .left)) in
     rw (c .before .inner-kind .ensures, c .heap-record .ensures)
-    ((ok, record-held t ok (a .a) k (refl, d), one-object k), (s .pre .1 .0, omega (arith, w, s .pre .1 .1), omega (arith, w, s .pre .1 .2)))
+    ((ok, record-held t ok (a .a) k (refl, d), inner-plain k), (s .pre .1 .0, omega (arith, w, s .pre .1 .1)))
 
 same-length-2 : tie.Need-same-length-2
 same-length-2 c = search needs
@@ -59,7 +56,6 @@ lay-reference-spec =
     tie.close
     (tie.spec
     has-object-requires
-    add-lay-object
     lay-object-requires
     same-length
     returns

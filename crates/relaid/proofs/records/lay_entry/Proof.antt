@@ -36,7 +36,7 @@ enum-known-s c = search needs
 
 lay-used-requires : tie.Need-lay-used-requires
 unfolding sizeEntry slotsIn
-lay-used-requires c κs = let s = c .before .before .before .before .before .before .before .before in let a = s .args in let t = a .t .now in let k = a .kind in let e = (sym (c .before .before .before .before .before .seat-of .ensures) ∙ ap (asSeat (layoutOf (s .args .kind))) (c .before .before .before .s .given .1) ∙ ap (seat (layoutOf (s .args .kind)) (c .before .before .before .s .given .0 .0)) (c .before .if1 .taken)) in let z = ap sizeEntry (entry-on t k (a .n) (c .before .before .before .s .given .0 .0) e) in ((s .pre .0, seated-at t (s .pre .0) k (a .n) (c .before .before .before .s .given .0 .0) true e), (s .pre .1 .0, omega (arith, z, s .pre .1), omega (arith, z, s .pre .1)))
+lay-used-requires c κs = let s = c .before .before .before .before .before .before .before .before in let a = s .args in let t = a .t .now in let k = a .kind in let e = (sym (c .before .before .before .before .before .seat-of .ensures) ∙ ap (asSeat (layoutOf (s .args .kind))) (c .before .before .before .s .given .1) ∙ ap (seat (layoutOf (s .args .kind)) (c .before .before .before .s .given .0 .0)) (c .before .if1 .taken)) in let z = ap sizeEntry (entry-on t k (a .n) (c .before .before .before .s .given .0 .0) e) in ((s .pre .0, seated-at t (s .pre .0) k (a .n) (c .before .before .before .s .given .0 .0) true e), (s .pre .1 .0, omega (arith, z, s .pre .1)))
 
 lay-unused-requires-2 : tie.Need-lay-unused-requires-2
 lay-unused-requires-2 c κs = search needs

@@ -58,7 +58,7 @@ returns-2 c = let s = c .before .before .before .before .before .before .before 
     (answer-is (c .refused2 .result) (c .before .before .before .room-fault .result) 0 (r .0) (r .1) ∙ e .0, e .1)
 
 lay-form-requires : tie.Need-lay-form-requires
-lay-form-requires c κs = let s = c .before .before .before .before .before .before .before .before .before .before .before in let a = s .args in let t = a .t .now in let z = c .before .before .before .before .before .before .if1 .left in let ok = accepted t (sym (ap (λ (x : Answer). x .number) (c .before .before .before .before .before .before .before .before .check .ensures)) ∙ z) in let k = c .before .before .before .before .before .heap-size .ensures .0 in let en = length-is t (c .before .before .before .before .records-size .result) (c .before .before .before .before .before .heap-size .result) (c .before .before .before .before .records-size .ensures .0) k in let p = room-passed _ _ (sym (ap (λ (x : Answer). x .number) (c .before .before .before .room-fault .ensures)) ∙ c .before .if2 .left) in ((ok, en, k), (p .1, p .0))
+lay-form-requires c κs = let s = c .before .before .before .before .before .before .before .before .before .before .before in let a = s .args in let t = a .t .now in let z = c .before .before .before .before .before .before .if1 .left in let ok = accepted t (sym (ap (λ (x : Answer). x .number) (c .before .before .before .before .before .before .before .before .check .ensures)) ∙ z) in let k = c .before .before .before .before .before .heap-size .ensures .0 in let en = length-is t (c .before .before .before .before .records-size .result) (c .before .before .before .before .before .heap-size .result) (c .before .before .before .before .records-size .ensures .0) k in let p = room-passed _ _ (sym (ap (λ (x : Answer). x .number) (c .before .before .before .room-fault .ensures)) ∙ c .before .if2 .left) in (ok, en, k, p .1)
 
 object-len-requires : tie.Need-object-len-requires
 unfolding layoutOf header
