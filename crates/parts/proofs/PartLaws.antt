@@ -3,24 +3,22 @@ use mathlib.Core.Path.{_≡_, refl, sym, ap, ap₂, subst, _∙_}
 use mathlib.Core.Bool.{Bool, true, false, _&&_, true≢false}
 use mathlib.Core.List.{List, [], _∷_, _++_}
 use Prim.Native.Nat.{ℕ, zero, suc, _+_, _-_, _*_, _/_, _%_, _≤_, _<_}
-use native.Mathlib.Nat.{add-zero, zero-add, sub-zero}
+use native.Mathlib.Nat.{add-zero, zero-add, sub-zero, le-trans, mul-le-mul-left, mul-le-mul-right}
 use native.Mathlib.Numerals.{add-one}
 use native.Mathlib.Omega.{arith}
 use lib.ListN.{length, getD, take, drop}
 use lib.Seq.{getD-take, drop-cons, drop-length}
 use lib.Dec.{eqb, lit<}
-use borrow.Author.Tests.{eqb-true}
 use Rattle.table.specs.declared.Need.{Need}
-use Rattle.table.specs.declared.Need.the-variants.{Ignored, Optional, Required}
+use Rattle.table.specs.declared.Need.the-variants.{Ignored, Required}
 use Rattle.table.specs.Bytes.{pick, part, num, every, Edit, edit}
-use Rattle.table.specs.Layout.{Shape, Layout, Refs, none, plain, nest, Slots, gone, rec, image, isValid, unused, used, baseOf, offsets}
+use Rattle.table.specs.Layout.{Shape, Layout, Refs, none, plain, nest, Slots, gone, rec, image, baseOf, offsets}
 use Rattle.table.specs.FixedLayouts.{layoutOf, header, control, host, hfi, ssns, security, discovery, info, extended, noKind, whenSet}
-use Rattle.table.specs.Objects.{under, readSlots, readEntry, readList, sizeOf, sizeEntry, sizeList, sizeBody, spanBody, readBody, stores, heapOf, ref6}
+use Rattle.table.specs.Objects.{under, readSlots, sizeOf, sizeEntry, sizeList, sizeBody, spanBody, stores, heapOf, ref6}
 use Rattle.table.specs.Meaning.{Meaning, meaning, heapLen}
-use Rattle.table.specs.Rules.{done}
-use Rattle.table.specs.Reads.{seat, hasPlain, needAt, noPlace, refPlace, placeAt}
+use Rattle.table.specs.Reads.{seat, hasPlain, needAt, placeAt}
 use Rattle.laws.specs.Fields.{Bytes, imageIn}
-use Rattle.laws.specs.Sound.{length-readList}
+use Rattle.laws.specs.ListWalk.{base-small}
 use Rattle.images.proofs.Laws.{by-kind, part-long, other-layout}
 use Rattle.writer.specs.Stores.{refNum}
 use Rattle.writer.proofs.RecordLaws.{ref-num, ref-for}
@@ -28,7 +26,7 @@ use Rattle.reader.specs.Accepted.{Accepted}
 use Rattle.reads.specs.declared.seats.Seat.{Seat}
 use Rattle.reads.specs.declared.seats.Seat.the-variants.{Nowhere, At}
 use Rattle.reads.specs.Seats.{Seated, heapAt, extendedAt, heapRecord}
-use Rattle.reads.specs.Told.{innerKind, imageOf, toldEntry, toldList, countAt, countOf, told}
+use Rattle.reads.specs.Told.{innerKind, imageOf, toldEntry, toldList, countOf, told}
 use Rattle.reads.proofs.ObjectLaws.{seat-room}
 use Rattle.reads.proofs.MeaningLaws.{place-is, told-all}
 use Rattle.table.specs.Reads.{seatOf}
@@ -304,10 +302,14 @@ pub list-all : (t : List ℕ) (k n : ℕ) → n ≡ countOf t k → listFrom t k
 unfolding listOf
 list-all t k n e = ap (λ (m : ℕ). toldList (layoutOf k) t k 1 m) (sub-zero n ∙ e)
 
-pub length-told : (l : Layout) (t : List ℕ) (k m n : ℕ) → length (toldList l t k n m) ≡ m
+length-told : (l : Layout) (t : List ℕ) (k m n : ℕ) → length (toldList l t k n m) ≡ m
 unfolding toldList
 length-told l t k zero n = refl
 length-told l t k (suc m) n = ap suc (length-told l t k m (suc n))
+
+pub list-count : (t : List ℕ) (k : ℕ) → length (listOf t k) ≡ countOf t k
+unfolding listOf
+list-count t k = length-told (layoutOf k) t k (countOf t k) 1
 
 -- ---- the whole
 
@@ -318,14 +320,20 @@ module _ (t : List ℕ) (b : Bytes t) (ok : Accepted t) where
   unfolding told heapLen sizeBody sizeEntry listOf countOf layoutOf toldEntry imageOf seatOf
   heap-parts = sym (ap heapLen (told-all t b ok))
 
-  pub span-parts : spanBody (meaning t .lists) ≡ countOf t 3 * 32 + (countOf t 4 * 128 + (countOf t 5 * 64 + (countOf t 6 * 32 + 0)))
-  unfolding told spanBody countOf hfi ssns security discovery
+  -- the bytes that the list of kind k takes among the records
+  abbrev spanOf : ℕ → ℕ
+  spanOf k = countOf t k * baseOf (layoutOf k)
+
+  pub span-parts : spanBody (meaning t .lists) ≡ spanOf 3 + (spanOf 4 + (spanOf 5 + (spanOf 6 + 0)))
   span-parts =
-      sym (ap (λ (m : Meaning). spanBody (m .lists)) (told-all t b ok))
-      ∙ rw (
-        length-told hfi t 3 (countAt t 87) 1,
-        length-told ssns t 4 (countAt t 95) 1,
-        length-told security t 5 (countAt t 103) 1,
-        length-told discovery t 6 (countAt t 111) 1,
-      )
-      refl
+      let e : spanBody (told t .lists)
+      ≡ length (listOf t 3) * baseOf (layoutOf 3)
+      + (length (listOf t 4) * baseOf (layoutOf 4) + (length (listOf t 5) * baseOf (layoutOf 5) + (length (listOf t 6) * baseOf (layoutOf 6) + 0))) =
+      unfold told spanBody listOf countOf layoutOf in refl in
+      sym (ap (λ (m : Meaning). spanBody (m .lists)) (told-all t b ok)) ∙ e ∙ rw (list-count t 3, list-count t 4, list-count t 5, list-count t 6) refl
+
+-- a list of at most 255 records
+pub span-small : (n k : ℕ) → n < 256 → n * baseOf (layoutOf k) ≤ 32640
+span-small n k h =
+    let g : n ≤ 255 = omega arith in
+    le-trans (mul-le-mul-left n (base-small k)) (mul-le-mul-right 128 g)

@@ -1,6 +1,9 @@
 // The references of a record of an accepted table: the length of what they name, and how many bytes it takes to lay that anew.
 use reads::seats::Seat;
 use seat_reads::objects::object_len;
+use table::Extended;
+use table::Hfi;
+use table::Info;
 ghost use mathlib.Core.Path.{_≡_};
 ghost use mathlib.Core.Bool.{true};
 ghost use Prim.Native.Nat.{_≤_};
@@ -46,10 +49,10 @@ fn record_span(t: &[u8], kind: u8, s: Seat) -> usize
 pub fn inner_kind(kind: u8) -> u8
     ensures { λ r. ⌜ r ≡ innerKind kind ⌝ }
 {
-    if kind == 3 {
-        return 7;
+    if kind == Hfi::ID {
+        return Info::ID;
     }
-    9
+    Extended::ID
 }
 
 // The bytes that what the reference at `p` names takes, with all that it names itself.

@@ -4,16 +4,19 @@ use reads::seats::Seat;
 use reads::seats::seat_of;
 use seat_reads::counts::count_of;
 use table::Discovery;
+use table::Header;
 use table::Hfi;
+use table::Host;
 use table::Security;
 use table::Ssns;
 ghost use mathlib.Core.Path.{_≡_};
-ghost use Prim.Native.Nat.{_≤_};
+ghost use Prim.Native.Nat.{_*_, _≤_};
+ghost use Rattle.table.specs.Layout.{baseOf};
 ghost use Rattle.table.specs.FixedLayouts.{layoutOf};
-ghost use Rattle.table.specs.Objects.{sizeEntry, sizeList, spanBody};
-ghost use Rattle.table.specs.Meaning.{meaning, heapLen};
+ghost use Rattle.table.specs.Objects.{sizeEntry, sizeList};
+ghost use Rattle.table.specs.Meaning.{meaning, heapAt, heapLen, formLength};
 ghost use Rattle.reader.specs.Accepted.{Accepted};
-ghost use Rattle.reads.specs.Told.{toldEntry};
+ghost use Rattle.reads.specs.Told.{toldEntry, countOf};
 ghost use Rattle.parts.specs.Parts.{listOf};
 
 // The heap bytes of the record of a kind and position; an unused one takes none.
@@ -43,27 +46,45 @@ pub fn list_size(t: &[u8], kind: u8) -> usize
     sum
 }
 
-// The record bytes of the four lists.
-pub fn records_size(t: &[u8]) -> usize
+// The record bytes of the list of a kind.
+pub fn list_span(t: &[u8], kind: u8) -> usize
     requires { ⌜ Accepted (now t) ⌝ }
-    ensures { λ r. ⌜ (r ≡ spanBody (meaning (now (t .entry)) .lists)) × (r ≤ 65280) ⌝ }
+    ensures { λ r. ⌜ (r ≡ countOf (now (t .entry)) kind * baseOf (layoutOf kind)) × (r ≤ 32640) ⌝ }
 {
-    count_of(t, Hfi::ID) * Hfi::SIZE
-        + count_of(t, Ssns::ID) * Ssns::SIZE
-        + count_of(t, Security::ID) * Security::SIZE
-        + count_of(t, Discovery::ID) * Discovery::SIZE
+    let size = kinds::base_size(kind);
+    count_of(t, kind) * size
 }
 
-// The heap bytes of all: driver signature, host, lists.
-pub fn heap_size(t: &[u8]) -> usize
+// Where the heap starts in the one form: the lists stand before it.
+pub fn heap_start(t: &[u8]) -> usize
+    requires { ⌜ Accepted (now t) ⌝ }
+    ensures { λ r. ⌜ (r ≡ heapAt (meaning (now (t .entry)))) × (r ≤ 130720) ⌝ }
+{
+    table::SHORTEST
+        + list_span(t, Hfi::ID)
+        + list_span(t, Ssns::ID)
+        + list_span(t, Security::ID)
+        + list_span(t, Discovery::ID)
+}
+
+// How long it is: driver signature, host, lists.
+fn heap_size(t: &[u8]) -> usize
     requires { ⌜ Accepted (now t) ⌝ }
     ensures { λ r. ⌜ (r ≡ heapLen (meaning (now (t .entry)))) × (r ≤ 2452800000) ⌝ }
 {
-    let driver = entry_size(t, 0, 0);
-    let owner = entry_size(t, 2, 0);
-    let hfi = list_size(t, 3);
-    let ssns = list_size(t, 4);
-    let security = list_size(t, 5);
-    let discovery = list_size(t, 6);
+    let driver = entry_size(t, Header::ID, 0);
+    let owner = entry_size(t, Host::ID, 0);
+    let hfi = list_size(t, Hfi::ID);
+    let ssns = list_size(t, Ssns::ID);
+    let security = list_size(t, Security::ID);
+    let discovery = list_size(t, Discovery::ID);
     driver + owner + hfi + ssns + security + discovery
+}
+
+// The length of the one form.
+pub fn form_length(t: &[u8]) -> usize
+    requires { ⌜ Accepted (now t) ⌝ }
+    ensures { λ r. ⌜ (r ≡ formLength (meaning (now (t .entry)))) × (r ≤ 2453000000) ⌝ }
+{
+    heap_start(t) + heap_size(t)
 }

@@ -20,7 +20,7 @@ ghost use Rattle.parts.specs.Parts.{slotsIn};
 ghost use Rattle.relaid.specs.Laid.{laid, named};
 
 // The references of the record at `a` in the record laid at `d`, and what they name from `u` on; the first byte behind that.
-pub fn lay_named(out: &mut [u8], d: usize, u: usize, t: &[u8], kind: u8, a: usize) -> usize
+fn lay_named(out: &mut [u8], d: usize, u: usize, t: &[u8], kind: u8, a: usize) -> usize
     requires { ⌜ Accepted (now t) × Seated (now t) (layoutOf kind) a true ⌝ }
     requires { ⌜ (d + baseOf (layoutOf kind) ≤ u) × (u + sizeOf (slotsIn (layoutOf kind) (now t) a) ≤ length (now out)) ⌝ }
     ensures { λ r. ⌜ (r ≡ u + sizeOf (slotsIn (layoutOf kind) (now (t .entry)) a)) × (now (out .exit) ≡ named (now (out .entry)) d u (slotsIn (layoutOf kind) (now (t .entry)) a)) ⌝ }

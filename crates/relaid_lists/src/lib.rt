@@ -1,6 +1,8 @@
 // The lists of an accepted table laid anew, one behind the other.
+use parts::sizes::list_span;
 use relaid::records::lay_entry;
 use seat_reads::counts::count_of;
+use table::Discovery;
 use table::Hfi;
 use table::Security;
 use table::Ssns;
@@ -35,17 +37,17 @@ pub fn lay_list(out: &mut [u8], d: usize, u: usize, t: &[u8], kind: u8) -> usize
     h
 }
 
-// The four lists from byte 160 on, and what they name from `u` on.
-pub fn lay_lists(out: &mut [u8], u: usize, t: &[u8])
+// The four lists from `d` on, and what they name from `u` on.
+pub fn lay_lists(out: &mut [u8], d: usize, u: usize, t: &[u8])
     requires { ⌜ Accepted (now t) ⌝ }
-    requires { ⌜ (160 + spanBody (meaning (now t) .lists) ≤ u) × (u + sizeBody (meaning (now t) .lists) ≤ length (now out)) ⌝ }
-    ensures { λ r. ⌜ now (out .exit) ≡ laid (now (out .entry)) 160 (recsBody u (meaning (now (t .entry)) .lists)) u (heapBody u (meaning (now (t .entry)) .lists)) ⌝ }
+    requires { ⌜ (d + spanBody (meaning (now t) .lists) ≤ u) × (u + sizeBody (meaning (now t) .lists) ≤ length (now out)) ⌝ }
+    ensures { λ r. ⌜ now (out .exit) ≡ laid (now (out .entry)) d (recsBody u (meaning (now (t .entry)) .lists)) u (heapBody u (meaning (now (t .entry)) .lists)) ⌝ }
 {
-    let ssns = 160 + count_of(t, 3) * Hfi::SIZE;
-    let security = ssns + count_of(t, 4) * Ssns::SIZE;
-    let discovery = security + count_of(t, 5) * Security::SIZE;
-    let h = lay_list(out, 160, u, t, 3);
-    let i = lay_list(out, ssns, h, t, 4);
-    let j = lay_list(out, security, i, t, 5);
-    lay_list(out, discovery, j, t, 6);
+    let ssns = d + list_span(t, Hfi::ID);
+    let security = ssns + list_span(t, Ssns::ID);
+    let discovery = security + list_span(t, Security::ID);
+    let h = lay_list(out, d, u, t, Hfi::ID);
+    let i = lay_list(out, ssns, h, t, Ssns::ID);
+    let j = lay_list(out, security, i, t, Security::ID);
+    lay_list(out, discovery, j, t, Discovery::ID);
 }

@@ -3,7 +3,6 @@ use mathlib.Core.Path.{_≡_, refl, sym, ap, ap₂, _∙_}
 use mathlib.Core.Bool.{Bool}
 use mathlib.Core.List.{List, [], _∷_, _++_, append-assoc}
 use Prim.Native.Nat.{ℕ, _+_}
-use native.Mathlib.Omega.{arith}
 use lib.ListN.{length, take, drop, length-append}
 use lib.Seq.{take-at, drop-at, drop-drop, take-append-seam}
 use lib.Dec.{leb}
@@ -12,8 +11,7 @@ use Rattle.table.specs.declared.Answer.{Answer}
 use Rattle.table.specs.declared.Rewritten.{Rewritten}
 use Rattle.table.specs.Bytes.{pick, splice, checksum}
 use Rattle.table.specs.Rules.{first, test, firstFail}
-use Rattle.table.specs.Objects.{spanBody}
-use Rattle.table.specs.Meaning.{limit, Meaning, meaning, heapAt, heapLen, formLength, headFront, headBack, behind, laidOut, form}
+use Rattle.table.specs.Meaning.{limit, Meaning, meaning, heapLen, formLength, headFront, headBack, behind, laidOut, form}
 use Rattle.table.specs.Numbers.{check}
 use Rattle.table.specs.Rewriting.{rewriteAnswer, rewrite, rewriteBytes}
 use Rattle.laws.specs.Fields.{Bytes}
@@ -75,11 +73,6 @@ sealed m out y z n k en ek l ey ez =
     ez ∙ ap₂ (λ (v : List ℕ) (b : ℕ). splice v 9 (b ∷ [])) ey c
     ∙ put-byte (headFront n) (headBack m k ++ behind m) out 0 (checksum (laidOut m n 0 k))
     ∙ ap₂ (λ (i j : ℕ). splice out 0 (laidOut m i (checksum (laidOut m i 0 j)) j)) en ek
-
--- the form's length, by its parts
-pub length-is : (t : List ℕ) (r k : ℕ) → r ≡ spanBody (meaning t .lists) → k ≡ heapLen (meaning t) → 160 + r + k ≡ formLength (meaning t)
-unfolding formLength heapAt
-length-is t r k p q = omega arith
 
 pub laid-length : (t : List ℕ) → Bytes t → Accepted t → (n k : ℕ) → length (laidOut (meaning t) n 0 k) ≡ formLength (meaning t)
 laid-length t b ok n k = length-laidOut (meaning t) (lawful t b (checked t ok) .shapes) n 0 k

@@ -28,9 +28,10 @@ abbrev pub Done : List ℕ → List ℕ → Type 0
 Done t out = rewriteAnswer t (length out) .number ≡ 0
 
 -- what a done call knows
-done-facts : (t : List ℕ) (room : ℕ) → rewriteAnswer t room .number ≡ 0 → (check t .number ≡ 0) × (formLength (meaning t) ≤ 65536) × (formLength (meaning t) ≤ room)
+pub done-facts : (t : List ℕ) (room : ℕ) → rewriteAnswer t room .number ≡ 0 → (check t .number ≡ 0) × (formLength (meaning t) ≤ limit) × (formLength (meaning t) ≤ room)
+unfolding limit
 done-facts t room d = go (eqb (check t .number) 0) refl where
-  go : (c : Bool) → eqb (check t .number) 0 ≡ c → (check t .number ≡ 0) × (formLength (meaning t) ≤ 65536) × (formLength (meaning t) ≤ room)
+  go : (c : Bool) → eqb (check t .number) 0 ≡ c → (check t .number ≡ 0) × (formLength (meaning t) ≤ limit) × (formLength (meaning t) ≤ room)
   go true e =
       let z = eqb-true (check t .number) 0 e in
       let p = room-passed (formLength (meaning t)) room (sym (ap (λ (a : Answer). a .number) (read-passed t room (check t) refl z)) ∙ d) in
@@ -40,15 +41,13 @@ done-facts t room d = go (eqb (check t .number) 0) refl where
       absurd (z (sym (ap (λ (a : Answer). a .number) (read-refused t room (check t) refl z)) ∙ d))
 
 -- and that is enough
-pub enough : (t : List ℕ) (room : ℕ) → check t ≡ done → formLength (meaning t) ≤ 65536 → formLength (meaning t) ≤ room → rewriteAnswer t room .number ≡ 0
-unfolding limit
+pub enough : (t : List ℕ) (room : ℕ) → check t ≡ done → formLength (meaning t) ≤ limit → formLength (meaning t) ≤ room → rewriteAnswer t room .number ≡ 0
 enough t room e l r =
     ap (λ (a : Answer). a .number) (read-passed t room (check t) refl (ap (λ (a : Answer). a .number) e))
-    ∙ rw (le-leb (formLength (meaning t)) 65536 l, le-leb (formLength (meaning t)) room r) refl
+    ∙ rw (le-leb (formLength (meaning t)) limit l, le-leb (formLength (meaning t)) room r) refl
 
 module _ (t out : List ℕ) (d : Done t out) where
   pub rewritable : Bytes t → Rewritable t
-  unfolding limit
   rewritable b = let f = done-facts t (length out) d in record { isBytes = b; isAccepted = check-zero t (f .0); isShort = f .1 }
 
   left : length (form (meaning t)) ≡ formLength (meaning t) → written t out ≡ form (meaning t)
@@ -77,7 +76,7 @@ written-again t out out′ b d room =
     let f = done-facts t (length out) d in
     let acc : check (written t out) ≡ done = ap check w ∙ form-accepted t r in
     let keep : meaning (written t out) ≡ meaning t = ap meaning w ∙ form-keeps t r in
-    let short : formLength (meaning (written t out)) ≤ 65536 = subst (λ (n : ℕ). n ≤ 65536) (sym (ap formLength keep)) (f .1) in
+    let short : formLength (meaning (written t out)) ≤ limit = subst (λ (n : ℕ). n ≤ limit) (sym (ap formLength keep)) (f .1) in
     let fits : formLength (meaning (written t out)) ≤ length out′ = subst (λ (n : ℕ). n ≤ length out′) (sym (ap formLength keep)) room in
     let long : length (form (meaning (written t out))) ≡ formLength (meaning (written t out)) =
     ap (λ m. length (form m)) keep ∙ length-form (meaning t) (lawful t b (r .isAccepted) .shapes) ∙ sym (ap formLength keep) in

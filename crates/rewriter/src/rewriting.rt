@@ -1,50 +1,60 @@
 // The rewriter: the reader's answer, then 17, then 14; only where all pass is a byte written.
 use front::Counts;
 use front::write_front;
+use parts::sizes::form_length;
+use parts::sizes::heap_start;
 use relaid::records::lay_entry;
-use relaid::records::lay_named;
 use relaid_lists::lay_lists;
 use room::room_fault;
 use sealing::seal;
 use seat_reads::counts::count_byte;
 use seat_reads::counts::oem;
 use table::Answer;
+use table::Discovery;
+use table::Header;
+use table::Hfi;
+use table::Host;
 use table::Rewritten;
+use table::Security;
+use table::Ssns;
 ghost use mathlib.Core.Path.{_≡_};
 ghost use mathlib.Core.List.{_∷_, []};
-ghost use Prim.Native.Nat.{_+_, _≤_};
+ghost use Prim.Native.Nat.{_≤_};
 ghost use lib.ListN.{length};
 ghost use Rattle.table.specs.Bytes.{splice};
-ghost use Rattle.table.specs.Meaning.{meaning, heapLen, formLength, laidOut};
+ghost use Rattle.table.specs.Meaning.{meaning, heapAt, heapLen, formLength, laidOut};
 ghost use Rattle.table.specs.Rewriting as definition;
 ghost use Rattle.reader.specs.Accepted.{Accepted};
 ghost use Rattle.reads.specs.Told.{countOf, oemOf};
+ghost use Rattle.seat_reads.specs.Driver.{driverOf};
 ghost use Rattle.front.specs.Front.{headerFor, controlFor};
 
 // Header and control record; `n` is Length, `h` and `k` are place and length of the heap, `d` is the length of the driver signature.
 fn lay_front(out: &mut [u8], t: &[u8], n: usize, h: usize, k: usize, d: usize)
-    requires { ⌜ Accepted (now t) × (160 ≤ length (now out)) ⌝ }
+    requires { ⌜ Accepted (now t) × (heapAt (meaning (now t)) ≤ length (now out)) ⌝ }
     ensures { λ r. ⌜ now (out .exit) ≡ splice (splice (now (out .entry)) 0 (headerFor n (oemOf (now (t .entry))) h k d)) 64 (controlFor (countOf (now (t .entry)) 3 ∷ countOf (now (t .entry)) 4 ∷ countOf (now (t .entry)) 5 ∷ countOf (now (t .entry)) 6 ∷ [])) ⌝ }
 {
     let counts = Counts {
-        hfi: count_byte(t, 3),
-        ssns: count_byte(t, 4),
-        security: count_byte(t, 5),
-        discovery: count_byte(t, 6),
+        hfi: count_byte(t, Hfi::ID),
+        ssns: count_byte(t, Ssns::ID),
+        security: count_byte(t, Security::ID),
+        discovery: count_byte(t, Discovery::ID),
     };
     write_front(out, oem(t), counts, n, h, k, d);
 }
 
-// The one form but for its checksum, which is 0. The header is written once it is known how long the driver signature is, over the reference to it.
-fn lay_form(out: &mut [u8], t: &[u8], n: usize, k: usize)
-    requires { ⌜ Accepted (now t) × (n ≡ formLength (meaning (now t))) × (k ≡ heapLen (meaning (now t))) × (n ≤ length (now out)) ⌝ }
-    ensures { λ r. ⌜ now (out .exit) ≡ splice (now (out .entry)) 0 (laidOut (meaning (now (t .entry))) n 0 k) ⌝ }
+// The one form but for its checksum, which is 0; the length of the driver signature. The header is laid like any record, and written over once it is known how long
+// the driver signature is.
+fn lay_form(out: &mut [u8], t: &[u8], n: usize, h: usize) -> usize
+    requires { ⌜ Accepted (now t) × (n ≡ formLength (meaning (now t))) × (h ≡ heapAt (meaning (now t))) × (n ≤ length (now out)) ⌝ }
+    ensures { λ r. ⌜ (r ≡ length (driverOf (now (t .entry)))) × (now (out .exit) ≡ splice (now (out .entry)) 0 (laidOut (meaning (now (t .entry))) n 0 (heapLen (meaning (now (t .entry)))))) ⌝ }
 {
-    let h = n - k;
-    let b = lay_named(out, 0, h, t, 0, 0);
-    lay_front(out, t, n, h, k, b - h);
-    let u = lay_entry(out, 128, b, t, 2, 0);
-    lay_lists(out, u, t);
+    let b = lay_entry(out, 0, h, t, Header::ID, 0);
+    let d = b - h;
+    lay_front(out, t, n, h, n - h, d);
+    let u = lay_entry(out, table::FRONT, b, t, Host::ID, 0);
+    lay_lists(out, table::SHORTEST, u, t);
+    d
 }
 
 fn refused(a: Answer) -> Rewritten
@@ -61,14 +71,13 @@ pub fn rewrite(t: &[u8], out: &mut [u8]) -> Rewritten
     if a.number != 0 {
         return refused(a);
     }
-    let k = parts::sizes::heap_size(t);
-    let n = 160 + parts::sizes::records_size(t) + k;
+    let n = form_length(t);
     let f = room_fault(n, out.len());
     if f.number != 0 {
         return refused(f);
     }
-    lay_form(out, t, n, k);
-    let d = seat_reads::objects::object_len(t, 0, 0, 44);
-    seal(out, n, t, n - k, d);
+    let h = heap_start(t);
+    let d = lay_form(out, t, n, h);
+    seal(out, n, t, h, d);
     Rewritten { answer: f, len: n }
 }

@@ -5,7 +5,7 @@ use seat_reads::sums::sum_of;
 use writer::stores::put_u8;
 ghost use mathlib.Core.Path.{_≡_};
 ghost use mathlib.Core.List.{_∷_, []};
-ghost use Prim.Native.Nat.{_+_, _%_, _≤_};
+ghost use Prim.Native.Nat.{_+_, _%_, _≤_, _<_};
 ghost use lib.ListN.{length, take};
 ghost use Rattle.table.specs.Bytes.{part, splice, total, checksum};
 ghost use Rattle.reader.specs.Accepted.{Accepted};
@@ -26,7 +26,7 @@ fn form_sum(x: &[u8], t: &[u8], h: usize, d: usize) -> u8
 
 // The checksum of the first `n` bytes, stored among them; `d` of them from `h` on are the driver signature of `t`.
 pub fn seal(out: &mut [u8], n: usize, t: &[u8], h: usize, d: usize)
-    requires { ⌜ (160 ≤ n) × (n ≤ length (now out)) × Accepted (now t) ⌝ }
+    requires { ⌜ (9 < n) × (n ≤ length (now out)) × Accepted (now t) ⌝ }
     requires { ⌜ (h + d ≤ n) × (part (take n (now out)) h d ≡ driverOf (now t)) ⌝ }
     ensures { λ r. ⌜ now (out .exit) ≡ splice (now (out .entry)) 9 (checksum (take n (now (out .entry))) ∷ []) ⌝ }
 {

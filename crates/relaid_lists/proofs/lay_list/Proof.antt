@@ -8,17 +8,12 @@ use Rattle.table.specs.Layout.{Entry, baseOf}
 use lib.ListN.{length}
 use native.Mathlib.Omega.{arith}
 use native.Mathlib.Nat.{sub-zero}
-use Prim.Native.Nat.{ℕ, _+_, _-_, _*_, _≤_, _<_}
+use Prim.Native.Nat.{_+_, _-_, _*_, _≤_}
 use mathlib.Core.List.{List}
 use mathlib.Core.Path.{_≡_, refl, sym, ap, _∙_}
 use Rattle.table.proofs.Rules.{picks}
 use Rattle.relaid_lists.proofs.lay_list.Statement.{statement}
 use Rattle.relaid_lists.proofs.lay_list.Tie as tie
-use Rattle.relaid_lists.proofs.lay_list.Reads as reads
-use Rattle.relaid_lists.proofs.lay_list.Lts as lts
-use Rattle.kinds.proofs.base_size.Reads as base-size-reads
-use Rattle.relaid.proofs.records.lay_entry.Reads as lay-entry-reads
-use Rattle.seat_reads.proofs.counts.count_of.Reads as count-of-reads
 
 abbrev Inv-loop : tie.InvT-loop
 Inv-loop out₀ d u t kind n base at₀ h₀ i₀ out at h i = (i ≤ n) × (at + (n - i) * baseOf (layoutOf kind) ≤ h) × (h + sizeList (listFrom t kind n i) ≡ u + sizeList (listOf t kind)) × (length out ≡ length out₀) × (laid out at (recsList h (listFrom t kind n i)) h (heapList h (listFrom t kind n i)) ≡ laid out₀ d (recsList u (listOf t kind)) u (heapList u (listOf t kind)))

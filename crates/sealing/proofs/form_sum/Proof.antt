@@ -1,16 +1,9 @@
 use mathlib.Core.Path.{ap}
 use native.Mathlib.Omega.{arith}
 use Rattle.table.specs.Bytes.{total}
-use Rattle.table.proofs.Rules.{picks}
 use borrow.Author.Needs.{needs}
 use Rattle.sealing.proofs.form_sum.Statement.{statement}
 use Rattle.sealing.proofs.form_sum.Tie as tie
-use Rattle.sealing.proofs.form_sum.Reads as reads
-use Rattle.sealing.proofs.form_sum.Lts as lts
-use Rattle.seat_reads.proofs.sums.driver_sum.Reads as driver-sum-reads
-use Rattle.seat_reads.proofs.sums.sum_but.Reads as sum-but-reads
-use Rattle.seat_reads.proofs.sums.sum_of.Reads as sum-of-reads
-use Rattle.std.proofs.num.wrapping_add_u8.Reads as wrapping-add-u8-reads
 
 sub-if1 : tie.Need-sub-if1
 sub-if1 c = search needs

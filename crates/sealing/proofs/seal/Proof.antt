@@ -6,15 +6,9 @@ use native.Mathlib.Omega.{arith}
 use Prim.Native.Nat.{ℕ, _%_}
 use mathlib.Core.List.{[], _∷_}
 use mathlib.Core.Path.{_≡_, ap, _∙_}
-use Rattle.table.proofs.Rules.{picks}
 use borrow.Author.Needs.{needs}
 use Rattle.sealing.proofs.seal.Statement.{statement}
 use Rattle.sealing.proofs.seal.Tie as tie
-use Rattle.sealing.proofs.seal.Reads as reads
-use Rattle.sealing.proofs.seal.Lts as lts
-use Rattle.sealing.proofs.form_sum.Reads as form-sum-reads
-use Rattle.std.proofs.num.wrapping_sub_u8.Reads as wrapping-sub-u8-reads
-use Rattle.writer.proofs.stores.put_u8.Reads as put-u8-reads
 
 sub-form-sum : tie.Need-sub-form-sum
 sub-form-sum c = search needs

@@ -3,8 +3,8 @@ use Rattle.parts.specs.Parts.{refsOf}
 use lib.ListN.{length}
 use native.Mathlib.Omega.{arith}
 use native.Mathlib.Nat.{zero-add}
-use Prim.Native.Nat.{ℕ, _+_, _-_, _*_, _≤_}
-use mathlib.Core.Path.{_≡_, ap, _∙_}
+use Prim.Native.Nat.{_-_, _*_, _≤_}
+use mathlib.Core.Path.{_≡_}
 use Rattle.table.proofs.Rules.{picks}
 use Rattle.parts.proofs.references.named_size.Statement.{statement}
 use Rattle.parts.proofs.references.named_size.Tie as tie

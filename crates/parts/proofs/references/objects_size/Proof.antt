@@ -3,7 +3,7 @@ use Rattle.parts.specs.Parts.{Part, refsOf}
 use lib.ListN.{length, getD}
 use native.Mathlib.Omega.{arith}
 use native.Mathlib.Nat.{zero-add}
-use Prim.Native.Nat.{ℕ, _+_, _-_, _*_, _≤_, _<_}
+use Prim.Native.Nat.{_-_, _*_, _≤_, _<_}
 use mathlib.Core.Path.{_≡_, sym, ap, _∙_}
 use Rattle.table.proofs.Rules.{picks}
 use Rattle.parts.proofs.references.objects_size.Statement.{statement}

@@ -7,14 +7,9 @@ use Rattle.table.specs.Objects.{sizeEntry}
 use Rattle.parts.specs.Parts.{slotsIn}
 use Rattle.reads.specs.Seats.{asSeat}
 use Rattle.reads.proofs.EntryLaws.{seated-at, entry-nowhere, entry-off, entry-on}
-use Rattle.table.proofs.Rules.{picks}
 use borrow.Author.Needs.{needs}
 use Rattle.parts.proofs.sizes.entry_size.Statement.{statement}
 use Rattle.parts.proofs.sizes.entry_size.Tie as tie
-use Rattle.parts.proofs.sizes.entry_size.Reads as reads
-use Rattle.parts.proofs.sizes.entry_size.Lts as lts
-use Rattle.parts.proofs.references.named_size.Reads as named-size-reads
-use Rattle.reads.proofs.seats.seat_of.Reads as seat-of-reads
 
 seat-of-requires : tie.Need-seat-of-requires
 seat-of-requires c κs = search needs

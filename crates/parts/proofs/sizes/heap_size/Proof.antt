@@ -1,13 +1,8 @@
 use native.Mathlib.Omega.{arith}
 use Rattle.parts.proofs.PartLaws.{heap-parts}
-use Rattle.table.proofs.Rules.{picks}
 use borrow.Author.Needs.{needs}
 use Rattle.parts.proofs.sizes.heap_size.Statement.{statement}
 use Rattle.parts.proofs.sizes.heap_size.Tie as tie
-use Rattle.parts.proofs.sizes.heap_size.Reads as reads
-use Rattle.parts.proofs.sizes.heap_size.Lts as lts
-use Rattle.parts.proofs.sizes.entry_size.Reads as entry-size-reads
-use Rattle.parts.proofs.sizes.list_size.Reads as list-size-reads
 
 entry-size-requires : tie.Need-entry-size-requires
 entry-size-requires c κs = search needs

@@ -8,10 +8,6 @@ use mathlib.Core.Path.{_≡_, ap, _∙_}
 use Rattle.table.proofs.Rules.{picks}
 use Rattle.parts.proofs.sizes.list_size.Statement.{statement}
 use Rattle.parts.proofs.sizes.list_size.Tie as tie
-use Rattle.parts.proofs.sizes.list_size.Reads as reads
-use Rattle.parts.proofs.sizes.list_size.Lts as lts
-use Rattle.parts.proofs.sizes.entry_size.Reads as entry-size-reads
-use Rattle.seat_reads.proofs.counts.count_of.Reads as count-of-reads
 
 abbrev Inv-loop : tie.InvT-loop
 Inv-loop t kind n sum₀ i₀ sum i = (i ≤ n) × (sum + sizeList (listFrom t kind n i) ≡ sizeList (listOf t kind)) × (sum ≤ 2400000 * i)

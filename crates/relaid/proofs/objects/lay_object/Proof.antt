@@ -10,16 +10,9 @@ use Rattle.parts.proofs.LengthLaws.{bytes-long}
 use Rattle.parts.specs.Parts.{partAt}
 use Rattle.relaid.specs.Laid.{laid}
 use Rattle.relaid.proofs.LaidLaws.{object-len, object-size, object-none, object-laid}
-use Rattle.table.proofs.Rules.{picks}
 use borrow.Author.Needs.{needs}
 use Rattle.relaid.proofs.objects.lay_object.Statement.{statement}
 use Rattle.relaid.proofs.objects.lay_object.Tie as tie
-use Rattle.relaid.proofs.objects.lay_object.Reads as reads
-use Rattle.relaid.proofs.objects.lay_object.Lts as lts
-use Rattle.seat_reads.proofs.objects.object_bytes.Reads as object-bytes-reads
-use Rattle.seat_reads.proofs.objects.object_len.Reads as object-len-reads
-use Rattle.writer.proofs.records.put_slot.Reads as put-slot-reads
-use Rattle.writer.proofs.stores.copy_into.Reads as copy-into-reads
 
 object-len-requires : tie.Need-object-len-requires
 object-len-requires c κs = search needs

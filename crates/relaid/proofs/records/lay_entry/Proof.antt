@@ -12,15 +12,9 @@ use Rattle.writer.proofs.StoreLaws.{splice-none}
 use Rattle.parts.specs.Parts.{slotsIn}
 use Rattle.reads.specs.Seats.{asSeat}
 use Rattle.reads.proofs.EntryLaws.{seated-at, entry-nowhere, entry-off, entry-on}
-use Rattle.table.proofs.Rules.{picks}
 use borrow.Author.Needs.{needs}
 use Rattle.relaid.proofs.records.lay_entry.Statement.{statement}
 use Rattle.relaid.proofs.records.lay_entry.Tie as tie
-use Rattle.relaid.proofs.records.lay_entry.Reads as reads
-use Rattle.relaid.proofs.records.lay_entry.Lts as lts
-use Rattle.reads.proofs.seats.seat_of.Reads as seat-of-reads
-use Rattle.relaid.proofs.records.lay_unused.Reads as lay-unused-reads
-use Rattle.relaid.proofs.records.lay_used.Reads as lay-used-reads
 
 seat-of-requires : tie.Need-seat-of-requires
 seat-of-requires c κs = search needs

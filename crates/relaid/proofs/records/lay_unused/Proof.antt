@@ -2,14 +2,9 @@ use Rattle.table.specs.Bytes.{splice}
 use lib.ListN.{replicate}
 use Prim.Native.Nat.{ℕ}
 use mathlib.Core.Path.{refl, ap, _∙_}
-use Rattle.table.proofs.Rules.{picks}
 use borrow.Author.Needs.{needs}
 use Rattle.relaid.proofs.records.lay_unused.Statement.{statement}
 use Rattle.relaid.proofs.records.lay_unused.Tie as tie
-use Rattle.relaid.proofs.records.lay_unused.Reads as reads
-use Rattle.relaid.proofs.records.lay_unused.Lts as lts
-use Rattle.kinds.proofs.base_size.Reads as base-size-reads
-use Rattle.writer.proofs.stores.fill_zero.Reads as fill-zero-reads
 
 base-size-requires : tie.Need-base-size-requires
 base-size-requires c κs = search needs

@@ -1,61 +1,67 @@
+use Rattle.rewriter.proofs.FormLaws.{sizes-are, driver-long, front-late, form-laid}
+use Rattle.relaid.specs.Laid.{laid}
 use Rattle.reads.specs.Told.{toldEntry}
-use Rattle.table.specs.Layout.{Entry}
-use mathlib.Core.Path.{_≡_, refl, ap, _∙_}
-use Prim.Native.Nat.{ℕ, _+_, _-_}
-use native.Mathlib.Omega.{arith}
-use Rattle.table.specs.FixedLayouts.{layoutOf, host}
-use Rattle.table.specs.Objects.{sizeOf, sizeEntry, recEntry, heapEntry}
 use Rattle.laws.specs.ListWalk.{base-small}
-use Rattle.parts.specs.Parts.{slotsIn}
-use Rattle.reads.proofs.SeatLaws.{header-seated}
-use Rattle.relaid.specs.Laid.{laid as both}
-use Rattle.rewriter.proofs.FormLaws.{form-length, heap-length, front-late, form-laid}
+use Rattle.laws.specs.Fields.{Bytes}
+use Rattle.table.specs.Meaning.{meaning, laidOut}
+use Rattle.table.specs.Objects.{sizeEntry, recEntry, heapEntry}
+use Rattle.table.specs.FixedLayouts.{layoutOf, host}
+use Rattle.table.specs.Layout.{Entry}
+use Rattle.table.specs.Bytes.{splice}
+use native.Mathlib.Omega.{arith}
+use Prim.Native.Nat.{ℕ, _+_, _-_}
+use mathlib.Core.Path.{_≡_, refl, ap, _∙_}
 use borrow.Author.Needs.{needs}
 use Rattle.rewriter.proofs.rewriting.lay_form.Statement.{statement}
 use Rattle.rewriter.proofs.rewriting.lay_form.Tie as tie
 
-sub-h : tie.Need-sub-h
-sub-h c = let s = c .before .before in let a = s .args in let t = a .t .now in let ok = s .pre .0 in let en = s .pre .1 in let ek = s .pre .2 in let fl = form-length t (λ i. omega (arith, c .shared-slice-known .given i)) ok in let hl = heap-length t (λ i. omega (arith, c .shared-slice-known .given i)) ok in omega (arith, en, ek, fl)
+lay-entry-requires : tie.Need-lay-entry-requires
+lay-entry-requires c κs = let s = c .before .before .before in let t = s .args .t .now in let ok = s .pre .0 in let b : Bytes t = λ i. omega (arith, c .before .shared-slice-known .given i) in let z = sizes-are t b ok (s .args .n) (s .args .h) (s .pre .1) (s .pre .2) in (ok, (omega (arith, z .0, base-small 0), omega (arith, z .1, s .pre .3)))
 
-lay-named-requires : tie.Need-lay-named-requires
-lay-named-requires c κs = let s = c .before .before .before in let a = s .args in let t = a .t .now in let ok = s .pre .0 in let en = s .pre .1 in let ek = s .pre .2 in let fl = form-length t (λ i. omega (arith, c .before .shared-slice-known .given i)) ok in let hl = heap-length t (λ i. omega (arith, c .before .shared-slice-known .given i)) ok in ((ok, header-seated t ok), (omega (arith, en, ek, fl, base-small 0), omega (arith, en, ek, fl, hl, s .pre .3)))
+sub-d : tie.Need-sub-d
+sub-d c = search needs
 
 sub-lay-front : tie.Need-sub-lay-front
-sub-lay-front c = search needs
+sub-lay-front c = let s = c .before .before .before .before .before .before .before in let t = s .args .t .now in let ok = s .pre .0 in let b : Bytes t = λ i. omega (arith, c .before .before .before .before .before .shared-slice-known .given i) in let z = sizes-are t b ok (s .args .n) (s .args .h) (s .pre .1) (s .pre .2) in omega (arith, z .1)
 
 lay-front-requires : tie.Need-lay-front-requires
-lay-front-requires c κs = let s = c .before .before .before .before .before .before .before in let a = s .args in let t = a .t .now in let ok = s .pre .0 in let en = s .pre .1 in let ek = s .pre .2 in let fl = form-length t (λ i. omega (arith, c .before .before .before .before .before .shared-slice-known .given i)) ok in let hl = heap-length t (λ i. omega (arith, c .before .before .before .before .before .shared-slice-known .given i)) ok in (ok, omega (arith, en, ek, fl, s .pre .3, c .before .before .before .lay-named .kept .0))
+lay-front-requires c κs = let s = c .before .before .before .before .before .before .before in let t = s .args .t .now in let ok = s .pre .0 in let b : Bytes t = λ i. omega (arith, c .before .before .before .before .before .shared-slice-known .given i) in let z = sizes-are t b ok (s .args .n) (s .args .h) (s .pre .1) (s .pre .2) in (ok, omega (arith, z .1, s .pre .2, s .pre .3, c .before .before .before .lay-entry .kept .0))
 
-lay-entry-requires : tie.Need-lay-entry-requires
+lay-entry-requires-2 : tie.Need-lay-entry-requires-2
 unfolding layoutOf host
-lay-entry-requires c κs = let s = c .before .before .before .before .before .before .before .before .before .before .before in let a = s .args in let t = a .t .now in let ok = s .pre .0 in let en = s .pre .1 in let ek = s .pre .2 in let fl = form-length t (λ i. omega (arith, c .before .before .before .before .before .before .before .before .before .shared-slice-known .given i)) ok in let hl = heap-length t (λ i. omega (arith, c .before .before .before .before .before .before .before .before .before .shared-slice-known .given i)) ok in let g = c .before .before .before .before .before .before .before .lay-named .ensures .0 in (ok, (omega (arith, en, ek, fl, hl, g), omega (arith, en, ek, fl, hl, g, s .pre .3, c .before .before .before .lay-front .kept .0, c .before .before .before .before .before .before .before .lay-named .kept .0)))
+lay-entry-requires-2 c κs = let s = c .before .before .before .before .before .before .before .before .before .before .before in let t = s .args .t .now in let ok = s .pre .0 in let b : Bytes t = λ i. omega (arith, c .before .before .before .before .before .before .before .before .before .shared-slice-known .given i) in let z = sizes-are t b ok (s .args .n) (s .args .h) (s .pre .1) (s .pre .2) in let e = c .before .before .before .before .before .before .before .lay-entry in (ok, (omega (arith, z .0, e .ensures .0), omega (arith, z .1, e .ensures .0, s .pre .3, e .kept .0, c .before .before .before .lay-front .kept .0)))
 
 lay-lists-requires : tie.Need-lay-lists-requires
-lay-lists-requires c κs = let s = c .before .before .before .before .before .before .before .before .before .before .before .before .before .before .before in let a = s .args in let t = a .t .now in let ok = s .pre .0 in let en = s .pre .1 in let ek = s .pre .2 in let fl = form-length t (λ i. omega (arith, c .before .before .before .before .before .before .before .before .before .before .before .before .before .shared-slice-known .given i)) ok in let hl = heap-length t (λ i. omega (arith, c .before .before .before .before .before .before .before .before .before .before .before .before .before .shared-slice-known .given i)) ok in let g = c .before .before .before .before .before .before .before .before .before .before .before .lay-named .ensures .0 in let p = c .before .before .before .lay-entry in (ok, (omega (arith, en, ek, fl, hl, g, p .ensures .0), omega (arith, en, ek, fl, hl, g, p .ensures .0, s .pre .3, p .kept .0, c .before .before .before .before .before .before .before .lay-front .kept .0, c .before .before .before .before .before .before .before .before .before .before .before .lay-named .kept .0)))
+lay-lists-requires c κs = let s = c .before .before .before .before .before .before .before .before .before .before .before .before .before .before .before in let t = s .args .t .now in let ok = s .pre .0 in let b : Bytes t = λ i. omega (arith, c .before .before .before .before .before .before .before .before .before .before .before .before .before .shared-slice-known .given i) in let z = sizes-are t b ok (s .args .n) (s .args .h) (s .pre .1) (s .pre .2) in let e = c .before .before .before .before .before .before .before .before .before .before .before .lay-entry in let p = c .before .before .before .lay-entry2 in (ok, (omega (arith, z .0, e .ensures .0, p .ensures .0), omega (arith, z .1, e .ensures .0, p .ensures .0, s .pre .3, e .kept .0, c .before .before .before .before .before .before .before .lay-front .kept .0, p .kept .0)))
 
 same-length : tie.Need-same-length
 same-length c = search needs
 
 returns : tie.Need-returns
-returns c = let s = c .before .before .before .before .before .before .before .before .before .before .before .before .before .before .before .before .before .before in let a = s .args in let t = a .t .now in let ok = s .pre .0 in let en = s .pre .1 in let ek = s .pre .2 in let fl = form-length t (λ i. omega (arith, c .before .before .before .before .before .before .before .before .before .before .before .before .before .before .before .before .shared-slice-known .given i)) ok in let hl = heap-length t (λ i. omega (arith, c .before .before .before .before .before .before .before .before .before .before .before .before .before .before .before .before .shared-slice-known .given i)) ok in let n = c .before .before .before .before .before .before .before .before .before .before .before .before .before .before .lay-named in let f = c .before .before .before .before .before .before .before .before .before .before .lay-front in let p = c .before .before .before .before .before .before .lay-entry in
-    let h : ℕ = a .n - a .k in
-    let d : ℕ = n .result - h in
-    let ed : d ≡ sizeOf (slotsIn (layoutOf 0) t 0) = omega (arith, n .ensures .0) in
-    let hb : n .result ≡ h + d = omega (arith, n .ensures .0) in
-    let own : Entry (layoutOf 2) = toldEntry (layoutOf 2) t 2 0 in
-    form-laid t (λ i. omega (arith, c .before .before .before .before .before .before .before .before .before .before .before .before .before .before .before .before .shared-slice-known .given i)) ok (a .n) (a .k) en ek (a .out .now) _ (f .last .0) (p .last .0) (c .before .before .lay-lists .last .0) h d (p .result) (s .pre .3) refl ed refl
-    (front-late t (λ i. omega (arith, c .before .before .before .before .before .before .before .before .before .before .before .before .before .before .before .before .shared-slice-known .given i)) ok (a .n) (a .k) en ek (a .out .now) (n .last .0) (f .last .0) h d (omega (arith, en, ek, fl)) (omega (arith, en, ek, fl, hl, s .pre .3)) (n .ensures .1) (f .ensures))
-    (p .ensures .1 ∙ ap (λ (v : ℕ). both (f .last .0) 128 (recEntry v own) v (heapEntry v own)) hb) (p .ensures .0 ∙ ap (λ (v : ℕ). v + sizeEntry own) hb) (c .before .before .lay-lists .ensures)
+returns c = let s = c .before .before .before .before .before .before .before .before .before .before .before .before .before .before .before .before .before .before in let t = s .args .t .now in let ok = s .pre .0 in let b : Bytes t = λ i. omega (arith, c .before .before .before .before .before .before .before .before .before .before .before .before .before .before .before .before .shared-slice-known .given i) in let z = sizes-are t b ok (s .args .n) (s .args .h) (s .pre .1) (s .pre .2) in let e = c .before .before .before .before .before .before .before .before .before .before .before .before .before .before .lay-entry in let f = c .before .before .before .before .before .before .before .before .before .before .lay-front in let p = c .before .before .before .before .before .before .lay-entry2 in
+    let x = s .args .out .now in
+    let n : ℕ = s .args .n in
+    let h : ℕ = s .args .h in
+    let d : ℕ = e .result - h in
+    let ed : d ≡ sizeEntry (toldEntry (layoutOf 0) t 0 0) = omega (arith, e .ensures .0) in
+    let hb : e .result ≡ h + d = omega (arith, e .ensures .0) in
+    let own : Entry (layoutOf 2) = toldEntry (layoutOf 2) t 2 0 in (
+      ed ∙ driver-long t b ok,
+      form-laid t b ok n (n - h) (s .pre .1) (z .2) x _ (f .last .0) (p .last .0) (c .before .before .lay-lists .last .0) h d (p .result) (s .pre .3) (s .pre .2) ed refl
+          (front-late t b ok n (n - h) (s .pre .1) (z .2) x (e .last .0) (f .last .0) h d (omega (arith, z .0)) (omega (arith, z .1, s .pre .3)) (e .ensures .1) (f .ensures))
+          (p .ensures .1 ∙ ap (λ (v : ℕ). laid (f .last .0) 128 (recEntry v own) v (heapEntry v own)) hb) (p .ensures .0 ∙ ap (λ (v : ℕ). v + sizeEntry own) hb) (c .before .before .lay-lists .ensures)
+          ∙ ap (λ (k : ℕ). splice x 0 (laidOut (meaning t) n 0 k)) (z .2),
+    )
 
 pub lay-form-spec : {M : Type 1} → statement M
 lay-form-spec =
     tie.close
     (tie.spec
-    sub-h
-    lay-named-requires
+    lay-entry-requires
+    sub-d
     sub-lay-front
     lay-front-requires
-    lay-entry-requires
+    lay-entry-requires-2
     lay-lists-requires
     same-length
     returns)

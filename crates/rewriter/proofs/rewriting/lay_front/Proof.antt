@@ -1,12 +1,8 @@
-use Rattle.table.proofs.Rules.{picks}
+use Rattle.table.specs.Meaning.{heapAt}
+use native.Mathlib.Omega.{arith}
 use borrow.Author.Needs.{needs}
 use Rattle.rewriter.proofs.rewriting.lay_front.Statement.{statement}
 use Rattle.rewriter.proofs.rewriting.lay_front.Tie as tie
-use Rattle.rewriter.proofs.rewriting.lay_front.Reads as reads
-use Rattle.rewriter.proofs.rewriting.lay_front.Lts as lts
-use Rattle.front.proofs.write_front.Reads as write-front-reads
-use Rattle.seat_reads.proofs.counts.count_byte.Reads as count-byte-reads
-use Rattle.seat_reads.proofs.counts.oem.Reads as oem-reads
 
 count-byte-requires : tie.Need-count-byte-requires
 count-byte-requires c κs = search needs
@@ -24,7 +20,8 @@ oem-requires : tie.Need-oem-requires
 oem-requires c κs = search needs
 
 write-front-requires : tie.Need-write-front-requires
-write-front-requires c κs = search needs
+unfolding heapAt
+write-front-requires c κs = let s = c .before .before .before .before .before .before .before .before in (omega (arith, s .pre .1), c .oem .ensures .1)
 
 same-length : tie.Need-same-length
 same-length c = search needs
