@@ -8,40 +8,27 @@ use native.Mathlib.Omega.{arith}
 use lib.ListN.{length, take, drop}
 use lib.Seq.{length-take-le, take-at}
 use lib.Dec.{eqb}
-use borrow.Author.Tests.{eqb-true, eqb-false}
+use borrow.Author.Tests.{eqb-true}
 use Rattle.io.specs.Counts.{Counts}
 use Rattle.table.specs.declared.Answer.{Answer}
 use Rattle.table.specs.declared.Rewritten.{Rewritten}
 use Rattle.table.specs.Bytes.{pick, splice}
-use Rattle.table.specs.Meaning.{limit, meaning, formLength, form}
-use Rattle.table.specs.Numbers.{check}
+use Rattle.table.specs.Meaning.{meaning, formLength, form}
 use Rattle.table.specs.Rewriting.{rewriteAnswer, rewrite, rewriteBytes}
 use Rattle.laws.specs.AcceptedMeaning.{lawful}
 use Rattle.laws.specs.FormLaws.{length-form}
 use Rattle.laws.specs.DemandTwo.{check-zero}
 use Rattle.laws.specs.DemandThree.{Bytes, Rewritable, same-form}
-use Rattle.rewriter.proofs.AnswerLaws.{read-refused, read-passed, room-passed}
+use Rattle.rewriter.proofs.DemandThree.{done-facts}
 
 abbrev pub numberOf : Answer → ℕ
 numberOf a = a .number
 
 -- ---- where done, the table is accepted, and its form keeps the limit and fits
 
-done-tells : (t : List ℕ) (room : ℕ) → rewriteAnswer t room .number ≡ 0 → (check t .number ≡ 0) × (formLength (meaning t) ≤ limit) × (formLength (meaning t) ≤ room)
-unfolding limit
-done-tells t room e = go (eqb (check t .number) 0) refl where
-  go : (c : Bool) → eqb (check t .number) 0 ≡ c → (check t .number ≡ 0) × (formLength (meaning t) ≤ limit) × (formLength (meaning t) ≤ room)
-  go true p =
-      let z = eqb-true (check t .number) 0 p in
-      let r = room-passed (formLength (meaning t)) room (sym (ap numberOf (read-passed t room (check t) refl z)) ∙ e) in
-      (z, r .0, r .1)
-  go false p =
-      let z = eqb-false (check t .number) 0 p in
-      absurd (z (sym (ap numberOf (read-refused t room (check t) refl z)) ∙ e))
-
 pub rewritable : (t : List ℕ) (room : ℕ) → Bytes t → rewriteAnswer t room .number ≡ 0 → Rewritable t
 rewritable t room b e =
-    let d = done-tells t room e in
+    let d = done-facts t room e in
     record { isBytes = b; isAccepted = check-zero t (d .0); isShort = d .1 }
 
 -- ---- the form by value
@@ -62,7 +49,7 @@ module _ (t out left : List ℕ) (r : Rewritten) (made : r ≡ rewrite t (length
   made-fits : r .len ≤ length out
   made-fits = go (eqb (rewriteAnswer t (length out) .number) 0) refl where
     go : (c : Bool) → eqb (rewriteAnswer t (length out) .number) 0 ≡ c → r .len ≤ length out
-    go true p = omega (arith, made-len ∙ ap (λ (c : Bool). pick c (formLength (meaning t)) 0) p, done-tells t (length out) (eqb-true (rewriteAnswer t (length out) .number) 0 p) .2)
+    go true p = omega (arith, made-len ∙ ap (λ (c : Bool). pick c (formLength (meaning t)) 0) p, done-facts t (length out) (eqb-true (rewriteAnswer t (length out) .number) 0 p) .2)
     go false p = omega (arith, made-len ∙ ap (λ (c : Bool). pick c (formLength (meaning t)) 0) p)
 
   pub made-counts : Counts (r .len) left

@@ -1,3 +1,4 @@
+use Rattle.table.specs.Meaning.{limit}
 use mathlib.Core.Path.{sym, ap, _∙_}
 use native.Mathlib.Omega.{arith}
 use Rattle.laws.specs.DemandThree.{Bytes}
@@ -37,7 +38,7 @@ returns c =
     let one = c .before .before .before .before .before .before .before .before .form-of .ensures in
     let other = c .before .before .before .before .before .before .before .form-of2 .ensures in
     let same = c .before .before .same .ensures in
-    (one .0, other .0, λ x y. same-tells t u _ _ _ (rewritable t 65536 p (sym (ap numberOf (one .0)) ∙ x)) (rewritable u 65536 q (sym (ap numberOf (other .0)) ∙ y)) (one .2 x) (other .2 y) (same .0) (same .1))
+    (one .0, other .0, λ x y. same-tells t u _ _ _ (rewritable t limit p (sym (ap numberOf (one .0)) ∙ x)) (rewritable u limit q (sym (ap numberOf (other .0)) ∙ y)) (one .2 x) (other .2 y) (same .0) (same .1))
 
 pub compare-spec : {M : Type 1} → statement M
 compare-spec =

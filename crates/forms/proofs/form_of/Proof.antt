@@ -1,3 +1,4 @@
+use Rattle.table.specs.Meaning.{limit}
 use mathlib.Core.Path.{sym, ap, _∙_}
 use native.Mathlib.Omega.{arith}
 use Rattle.laws.specs.DemandThree.{Bytes}
@@ -17,6 +18,7 @@ rewrite-requires : tie.Need-rewrite-requires
 rewrite-requires c κs = search needs
 
 returns : tie.Need-returns
+unfolding limit
 returns c =
     let a = c .before .before .before .before .before .before .args in
     let t = a .t .now in
