@@ -2,11 +2,10 @@
 use mathlib.Core.Path.{_≡_, refl, sym, ap, ap₂, subst, _∙_}
 use mathlib.Core.Bool.{Bool, true, false}
 use mathlib.Core.List.{List, [], _∷_}
-use Prim.Native.Nat.{ℕ, suc, _+_, _≤_, _<_}
+use Prim.Native.Nat.{ℕ, suc, _+_, _<_}
 use native.Mathlib.Omega.{arith}
 use lib.ListN.{length, getD, length-append, length-replicate}
 use lib.Dec.{T}
-use Rattle.table.specs.Bytes.{part}
 use Rattle.table.specs.Layout.{Layout, Entry, unused, used, baseOf}
 use Rattle.table.specs.FixedLayouts.{layoutOf, header, control, host, hfi, ssns, security, discovery, info, extended, noKind}
 use Rattle.table.specs.Objects.{sizeOf, sizeEntry, patched, heapOf, recEntry, heapEntry}
@@ -16,7 +15,6 @@ use Rattle.laws.specs.Lawful.{okRefs}
 use Rattle.laws.specs.SlotLaws.{length-patched}
 use Rattle.laws.specs.Fields.{imageIn, length-imageIn}
 use Rattle.laws.specs.ListWalk.{by-layout}
-use Rattle.images.proofs.Laws.{part-long}
 use Rattle.reader.specs.Accepted.{Accepted}
 use Rattle.reads.specs.declared.seats.Seat.{Seat}
 use Rattle.reads.specs.declared.seats.Seat.the-variants.{Nowhere, At}
@@ -24,9 +22,8 @@ use Rattle.reads.specs.Seats.{Seated, Good, Held, heapRecord}
 use Rattle.reads.specs.Told.{innerKind, toldEntry}
 use Rattle.reads.proofs.SeatLaws.{seats-good, record-held}
 use Rattle.reads.proofs.EntryLaws.{seated-at, entry-nowhere, entry-off, entry-on}
-use Rattle.reads.proofs.ObjectLaws.{seat-room}
 use Rattle.parts.specs.Parts.{Part, refsOf, allPlain, slotsIn, recordPart, partAt, recordBytes, bytesAt, spansOver, objectsOver}
-use Rattle.parts.proofs.PartLaws.{plain-part, nest-part, plain-bytes, nest-bytes, plain-each, inner-plain, sized-all, heaped-all}
+use Rattle.parts.proofs.PartLaws.{object-long, plain-part, nest-part, plain-bytes, nest-bytes, plain-each, inner-plain, sized-all, heaped-all}
 
 refs-ok : (k : ℕ) → T (okRefs 0 (layoutOf k .shape .keep) (layoutOf k .refs))
 unfolding header control host hfi ssns security discovery info extended noKind
@@ -37,19 +34,9 @@ pub patched-long : (t : List ℕ) (k a h : ℕ) → length (patched h (imageIn (
 patched-long t k a h = length-patched (layoutOf k .shape .keep) h (imageIn (layoutOf k) t a) (slotsIn (layoutOf k) t a) (refs-ok k) (length-imageIn (layoutOf k) t a)
 
 module _ (t : List ℕ) (ok : Accepted t) (k a : ℕ) (s : Seated t (layoutOf k) a true) where
-  -- ---- an object
-
-  pub object-room : (p : ℕ) → hasPlain p (layoutOf k .refs) ≡ true → partAt t k a p .at + partAt t k a p .len ≤ length t
-  object-room p e = subst (λ (q : Part). q .at + q .len ≤ length t) (sym (plain-part t ok k a s p e)) (seat-room t ok p k (seat (layoutOf k) a true) (refl, s))
-
-  pub object-span : (p : ℕ) → hasPlain p (layoutOf k .refs) ≡ true → partAt t k a p .span ≡ partAt t k a p .len
-  object-span p e = subst (λ (q : Part). q .span ≡ q .len) (sym (plain-part t ok k a s p e)) refl
-
-  pub object-bytes : (h p : ℕ) → hasPlain p (layoutOf k .refs) ≡ true → bytesAt t k a h p ≡ part t (partAt t k a p .at) (partAt t k a p .len)
-  object-bytes h p e = plain-bytes t ok k a s h p e ∙ sym (ap (λ (q : Part). part t (q .at) (q .len)) (plain-part t ok k a s p e))
-
-  object-long : (h p : ℕ) → hasPlain p (layoutOf k .refs) ≡ true → length (bytesAt t k a h p) ≡ partAt t k a p .span
-  object-long h p e = ap length (object-bytes h p e) ∙ part-long t (partAt t k a p .at) (partAt t k a p .len) (object-room p e) ∙ sym (object-span p e)
+  -- what a reference to an object names takes its span
+  plain-bytes-long : (h p : ℕ) → hasPlain p (layoutOf k .refs) ≡ true → length (bytesAt t k a h p) ≡ partAt t k a p .span
+  plain-bytes-long h p e = ap length (plain-bytes t ok k a s h p e) ∙ object-long t ok k a s p ∙ sym (ap (λ (q : Part). q .span) (plain-part t ok k a s p e))
 
   -- ---- what all references name, where what each names takes its span
 
@@ -66,7 +53,7 @@ module _ (t : List ℕ) (ok : Accepted t) (k a : ℕ) (s : Seated t (layoutOf k)
   all-long f h = ap length (heaped-all t ok k a s h) ∙ objects-long (refsOf k) f h ∙ sym (sized-all t ok k a s)
 
   plain-long : allPlain k ≡ true → (h : ℕ) → length (heapOf h (slotsIn (layoutOf k) t a)) ≡ sizeOf (slotsIn (layoutOf k) t a)
-  plain-long o = all-long (λ i b h. object-long h (getD (refsOf k) i 0) (plain-each k o i b))
+  plain-long o = all-long (λ i b h. plain-bytes-long h (getD (refsOf k) i 0) (plain-each k o i b))
 
 -- ---- a heap record
 
@@ -82,8 +69,8 @@ module _ (t : List ℕ) (ok : Accepted t) (k a : ℕ) (s : Seated t (layoutOf k)
   held : Held t (innerKind k) (heapRecord t k a)
   held = record-held t ok a k (refl, s)
 
-  nest-long : (h p : ℕ) → hasPlain p (layoutOf k .refs) ≡ false → length (bytesAt t k a h p) ≡ partAt t k a p .span
-  nest-long h p e =
+  nest-bytes-long : (h p : ℕ) → hasPlain p (layoutOf k .refs) ≡ false → length (bytesAt t k a h p) ≡ partAt t k a p .span
+  nest-bytes-long h p e =
       ap length (nest-bytes t ok k a s h p e)
       ∙ record-long t ok (innerKind k) h (heapRecord t k a) held (inner-plain k)
       ∙ sym (ap (λ (q : Part). q .span) (nest-part t ok k a s p e))
@@ -92,8 +79,8 @@ module _ (t : List ℕ) (ok : Accepted t) (k a : ℕ) (s : Seated t (layoutOf k)
   pub bytes-long : (h p : ℕ) → length (bytesAt t k a h p) ≡ partAt t k a p .span
   bytes-long h p = go (hasPlain p (layoutOf k .refs)) refl where
     go : (c : Bool) → hasPlain p (layoutOf k .refs) ≡ c → length (bytesAt t k a h p) ≡ partAt t k a p .span
-    go true e = object-long t ok k a s h p e
-    go false e = nest-long h p e
+    go true e = plain-bytes-long t ok k a s h p e
+    go false e = nest-bytes-long h p e
 
   pub slots-long : (h : ℕ) → length (heapOf h (slotsIn (layoutOf k) t a)) ≡ sizeOf (slotsIn (layoutOf k) t a)
   slots-long = all-long t ok k a s (λ i b h. bytes-long h (getD (refsOf k) i 0))

@@ -2,7 +2,7 @@
 use mathlib.Core.Path.{_≡_, refl, sym, ap, ap₂, subst, _∙_}
 use mathlib.Core.Bool.{Bool, true, false, _&&_, true≢false}
 use mathlib.Core.List.{List, [], _∷_, _++_}
-use Prim.Native.Nat.{ℕ, zero, suc, _+_, _-_, _*_, _/_, _%_, _≤_, _<_}
+use Prim.Native.Nat.{ℕ, zero, suc, _+_, _-_, _*_, _≤_, _<_}
 use native.Mathlib.Nat.{add-zero, zero-add, sub-zero, le-trans, mul-le-mul-left, mul-le-mul-right}
 use native.Mathlib.Numerals.{add-one}
 use native.Mathlib.Omega.{arith}
@@ -10,13 +10,12 @@ use lib.ListN.{length, getD, take, drop}
 use lib.Seq.{getD-take, drop-cons, drop-length}
 use lib.Dec.{eqb, lit<}
 use Rattle.table.specs.declared.Need.{Need}
-use Rattle.table.specs.declared.Need.the-variants.{Ignored, Required}
-use Rattle.table.specs.Bytes.{pick, part, num, every, Edit, edit}
-use Rattle.table.specs.Layout.{Shape, Layout, Refs, none, plain, nest, Slots, gone, rec, image, baseOf, offsets}
-use Rattle.table.specs.FixedLayouts.{layoutOf, header, control, host, hfi, ssns, security, discovery, info, extended, noKind, whenSet}
-use Rattle.table.specs.Objects.{under, readSlots, sizeOf, sizeEntry, sizeList, sizeBody, spanBody, stores, heapOf, ref6}
+use Rattle.table.specs.Bytes.{pick, part, every, Edit, edit}
+use Rattle.table.specs.Layout.{Shape, Layout, Refs, none, plain, nest, Slots, baseOf, offsets}
+use Rattle.table.specs.FixedLayouts.{layoutOf, header, control, host, hfi, ssns, security, discovery, info, extended, noKind}
+use Rattle.table.specs.Objects.{sizeOf, sizeEntry, sizeList, sizeBody, spanBody, stores, heapOf, ref6}
 use Rattle.table.specs.Meaning.{Meaning, meaning, heapLen}
-use Rattle.table.specs.Reads.{seat, hasPlain, needAt, placeAt}
+use Rattle.table.specs.Reads.{seat, hasPlain, placeAt}
 use Rattle.laws.specs.Fields.{Bytes, imageIn}
 use Rattle.laws.specs.ListWalk.{base-small}
 use Rattle.images.proofs.Laws.{by-kind, part-long, other-layout}
@@ -25,10 +24,11 @@ use Rattle.writer.proofs.RecordLaws.{ref-num, ref-for}
 use Rattle.reader.specs.Accepted.{Accepted}
 use Rattle.reads.specs.declared.seats.Seat.{Seat}
 use Rattle.reads.specs.declared.seats.Seat.the-variants.{Nowhere, At}
-use Rattle.reads.specs.Seats.{Seated, heapAt, extendedAt, heapRecord}
+use Rattle.reads.specs.Seats.{Seated, heapRecord}
 use Rattle.reads.specs.Told.{innerKind, imageOf, toldEntry, toldList, countOf, told}
 use Rattle.reads.proofs.ObjectLaws.{seat-room}
-use Rattle.reads.proofs.MeaningLaws.{place-is, told-all}
+use Rattle.reads.proofs.MeaningLaws.{told-all}
+use Rattle.reads.proofs.SlotLaws.{objectAt, heldSlot, slotsAt, slots-at}
 use Rattle.table.specs.Reads.{seatOf}
 use Rattle.parts.specs.Parts.{Part, refsOf, isPlain, allPlain, slotsIn, listOf, listFrom, objectPart, recordPart, partAt, recordBytes, bytesAt, spansOver, storesOver, objectsOver}
 
@@ -41,15 +41,8 @@ pub record Laid (t : List ℕ) (m : ℕ) (s : Seat) (p : ℕ) (need : List ℕ �
   pub inHeap : (h : ℕ) → heapOf h S ≡ recordBytes t m h s ++ heapOf (h + recordPart t m s .span) x
 
 module _ (t : List ℕ) (m : ℕ) (some : 0 < baseOf (layoutOf m)) (p : ℕ) (need : List ℕ → Need) (rest : Refs) (x : Slots rest) where
-  abbrev NestSlots : Type 0
-  NestSlots = Slots (nest p need (layoutOf m .shape) (layoutOf m .refs) rest)
-
-  abbrev slotOf : Seat → NestSlots
-  slotOf Nowhere = gone x
-  slotOf (At b on) = rec (imageIn (layoutOf m) t b) (slotsIn (layoutOf m) t b) x
-
-  slot-laid : (s : Seat) → Laid t m s p need (layoutOf m .shape) (layoutOf m .refs) rest x (slotOf s)
-  unfolding sizeOf stores heapOf recordPart recordBytes
+  slot-laid : (s : Seat) → Laid t m s p need (layoutOf m .shape) (layoutOf m .refs) rest x (heldSlot t s x)
+  unfolding sizeOf stores heapOf recordPart recordBytes slotsIn imageIn
   slot-laid Nowhere = record {
     sized = sym (zero-add (sizeOf x));
     stored = λ h. ap (λ (i : ℕ). edit p (ref6 0 0) ∷ stores i x) (sym (add-zero h));
@@ -64,30 +57,17 @@ module _ (t : List ℕ) (m : ℕ) (some : 0 < baseOf (layoutOf m)) (p : ℕ) (ne
 -- ---- the slots of the record of kind k at a
 
 module _ (t : List ℕ) (ok : Accepted t) (k a : ℕ) (s : Seated t (layoutOf k) a true) where
-  abbrev here : List ℕ
-  here = imageIn (layoutOf k) t a
-
-  abbrev nestOf : (p : ℕ) (need : List ℕ → Need) (shape : Shape) (own rest : Refs) → Slots rest → Slots (nest p need shape own rest)
-  nestOf p need shape own rest x =
-      let y = image (shape .keep) (drop (num t (a + p) 4) t) in
-      under (need here) (gone x) (pick (eqb (num t (a + p + 4) 2) 0) (gone x) (rec y (readSlots t (num t (a + p) 4) y own) x))
-
   -- the references of rs are among those of kind k
   abbrev Fits : Refs → Type 0
   Fits none = 0 ≤ k
-  Fits (plain p need content rest) = (hasPlain p (layoutOf k .refs) ≡ true) × (needAt p (layoutOf k .refs) here ≡ need here) × Fits rest
+  Fits (plain p need content rest) = (hasPlain p (layoutOf k .refs) ≡ true) × Fits rest
   Fits (nest p need shape own rest) =
-      (hasPlain p (layoutOf k .refs) ≡ false) × ((x : Slots rest) → Laid t (innerKind k) (heapRecord t k a) p need shape own rest x (nestOf p need shape own rest x)) × Fits rest
+      (hasPlain p (layoutOf k .refs) ≡ false)
+      × ((x : Slots rest) → Laid t (innerKind k) (heapRecord t k a) p need shape own rest x (heldSlot t (heapRecord t k a) x))
+      × Fits rest
 
-  abbrev named : ℕ → List ℕ
-  named p = part t (placeAt t p (seat (layoutOf k) a true) .at) (placeAt t p (seat (layoutOf k) a true) .len)
-
-  named-long : (p : ℕ) → length (named p) ≡ placeAt t p (seat (layoutOf k) a true) .len
-  named-long p = part-long t _ _ (seat-room t ok p k (seat (layoutOf k) a true) (refl, s))
-
-  object-at : (p : ℕ) (need : Need) → hasPlain p (layoutOf k .refs) ≡ true → needAt p (layoutOf k .refs) here ≡ need → under need [] (part t (num t (a + p) 4) (num t (a + p + 4) 2)) ≡ named p
-  unfolding imageIn
-  object-at p need h e = sym (place-is t (layoutOf k) a p need h e)
+  pub object-long : (p : ℕ) → length (objectAt t k a p) ≡ placeAt t p (seat (layoutOf k) a true) .len
+  object-long p = part-long t _ _ (seat-room t ok p k (seat (layoutOf k) a true) (refl, s))
 
   -- the part of a reference to an object, and to a heap record
   abbrev heaped : Part
@@ -101,7 +81,7 @@ module _ (t : List ℕ) (ok : Accepted t) (k a : ℕ) (s : Seated t (layoutOf k)
   unfolding partAt
   nest-part p h = ap (λ (c : Bool). pick c (objectPart (placeAt t p (seat (layoutOf k) a true))) heaped) h
 
-  pub plain-bytes : (h p : ℕ) → hasPlain p (layoutOf k .refs) ≡ true → bytesAt t k a h p ≡ named p
+  pub plain-bytes : (h p : ℕ) → hasPlain p (layoutOf k .refs) ≡ true → bytesAt t k a h p ≡ objectAt t k a p
   unfolding bytesAt
   plain-bytes h p e =
       ap (λ (c : Bool). pick c (part t (partAt t k a p .at) (partAt t k a p .len)) (recordBytes t (innerKind k) h (heapRecord t k a))) e
@@ -111,38 +91,34 @@ module _ (t : List ℕ) (ok : Accepted t) (k a : ℕ) (s : Seated t (layoutOf k)
   unfolding bytesAt
   nest-bytes h p e = ap (λ (c : Bool). pick c (part t (partAt t k a p .at) (partAt t k a p .len)) (recordBytes t (innerKind k) h (heapRecord t k a))) e
 
-  slots-sized : (rs : Refs) → Fits rs → sizeOf (readSlots t a here rs) ≡ spansOver t k a (offsets rs)
-  unfolding sizeOf readSlots spansOver
+  slots-sized : (rs : Refs) → Fits rs → sizeOf (slotsAt t k a rs) ≡ spansOver t k a (offsets rs)
+  unfolding sizeOf slotsAt spansOver
   slots-sized none g = refl
-  slots-sized (plain p need content rest) g =
-      ap₂ _+_ (ap length (object-at p (need here) (g .0) (g .1)) ∙ named-long p ∙ sym (ap (λ (q : Part). q .span) (plain-part p (g .0)))) (slots-sized rest (g .2))
+  slots-sized (plain p need content rest) g = ap₂ _+_ (object-long p ∙ sym (ap (λ (q : Part). q .span) (plain-part p (g .0)))) (slots-sized rest (g .1))
   slots-sized (nest p need shape own rest) g =
-      g .1 (readSlots t a here rest) .sized ∙ ap₂ _+_ (sym (ap (λ (q : Part). q .span) (nest-part p (g .0)))) (slots-sized rest (g .2))
+      g .1 (slotsAt t k a rest) .sized ∙ ap₂ _+_ (sym (ap (λ (q : Part). q .span) (nest-part p (g .0)))) (slots-sized rest (g .2))
 
-  slots-stored : (rs : Refs) → Fits rs → (h : ℕ) → stores h (readSlots t a here rs) ≡ storesOver t k a h (offsets rs)
-  unfolding stores readSlots storesOver
+  slots-stored : (rs : Refs) → Fits rs → (h : ℕ) → stores h (slotsAt t k a rs) ≡ storesOver t k a h (offsets rs)
+  unfolding stores slotsAt storesOver
   slots-stored none g h = refl
   slots-stored (plain p need content rest) g h =
-      let b : List ℕ = under (need here) [] (part t (num t (a + p) 4) (num t (a + p + 4) 2)) in
-      let e : length b ≡ placeAt t p (seat (layoutOf k) a true) .len = ap length (object-at p (need here) (g .0) (g .1)) ∙ named-long p in
-      ap₂ (λ (r : List ℕ) (es : List Edit). edit p r ∷ es) (sym (ref-for h b)) (slots-stored rest (g .2) (h + length b))
-      ∙ ap (λ (n : ℕ). edit p (refNum h n) ∷ storesOver t k a (h + n) (offsets rest)) e
+      let b : List ℕ = objectAt t k a p in
+      ap₂ (λ (r : List ℕ) (es : List Edit). edit p r ∷ es) (sym (ref-for h b)) (slots-stored rest (g .1) (h + length b))
+      ∙ ap (λ (n : ℕ). edit p (refNum h n) ∷ storesOver t k a (h + n) (offsets rest)) (object-long p)
       ∙ sym (ap (λ (q : Part). edit p (refNum h (q .len)) ∷ storesOver t k a (h + q .span) (offsets rest)) (plain-part p (g .0)))
   slots-stored (nest p need shape own rest) g h =
-      g .1 (readSlots t a here rest) .stored h
+      g .1 (slotsAt t k a rest) .stored h
       ∙ ap (λ (es : List Edit). edit p (refNum h (heaped .len)) ∷ es) (slots-stored rest (g .2) (h + heaped .span))
       ∙ sym (ap (λ (q : Part). edit p (refNum h (q .len)) ∷ storesOver t k a (h + q .span) (offsets rest)) (nest-part p (g .0)))
 
-  slots-heaped : (rs : Refs) → Fits rs → (h : ℕ) → heapOf h (readSlots t a here rs) ≡ objectsOver t k a h (offsets rs)
-  unfolding heapOf readSlots objectsOver
+  slots-heaped : (rs : Refs) → Fits rs → (h : ℕ) → heapOf h (slotsAt t k a rs) ≡ objectsOver t k a h (offsets rs)
+  unfolding heapOf slotsAt objectsOver
   slots-heaped none g h = refl
   slots-heaped (plain p need content rest) g h =
-      let b : List ℕ = under (need here) [] (part t (num t (a + p) 4) (num t (a + p + 4) 2)) in
-      let o : b ≡ named p = object-at p (need here) (g .0) (g .1) in
-      ap₂ (λ (r u : List ℕ). r ++ u) (o ∙ sym (plain-bytes h p (g .0))) (slots-heaped rest (g .2) (h + length b))
-      ∙ ap (λ (n : ℕ). bytesAt t k a h p ++ objectsOver t k a (h + n) (offsets rest)) (ap length o ∙ named-long p ∙ sym (ap (λ (q : Part). q .span) (plain-part p (g .0))))
+      ap₂ (λ (r u : List ℕ). r ++ u) (sym (plain-bytes h p (g .0))) (slots-heaped rest (g .1) (h + length (objectAt t k a p)))
+      ∙ ap (λ (n : ℕ). bytesAt t k a h p ++ objectsOver t k a (h + n) (offsets rest)) (object-long p ∙ sym (ap (λ (q : Part). q .span) (plain-part p (g .0))))
   slots-heaped (nest p need shape own rest) g h =
-      g .1 (readSlots t a here rest) .inHeap h
+      g .1 (slotsAt t k a rest) .inHeap h
       ∙ ap₂ (λ (r u : List ℕ). r ++ u) (sym (nest-bytes h p (g .0))) (slots-heaped rest (g .2) (h + heaped .span))
       ∙ sym (ap (λ (q : Part). bytesAt t k a h p ++ objectsOver t k a (h + q .span) (offsets rest)) (nest-part p (g .0)))
 
@@ -152,63 +128,19 @@ module _ (t : List ℕ) (ok : Accepted t) (a : ℕ) where
   abbrev FitsAll : ℕ → Type 0
   FitsAll k = (s : Seated t (layoutOf k) a true) → Fits t ok k a s (layoutOf k .refs)
 
-  -- the heap record that the reference at r names, or none, as a slot
-  named-slot : (m : ℕ) (some : 0 < baseOf (layoutOf m)) (r p : ℕ) (need : List ℕ → Need) (rest : Refs) (x : Slots rest)
-      → pick (eqb (num t (r + 4) 2) 0) (gone x) (rec (imageIn (layoutOf m) t (num t r 4)) (slotsIn (layoutOf m) t (num t r 4)) x) ≡ slotOf t m some p need rest x (heapAt t r)
-  unfolding heapAt
-  named-slot m some r p need rest x = go (eqb (num t (r + 4) 2) 0) where
-    go : (c : Bool) → pick c (gone x) (rec (imageIn (layoutOf m) t (num t r 4)) (slotsIn (layoutOf m) t (num t r 4)) x) ≡ slotOf t m some p need rest x (pick c Nowhere (At (num t r 4) true))
-    go true = refl
-    go false = refl
-
-  hfi-slot : (some : 0 < baseOf (layoutOf 7)) (x : Slots none) (s : Seated t (layoutOf 3) a true)
-      → nestOf t ok 3 a s 16 (λ img. Required) (layoutOf 7 .shape) (layoutOf 7 .refs) none x ≡ slotOf t 7 some 16 (λ img. Required) none x (heapRecord t 3 a)
-  unfolding heapRecord imageIn slotsIn
-  hfi-slot some x s = named-slot 7 some (a + 16) 16 (λ img. Required) none x
-
-  ssns-slot : (some : 0 < baseOf (layoutOf 9)) (x : Slots none) (s : Seated t (layoutOf 4) a true)
-      → nestOf t ok 4 a s 60 (whenSet 3 2 4 4) (layoutOf 9 .shape) (layoutOf 9 .refs) none x ≡ slotOf t 9 some 60 (whenSet 3 2 4 4) none x (heapRecord t 4 a)
-  unfolding heapRecord extendedAt layoutOf imageIn slotsIn
-  ssns-slot some x s = go (eqb (num (image (ssns .shape .keep) (drop a t)) 3 2 / 16 % 2) 0) where
-    go : (c : Bool) → under (pick c Ignored Required) (gone x)
-        (pick (eqb (num t (a + 60 + 4) 2) 0) (gone x) (rec (imageIn extended t (num t (a + 60) 4)) (slotsIn extended t (num t (a + 60) 4)) x))
-        ≡ slotOf t 9 some 60 (whenSet 3 2 4 4) none x (pick c Nowhere (heapAt t (a + 60)))
-    go true = refl
-    go false = named-slot 9 some (a + 60) 60 (whenSet 3 2 4 4) none x
-
   all-fit : (k : ℕ) → FitsAll k
   unfolding layoutOf header host hfi ssns security discovery info extended
   all-fit =
       by-kind FitsAll
-      (λ s. (refl, refl, omega arith))
+      (λ s. (refl, omega arith))
       (λ s. unfold control in omega arith)
-      (λ s. (refl, refl, omega arith))
-      (λ s. (refl, (λ x. subst (Laid t 7 (heapRecord t 3 a) 16 _ _ _ none x) (sym (hfi-slot (lit< tt) x s)) (slot-laid t 7 (lit< tt) 16 _ none x (heapRecord t 3 a))), omega arith))
-      (λ s. (
-        refl,
-        refl,
-        (
-          refl,
-          refl,
-          (
-            refl,
-            refl,
-            (
-              refl,
-              refl,
-              (
-                refl,
-                (λ x. subst (Laid t 9 (heapRecord t 4 a) 60 _ _ _ none x) (sym (ssns-slot (lit< tt) x s)) (slot-laid t 9 (lit< tt) 60 _ none x (heapRecord t 4 a))),
-                omega arith,
-              ),
-            ),
-          ),
-        ),
-      ))
-      (λ s. (refl, refl, (refl, refl, (refl, refl, (refl, refl, (refl, refl, (refl, refl, omega arith)))))))
-      (λ s. (refl, refl, (refl, refl, omega arith)))
-      (λ s. (refl, refl, omega arith))
-      (λ s. (refl, refl, omega arith))
+      (λ s. (refl, omega arith))
+      (λ s. (refl, (λ x. slot-laid t 7 (lit< tt) 16 _ none x (heapRecord t 3 a)), omega arith))
+      (λ s. (refl, (refl, (refl, (refl, (refl, (λ x. slot-laid t 9 (lit< tt) 60 _ none x (heapRecord t 4 a)), omega arith))))))
+      (λ s. (refl, (refl, (refl, (refl, (refl, (refl, omega arith)))))))
+      (λ s. (refl, (refl, omega arith)))
+      (λ s. (refl, omega arith))
+      (λ s. (refl, omega arith))
       (λ k o s. subst (λ (l : Layout). Fits t ok k a s (l .refs)) (sym (other-layout k o)) (unfold noKind in omega arith))
 
 -- ---- all references of a record
@@ -216,15 +148,15 @@ module _ (t : List ℕ) (ok : Accepted t) (a : ℕ) where
 module _ (t : List ℕ) (ok : Accepted t) (k a : ℕ) (s : Seated t (layoutOf k) a true) where
   pub sized-all : sizeOf (slotsIn (layoutOf k) t a) ≡ spansOver t k a (refsOf k)
   unfolding slotsIn
-  sized-all = slots-sized t ok k a s (layoutOf k .refs) (all-fit t ok a k s)
+  sized-all = ap sizeOf (slots-at t k a) ∙ slots-sized t ok k a s (layoutOf k .refs) (all-fit t ok a k s)
 
   pub stored-all : (h : ℕ) → stores h (slotsIn (layoutOf k) t a) ≡ storesOver t k a h (refsOf k)
   unfolding slotsIn
-  stored-all h = slots-stored t ok k a s (layoutOf k .refs) (all-fit t ok a k s) h
+  stored-all h = ap (stores h) (slots-at t k a) ∙ slots-stored t ok k a s (layoutOf k .refs) (all-fit t ok a k s) h
 
   pub heaped-all : (h : ℕ) → heapOf h (slotsIn (layoutOf k) t a) ≡ objectsOver t k a h (refsOf k)
   unfolding slotsIn
-  heaped-all h = slots-heaped t ok k a s (layoutOf k .refs) (all-fit t ok a k s) h
+  heaped-all h = ap (heapOf h) (slots-at t k a) ∙ slots-heaped t ok k a s (layoutOf k .refs) (all-fit t ok a k s) h
 
 -- ---- kinds whose references are all to objects
 

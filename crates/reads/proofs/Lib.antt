@@ -6,3 +6,4 @@ pub mod MeaningLaws
 pub mod EntryLaws
 pub mod OwnLaws
 pub mod LentLaws
+pub mod SlotLaws

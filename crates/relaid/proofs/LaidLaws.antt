@@ -21,11 +21,10 @@ use Rattle.writer.proofs.RecordLaws.{length-ref}
 use Rattle.reader.specs.Accepted.{Accepted}
 use Rattle.reads.specs.declared.seats.Seat.the-variants.{At}
 use Rattle.reads.specs.Seats.{Seated}
-use Rattle.reads.proofs.ObjectLaws.{seat-room}
-use Rattle.images.proofs.Laws.{part-long}
-use Rattle.parts.specs.Parts.{refsOf, slotsIn, partAt, recordPart, bytesAt, recordBytes, spansOver, storesOver, objectsOver}
-use Rattle.parts.proofs.PartLaws.{sized-all, stored-all, heaped-all, plain-bytes, spans-more, spans-done}
-use Rattle.parts.proofs.LengthLaws.{patched-long, bytes-long, object-span}
+use Rattle.reads.proofs.SlotLaws.{objectAt}
+use Rattle.parts.specs.Parts.{Part, refsOf, slotsIn, partAt, recordPart, bytesAt, recordBytes, spansOver, storesOver, objectsOver}
+use Rattle.parts.proofs.PartLaws.{sized-all, stored-all, heaped-all, plain-part, plain-bytes, spans-more, spans-done}
+use Rattle.parts.proofs.LengthLaws.{patched-long, bytes-long}
 use Rattle.relaid.specs.Laid.{laid, applyAt, named}
 
 -- ---- stores into a record that is laid
@@ -161,24 +160,18 @@ module _ (t : List ℕ) (ok : Accepted t) (k a : ℕ) (s : Seated t (layoutOf k)
   -- ---- an object
 
   module _ (p : ℕ) (e : hasPlain p (layoutOf k .refs) ≡ true) where
-    abbrev object : List ℕ
-    object = part t (placeAt t p (seat (layoutOf k) a true) .at) (placeAt t p (seat (layoutOf k) a true) .len)
-
-    pub object-laid : (xs : List ℕ) → xs ≡ object → (h : ℕ) → xs ≡ bytesAt t k a h p
+    pub object-laid : (xs : List ℕ) → xs ≡ objectAt t k a p → (h : ℕ) → xs ≡ bytesAt t k a h p
     object-laid xs q h = q ∙ sym (plain-bytes t ok k a s h p e)
 
     module _ (len : ℕ) (q : len ≡ placeAt t p (seat (layoutOf k) a true) .len) where
-      long : len ≡ length object
-      long = q ∙ sym (part-long t (placeAt t p (seat (layoutOf k) a true) .at) (placeAt t p (seat (layoutOf k) a true) .len) (seat-room t ok p k (seat (layoutOf k) a true) (refl, s)))
-
       pub object-size : len ≡ partAt t k a p .span
-      object-size = long ∙ ap length (object-laid object refl 0) ∙ bytes-long t ok k a s 0 p
+      object-size = q ∙ sym (ap (λ (x : Part). x .span) (plain-part t ok k a s p e))
 
       pub object-len : len ≡ partAt t k a p .len
-      object-len = object-size ∙ object-span t ok k a s p e
+      object-len = q ∙ sym (ap (λ (x : Part). x .len) (plain-part t ok k a s p e))
 
       pub object-none : len ≡ 0 → (h : ℕ) → bytesAt t k a h p ≡ []
-      object-none z h = sym (object-laid object refl h) ∙ ap (λ (n : ℕ). part t (placeAt t p (seat (layoutOf k) a true) .at) n) (sym q ∙ z)
+      object-none z h = plain-bytes t ok k a s h p e ∙ ap (part t (placeAt t p (seat (layoutOf k) a true) .at)) (sym q ∙ z)
 
   -- ---- a heap record with its objects behind it
 
