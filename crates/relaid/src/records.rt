@@ -51,7 +51,8 @@ fn lay_unused(out: &mut [u8], d: usize, u: usize, kind: u8) -> usize
     requires { ⌜ d + baseOf (layoutOf kind) ≤ length (now out) ⌝ }
     ensures { λ r. ⌜ (r ≡ u) × (now (out .exit) ≡ splice (now (out .entry)) d (replicate (baseOf (layoutOf kind)) 0)) ⌝ }
 {
-    fill_zero(out, d, kinds::base_size(kind));
+    let size = kinds::base_size(kind);
+    fill_zero(out, d, size);
     u
 }
 

@@ -11,6 +11,9 @@ ghost use Rattle.table.specs.Bytes.{part, splice, total, checksum};
 ghost use Rattle.reader.specs.Accepted.{Accepted};
 ghost use Rattle.seat_reads.specs.Driver.{driverOf};
 
+// The header's byte that makes the sum of all bytes 0.
+const CHECKSUM: usize = 9;
+
 // The sum of `x`, which has the driver signature of `t` as its `d` bytes from `h` on.
 fn form_sum(x: &[u8], t: &[u8], h: usize, d: usize) -> u8
     requires { ⌜ Accepted (now t) × (h + d ≤ length (now x)) × (part (now x) h d ≡ driverOf (now t)) ⌝ }
@@ -31,5 +34,5 @@ pub fn seal(out: &mut [u8], n: usize, t: &[u8], h: usize, d: usize)
     ensures { λ r. ⌜ now (out .exit) ≡ splice (now (out .entry)) 9 (checksum (take n (now (out .entry))) ∷ []) ⌝ }
 {
     let sum = form_sum(&out[0..n], t, h, d);
-    put_u8(out, 9, std::num::wrapping_sub_u8(0, sum));
+    put_u8(out, CHECKSUM, std::num::wrapping_sub_u8(0, sum));
 }
