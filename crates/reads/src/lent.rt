@@ -21,7 +21,7 @@ pub fn part_of(t: &[u8], at: usize, len: usize) -> &[u8]
     &t[at..end]
 }
 
-// The heap, which stands where `region` says and is not empty.
+// The heap, which stands where `region` says. An empty one has no place and is not asked for.
 fn heap_of(t: &[u8], region: Region) -> &[u8]
     requires { ⌜ Accepted (now t) × (region ≡ heapIn (now t)) × (0 < region .len) ⌝ }
     ensures { λ r. ⌜ now r ≡ part (now (t .entry)) (region .at) (region .len) ⌝ }
@@ -29,7 +29,7 @@ fn heap_of(t: &[u8], region: Region) -> &[u8]
     part_of(t, region.at, region.len)
 }
 
-// What lies in the heap, `len` bytes from place `at` of the table on: a part of the heap. None have no place.
+// `len` bytes that lie in the heap, from place `at` of the table on: a part of the heap. Where there are none, their place says nothing.
 pub fn heap_part(t: &[u8], at: usize, len: usize) -> &[u8]
     requires { ⌜ Accepted (now t) × (0 < len → InHeap (now t) at len) ⌝ }
     ensures { λ r. ⌜ now r ≡ part (now (t .entry)) at len ⌝ }
