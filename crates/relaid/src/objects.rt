@@ -1,6 +1,7 @@
 // What a reference names, laid anew where the heap goes on, and the reference to it.
 use parts::references::inner_kind;
 use reads::seats::Seat;
+use seat_reads::image::image_into;
 use seat_reads::objects::object_bytes;
 use seat_reads::objects::object_len;
 use writer::records::put_slot;
@@ -22,13 +23,13 @@ ghost use Rattle.reads.specs.Seats.{Seated, Held};
 ghost use Rattle.parts.specs.Parts.{allPlain, slotsIn, recordPart, partAt, recordBytes, bytesAt};
 ghost use Rattle.relaid.specs.Laid.{laid, named};
 
-// A record's image, into its own part of `out`.
+// The image of a used record, into its own part of `out`.
 pub fn put_record(out: &mut [u8], d: usize, t: &[u8], kind: u8, a: usize)
-    requires { ⌜ (a + baseOf (layoutOf kind) ≤ length (now t)) × (d + baseOf (layoutOf kind) ≤ length (now out)) ⌝ }
+    requires { ⌜ Accepted (now t) × Seated (now t) (layoutOf kind) a true × (d + baseOf (layoutOf kind) ≤ length (now out)) ⌝ }
     ensures { λ r. ⌜ now (out .exit) ≡ splice (now (out .entry)) d (imageIn (layoutOf kind) (now (t .entry)) a) ⌝ }
 {
     let end = d + kinds::base_size(kind);
-    images::put_image(&mut out[d..end], 0, t, kind, a);
+    image_into(&mut out[d..end], t, kind, a);
 }
 
 // The object that the reference at `p` of the record at `a` names, from `h` on, and the reference in the record laid at `d`; the first byte behind the object.

@@ -21,7 +21,7 @@ put-slot-requires c κs = search needs
 
 put-record-requires : tie.Need-put-record-requires
 unfolding recordPart
-put-record-requires c κs = let s = c .before .before .before .before .before .before .before .before in (s .pre .0 .1 .within, omega (arith, s .pre .1, c .before .before .before .put-slot .kept .0))
+put-record-requires c κs = let s = c .before .before .before .before .before .before .before .before in (s .pre .0 .0, s .pre .0 .1, omega (arith, s .pre .1, c .before .before .before .put-slot .kept .0))
 
 add-lay-objects : tie.Need-add-lay-objects
 unfolding recordPart
