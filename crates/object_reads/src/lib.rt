@@ -8,7 +8,7 @@ use reads::seats::Seat;
 use reads::seats::seat_of;
 use table::Place;
 ghost use mathlib.Core.Path.{_≡_};
-ghost use Prim.Native.Nat.{_≤_};
+ghost use Prim.Native.Nat.{_+_, _≤_};
 ghost use lib.ListN.{length};
 ghost use Rattle.table.specs.Layout.{baseOf};
 ghost use Rattle.table.specs.FixedLayouts.{layoutOf};
@@ -42,7 +42,7 @@ pub fn place_in(t: &[u8], kind: u8, position: usize, off: usize) -> Place
 // That object, a part of the heap; empty where refused or absent.
 pub fn object_in(t: &[u8], kind: u8, position: usize, off: usize) -> &[u8]
     requires { ⌜ Accepted (now t) ⌝ }
-    ensures { λ r. ⌜ now r ≡ objectIn (now (t .entry)) kind position off ⌝ }
+    ensures { λ r. ⌜ (now r ≡ objectIn (now (t .entry)) kind position off) × (r .ptr .0 ≡ t .entry .ptr .0) × (r .ptr .1 ≡ t .entry .ptr .1 + placeAt (now (t .entry)) off (seatOf (now (t .entry)) kind position) .at) ⌝ }
 {
     let p = place_in(t, kind, position, off);
     let at = p.at;
@@ -61,9 +61,9 @@ pub fn object_place(t: &[u8], kind: u8, position: usize, off: usize) -> Place
     place_in(t, kind, position, off)
 }
 
-// The object: exactly the caller's own part.
+// The object: exactly the caller's own part, by its bytes and by where it starts.
 pub fn object(t: &[u8], kind: u8, position: usize, off: usize) -> &[u8]
-    ensures { λ r. ⌜ now r ≡ readObject (now (t .entry)) kind position off ⌝ }
+    ensures { λ r. ⌜ (now r ≡ readObject (now (t .entry)) kind position off) × (r .ptr .0 ≡ t .entry .ptr .0) × (r .ptr .1 ≡ t .entry .ptr .1 + readPlace (now (t .entry)) kind position off .at) ⌝ }
 {
     let a = reader::check(t);
     if a.number != 0 {

@@ -14,7 +14,7 @@ use Rattle.table.specs.declared.Need.{Need}
 use Rattle.table.specs.declared.Need.the-variants.{Ignored, Optional, Required}
 use Rattle.table.specs.declared.Place.{Place}
 use Rattle.table.specs.Bytes.{pick, num}
-use Rattle.table.specs.Layout.{Layout, Env, Refs, none, plain, nest, baseOf}
+use Rattle.table.specs.Layout.{Layout, Env, Refs, none, plain, nest, baseOf, referenceAt}
 use Rattle.table.specs.FixedLayouts.{layoutOf, header, control, host, hfi, ssns, security, discovery, info, extended, noKind}
 use Rattle.table.specs.Objects.{under}
 use Rattle.table.specs.Rules.{answer, done, refRule, plainRule, refsRule}
@@ -156,6 +156,24 @@ seat-room t ok q k s g = seat-placed t ok q k s g .0
 -- an object that is there lies in the heap
 pub seat-heap : (t : List ℕ) (ok : Accepted t) (q k : ℕ) (s : Seat) → Good t k s → 0 < placeAt t q s .len → InHeap t (placeAt t q s .at) (placeAt t q s .len)
 seat-heap t ok q k s g = seat-placed t ok q k s g .1
+
+-- one that is not there starts at 0
+abbrev Starts : Place → Type 0
+Starts p = pick {X = ℕ} (eqb (p .len) 0) 0 (p .at) ≡ p .at
+
+pub absent-start : (t : List ℕ) (q : ℕ) (s : Seat) → pick (eqb (placeAt t q s .len) 0) 0 (placeAt t q s .at) ≡ placeAt t q s .at
+absent-start t q nowhere = refl
+absent-start t q (seat l a on) = go (hasPlain q (l .refs)) on (needAt q (l .refs) (shown t l a on)) (named (eqb (referenceAt t (a + q) .len) 0) refl) where
+  named : (c : Bool) → eqb (referenceAt t (a + q) .len) 0 ≡ c → Starts (refPlace t (a + q))
+  named true e = rw e refl
+  named false e = rw (e, e) refl
+
+  go : (c d : Bool) (n : Need) → Starts (refPlace t (a + q)) → Starts (pick c (pick d (under n (noPlace done) (refPlace t (a + q))) (noPlace done)) (noPlace (answer 16 0 0)))
+  go false d n z = refl
+  go true false n z = refl
+  go true true Ignored z = refl
+  go true true Optional z = z
+  go true true Required z = z
 
 pub accepted : (t : List ℕ) → check t .number ≡ 0 → Accepted t
 accepted t e = record { good = check-zero t e }

@@ -5,17 +5,18 @@ use table::Region;
 ghost use mathlib.Core.Path.{_≡_};
 ghost use Prim.Native.Nat.{_+_, _≤_, _<_};
 ghost use lib.ListN.{length};
-ghost use Rattle.table.specs.Bytes.{part};
+ghost use lib.Dec.{eqb};
+ghost use Rattle.table.specs.Bytes.{part, pick};
 ghost use Rattle.table.specs.Layout.{baseOf};
 ghost use Rattle.table.specs.FixedLayouts.{layoutOf};
 ghost use Rattle.table.specs.Numbers.{heapIn};
 ghost use Rattle.reader.specs.Accepted.{Accepted};
 ghost use Rattle.reads.specs.Seats.{InHeap, Standing};
 
-// `len` of the caller's own bytes.
+// `len` of the caller's own bytes, from place `at` on: not equal ones but these.
 pub fn part_of(t: &[u8], at: usize, len: usize) -> &[u8]
     requires { ⌜ at + len ≤ length (now t) ⌝ }
-    ensures { λ r. ⌜ now r ≡ part (now (t .entry)) at len ⌝ }
+    ensures { λ r. ⌜ (now r ≡ part (now (t .entry)) at len) × (r .ptr .0 ≡ t .entry .ptr .0) × (r .ptr .1 ≡ t .entry .ptr .1 + at) ⌝ }
 {
     let end = at + len;
     &t[at..end]
@@ -24,7 +25,7 @@ pub fn part_of(t: &[u8], at: usize, len: usize) -> &[u8]
 // The heap, which stands where `region` says. An empty one has no place and is not asked for.
 fn heap_of(t: &[u8], region: Region) -> &[u8]
     requires { ⌜ Accepted (now t) × (region ≡ heapIn (now t)) × (0 < region .len) ⌝ }
-    ensures { λ r. ⌜ now r ≡ part (now (t .entry)) (region .at) (region .len) ⌝ }
+    ensures { λ r. ⌜ (now r ≡ part (now (t .entry)) (region .at) (region .len)) × (r .ptr .0 ≡ t .entry .ptr .0) × (r .ptr .1 ≡ t .entry .ptr .1 + region .at) ⌝ }
 {
     part_of(t, region.at, region.len)
 }
@@ -32,7 +33,7 @@ fn heap_of(t: &[u8], region: Region) -> &[u8]
 // `len` bytes that lie in the heap, from place `at` of the table on: a part of the heap. Where there are none, their place says nothing.
 pub fn heap_part(t: &[u8], at: usize, len: usize) -> &[u8]
     requires { ⌜ Accepted (now t) × (0 < len → InHeap (now t) at len) ⌝ }
-    ensures { λ r. ⌜ now r ≡ part (now (t .entry)) at len ⌝ }
+    ensures { λ r. ⌜ (now r ≡ part (now (t .entry)) at len) × (r .ptr .0 ≡ t .entry .ptr .0) × (r .ptr .1 ≡ t .entry .ptr .1 + pick (eqb len 0) 0 at) ⌝ }
 {
     if len == 0 {
         return part_of(t, 0, 0);

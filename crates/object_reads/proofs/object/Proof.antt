@@ -18,7 +18,8 @@ part-of-requires c κs = search needs
 returns : tie.Need-returns
 unfolding readObject readPlace
 returns c = let t = c .before .before .before .before .before .args .t .now in let e = ap (λ (x : Answer). x .number) (c .before .before .before .check .ensures) in
-    rw (ne-eqb (check t .number) 0 (λ z. c .before .if1 .taken (e ∙ z))) (c .part-of .ensures)
+    let n = ne-eqb (check t .number) 0 (λ z. c .before .if1 .taken (e ∙ z)) in
+    (rw n (c .part-of .ensures .0), c .part-of .ensures .1, rw n (c .part-of .ensures .2))
 
 object-in-requires : tie.Need-object-in-requires
 object-in-requires c κs = accepted (c .before .before .before .before .args .t .now) (sym (ap (λ (x : Answer). x .number) (c .before .before .check .ensures)) ∙ c .if1 .left)
@@ -26,7 +27,8 @@ object-in-requires c κs = accepted (c .before .before .before .before .args .t 
 returns-2 : tie.Need-returns-2
 unfolding readObject readPlace objectIn
 returns-2 c = let t = c .before .before .before .before .before .args .t .now in let e = ap (λ (x : Answer). x .number) (c .before .before .before .check .ensures) in
-    rw (eq-eqb (check t .number) 0 (sym e ∙ c .before .if1 .left)) (c .object-in .ensures)
+    let n = eq-eqb (check t .number) 0 (sym e ∙ c .before .if1 .left) in
+    (rw n (c .object-in .ensures .0), c .object-in .ensures .1, rw n (c .object-in .ensures .2))
 
 pub object-spec : {M : Type 1} → statement M
 object-spec =

@@ -1,4 +1,4 @@
-use Rattle.reads.proofs.ObjectLaws.{seat-heap}
+use Rattle.reads.proofs.ObjectLaws.{absent-start, seat-heap}
 use Rattle.reads.proofs.SeatLaws.{seats-good}
 use Rattle.reads.specs.Objects.{objectIn}
 use Rattle.table.specs.Reads.{seatOf}
@@ -15,7 +15,9 @@ heap-part-requires c κs = let s = c .before .before in let a = s .args in let t
 
 returns : tie.Need-returns
 unfolding objectIn
-returns c = rw (← c .before .place-in .ensures) (c .heap-part .ensures)
+returns c = let s = c .before .before .before in let a = s .args in
+    let e = absent-start (a .t .now) (a .off) (seatOf (a .t .now) (a .kind) (a .position)) in
+    (rw (← c .before .place-in .ensures) (c .heap-part .ensures .0), c .heap-part .ensures .1, rw (← e, ← c .before .place-in .ensures) (c .heap-part .ensures .2))
 
 pub object-in-spec : {M : Type 1} → statement M
 object-in-spec = tie.close (tie.spec place-in-requires heap-part-requires returns)

@@ -7,6 +7,7 @@ use Prim.Native.Nat.{ℕ, _-_, _<_}
 use mathlib.Core.List.{List}
 use mathlib.Core.Path.{ap, _∙_}
 use native.Mathlib.Omega.{arith}
+use borrow.Author.Tests.{eq-eqb, ne-eqb}
 use borrow.Author.Needs.{needs}
 use Rattle.reads.proofs.lent.heap_part.Statement.{statement}
 use Rattle.reads.proofs.lent.heap_part.Tie as tie
@@ -15,7 +16,11 @@ part-of-requires : tie.Need-part-of-requires
 part-of-requires c κs = search needs
 
 returns : tie.Need-returns
-returns c = search needs
+returns c = (
+  search needs,
+  c .part-of .ensures .1,
+  rw (eq-eqb (c .before .before .before .args .len) 0 (c .before .if1 .taken)) (c .part-of .ensures .2),
+)
 
 region-at-requires : tie.Need-region-at-requires
 region-at-requires c κs = omega (arith, laid (c .before .before .args .t .now) (c .before .before .pre .0) .lent)
@@ -31,15 +36,21 @@ sub-part-of c = let s = c .before .before .before .before .before in let i = s .
 
 part-of-requires-2 : tie.Need-part-of-requires-2
 part-of-requires-2 c κs = let s = c .before .before .before .before .before in let a = s .args in let h : 0 < a .len = omega (arith, c .before .before .before .if1 .left) in
-    rw (c .before .heap-of .ensures, c .before .before .region-at .ensures .0) (inside-heap (a .t .now) (s .pre .0) (a .at) (a .len) h (s .pre .1 h))
+    rw (c .before .heap-of .ensures .0, c .before .before .region-at .ensures .0) (inside-heap (a .t .now) (s .pre .0) (a .at) (a .len) h (s .pre .1 h))
 
 returns-2 : tie.Need-returns-2
+unfolding heapIn
 returns-2 c = let s = c .before .before .before .before .before .before in let a = s .args in let t = a .t .now in
     let h : 0 < a .len = omega (arith, c .before .before .before .before .if1 .left) in
-    c .part-of2 .ensures
-    ∙ ap (λ (x : List ℕ). part x (a .at - c .before .before .before .region-at .result .at) (a .len)) (c .before .before .heap-of .ensures)
-    ∙ ap (λ (r : Region). part (part t (r .at) (r .len)) (a .at - r .at) (a .len)) (c .before .before .before .region-at .ensures .0)
-    ∙ part-of-heap t (s .pre .0) (a .at) (a .len) h (s .pre .1 h)
+    let i = s .pre .1 h in (
+      c .part-of2 .ensures .0
+          ∙ ap (λ (x : List ℕ). part x (a .at - c .before .before .before .region-at .result .at) (a .len)) (c .before .before .heap-of .ensures .0)
+          ∙ ap (λ (r : Region). part (part t (r .at) (r .len)) (a .at - r .at) (a .len)) (c .before .before .before .region-at .ensures .0)
+          ∙ part-of-heap t (s .pre .0) (a .at) (a .len) h i,
+      c .part-of2 .ensures .1 ∙ c .before .before .heap-of .ensures .1,
+      rw (ne-eqb (a .len) 0 (c .before .before .before .before .if1 .left))
+          (omega (arith, i, c .part-of2 .ensures .2, c .before .before .heap-of .ensures .2, ap (λ (r : Region). r .at) (c .before .before .before .region-at .ensures .0))),
+    )
 
 pub heap-part-spec : {M : Type 1} → statement M
 heap-part-spec =

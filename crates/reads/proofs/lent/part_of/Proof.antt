@@ -1,3 +1,4 @@
+use native.Mathlib.Omega.{arith}
 use native.Mathlib.Nat.{add-sub-cancel-left, add-sub-cancel}
 use borrow.Author.Needs.{needs}
 use Rattle.reads.proofs.lent.part_of.Statement.{statement}
@@ -16,7 +17,7 @@ part-result-end : tie.Need-part-result-end
 part-result-end c = search needs
 
 returns : tie.Need-returns
-returns c = search (add-sub-cancel-left, add-sub-cancel)
+returns c = (search (add-sub-cancel-left, add-sub-cancel), search needs, omega arith)
 
 pub part-of-spec : {M : Type 1} → statement M
 part-of-spec = tie.close (tie.spec add-end sub-result part-result-start part-result-end returns)

@@ -65,7 +65,7 @@ is-used-requires : tie.Need-is-used-requires
 is-used-requires c κs = let s = c .before .before .before .before .before .before .before .before .before in let a = s .args in let n = c .before .before .before .base-size in
     let at = c .before .u32-at .result + (a .n - 1) * c .before .before .u16-at .result in
     let l = part-long (a .t .now) at (n .result) (omega (arith, inside (c .before .before), c .before .u32-at .ensures .0, n .ensures)) in
-    (s .pre .0, s .pre .1, omega (arith, ap length (c .part-of .ensures), l, n .ensures))
+    (s .pre .0, s .pre .1, omega (arith, ap length (c .part-of .ensures .0), l, n .ensures))
 
 returns-3 : tie.Need-returns-3
 returns-3 c = let s = c .before .before .before .before .before .before .before .before .before .before in let a = s .args in let t = a .t .now in let l = layoutOf (a .kind) in
@@ -73,7 +73,7 @@ returns-3 c = let s = c .before .before .before .before .before .before .before 
     let e : c .before .before .u32-at .result + (a .n - 1) * c .before .before .before .u16-at .result ≡ start = ap₂ (λ (x y : ℕ). x + (a .n - 1) * y) (c .before .before .u32-at .ensures .0)
     (c .before .before .before .u16-at .ensures .0) in
     let f : c .is-used .result ≡ isValid (l .shape) (imageIn l t start) =
-    c .is-used .ensures ∙ ap (λ (x : List ℕ). isValid (l .shape) (imageIn l x 0)) (c .before .part-of .ensures ∙ ap₂ (part t) e (c .before .before .before .before .base-size .ensures))
+    c .is-used .ensures ∙ ap (λ (x : List ℕ). isValid (l .shape) (imageIn l x 0)) (c .before .part-of .ensures .0 ∙ ap₂ (part t) e (c .before .before .before .before .base-size .ensures))
     ∙ ap (isValid (l .shape)) (image-own (a .kind) t start) in (
       ap₂ (seat l) e f ∙ sym (list-there (a .kind) t (a .c) (a .n) (omega (arith, c .before .before .before .before .before .before .before .before .if1 .left)) (omega
           (arith, c .before .before .before .before .before .before .wide .ensures .0, c .before .before .before .before .before .if2 .left))),

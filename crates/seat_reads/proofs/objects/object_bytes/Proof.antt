@@ -36,7 +36,7 @@ heap-part-requires c κs = let s = c .before .before .before in let a = s .args 
     (s .pre .0 .0, λ h. record { above = omega (arith, i, start c); below = omega (arith, i, start c, s .pre .1 .0) })
 
 returns : tie.Need-returns
-returns c = let s = c .before .before .before .before in c .heap-part .ensures ∙ ap₂ (part (s .args .t .now)) (start (c .before)) (s .pre .1 .0)
+returns c = let s = c .before .before .before .before in c .heap-part .ensures .0 ∙ ap₂ (part (s .args .t .now)) (start (c .before)) (s .pre .1 .0)
 
 pub object-bytes-spec : {M : Type 1} → statement M
 object-bytes-spec =

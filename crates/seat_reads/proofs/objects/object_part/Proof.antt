@@ -17,7 +17,7 @@ part-of-requires c κs = search needs
 
 returns : tie.Need-returns
 returns c = let s = c .before .before .before .before in let a = s .args in let t = a .t .now in let l = layoutOf (a .kind) in let q = placeAt t (a .p) (seat l (a .a) true) in
-    c .part-of .ensures ∙ ap (λ (n : ℕ). part t (q .at) n) (sym (c .before .if1 .taken) ∙ c .before .before .object-len .ensures .0)
+    c .part-of .ensures .0 ∙ ap (λ (n : ℕ). part t (q .at) n) (sym (c .before .if1 .taken) ∙ c .before .before .object-len .ensures .0)
 
 object-bytes-requires : tie.Need-object-bytes-requires
 object-bytes-requires c κs = let s = c .before .before .before in (s .pre, (c .before .object-len .ensures .0, omega (arith, c .if1 .left)))
