@@ -2,28 +2,25 @@
 use mathlib.Core.Path.{_≡_, refl, sym, ap, ap₂, _∙_, subst}
 use mathlib.Core.Bool.{Bool, true, false, _&&_}
 use mathlib.Core.List.{List, [], _∷_}
-use Prim.Native.Nat.{ℕ, zero, suc, _+_, _≤_, _<_}
+use Prim.Native.Nat.{ℕ, _+_, _≤_}
 use native.Mathlib.Omega.{arith}
-use lib.ListN.{length, getD, take}
-use lib.Seq.{getD-take}
-use lib.Dec.{T, leb, eqb, leb→le}
+use lib.ListN.{length}
+use lib.Dec.{T, eqb, leb→le}
 use borrow.Author.Tests.{ne-eqb}
 use mir.Facts.{and-yes}
 use Rattle.table.specs.declared.Need.{Need}
 use Rattle.table.specs.declared.Answer.{Answer}
 use Rattle.table.specs.declared.State.{State}
-use Rattle.table.specs.Bytes.{pick, every, apply}
-use Rattle.table.specs.Layout.{Layout, Env, Refs, Slots, nil, bytes, gone, rec, baseOf, offsets, pairsRight}
-use Rattle.table.specs.Objects.{sizeOf, heapOf, patched, under}
+use Rattle.table.specs.Bytes.{pick}
+use Rattle.table.specs.Layout.{Layout, Env, Refs, Slots, nil, bytes, gone, rec, pairsRight}
+use Rattle.table.specs.Objects.{sizeOf, under}
 use Rattle.table.specs.Rules.{Test, test, answer, firstFail, firstOf}
-use Rattle.table.specs.Builder.{outcome, envOf, fill, fillAnswer, fitsNeed, isShort, mayHave, mayLack, next, placeOf, placed, roomTests, slotsRule, toldImage, toldSlots, waits}
+use Rattle.table.specs.Builder.{Outcome, outcome, envOf, fill, fillAnswer, fitsNeed, isShort, mayHave, mayLack, next, placeOf, placed, roomTests, slotsRule, toldImage, toldSlots, waits}
 use Rattle.laws.specs.Fields.{imageIn}
 use Rattle.laws.specs.Refusals.{asks-none}
-use Rattle.writer.specs.Stores.{storesFrom, Room}
-use Rattle.writer.proofs.RecordLaws.{Told, many, written}
 use Rattle.told.specs.Marks.{marked}
 use Rattle.told.proofs.Laws.{image-is}
-use Rattle.steps.specs.Steps.{told, judgeTests}
+use Rattle.steps.specs.Steps.{laid, judgeTests}
 
 -- ---- the objects, one test
 
@@ -65,14 +62,6 @@ halves true true false k i rs = (λ e. absurd (omega arith), λ n. refl)
 halves true false f k i rs = (λ e. absurd (omega arith), λ n. refl)
 halves false p f k i rs = (λ e. absurd (omega arith), λ n. refl)
 
--- as the code has it: references by tables, objects in pieces
-pub told-slots : (l : Layout) (s : State) (buf img : List ℕ) (ss : Slots (l .refs)) (ps ns ws : List ℕ) (m n : ℕ) (h : List ℕ) → Told ss ps ns ws 0 → many ss ≡ m → n ≡ sizeOf ss
-    → h ≡ heapOf (s .used) ss → told l s buf n (apply img (storesFrom ps ns ws (s .used) 0 m)) h ≡ told l s buf (sizeOf ss) (patched (s .used) img ss) (heapOf (s .used) ss)
-told-slots l s buf img ss ps ns ws m n h t c e f =
-    ap₂ (λ (i : ℕ) (y : List ℕ). told l s buf i (apply img (storesFrom ps ns ws (s .used) 0 m)) y) e f
-    ∙ ap (λ (r : List ℕ). told l s buf (sizeOf ss) r (heapOf (s .used) ss))
-    (ap (λ (i : ℕ). apply img (storesFrom ps ns ws (s .used) 0 i)) (sym c) ∙ written ss ps ns ws img (s .used) t)
-
 module _ (l : Layout) (s : State) (buf x b : List ℕ) (objects : Slots (l .refs)) (fine : Bool) (a : Answer) (eb : b ≡ marked (l .shape) (s .position) x)
     (ea : a ≡ firstFail (judgeTests l s (imageIn l b 0) fine)) where
   abbrev img : List ℕ
@@ -107,46 +96,13 @@ module _ (l : Layout) (s : State) (buf x b : List ℕ) (objects : Slots (l .refs
         (rw (e, ne-eqb (a .number) 0 z) refl, rw (e, ne-eqb (a .number) 0 z) refl)
 
     -- room and bytes are left to do
-    pub fill-passed : a .number ≡ 0 → fill l s buf x objects ≡ told l s buf (sizeOf kept) (patched (s .used) img kept) (heapOf (s .used) kept)
-    unfolding fill told placed rests
-    fill-passed z =
+    pub fill-done : a .number ≡ 0 → laid l s buf b kept ≡ fill l s buf x objects
+    unfolding fill laid rests
+    fill-done z =
         let h = halves (waits s (l .kind)) (pairsRight (l .shape) img) fine (l .kind) (s .position) rests in
         let e : fillAnswer l s (length buf) img kept ≡ firstFail rests = answers ∙ h .0 (sym (ap (λ (y : Answer). y .number) answer-is) ∙ z) in
-        ap (λ (y : Answer). outcome y s (next s (sizeOf kept)) buf (placed buf (placeOf s l) (s .used) img kept)) e
-
-    pub fill-done : a .number ≡ 0 → (ps ns ws : List ℕ) (m n : ℕ) (h : List ℕ) → Told kept ps ns ws 0 → many kept ≡ m → n ≡ sizeOf kept → h ≡ heapOf (s .used) kept
-        → told l s buf n (apply (imageIn l b 0) (storesFrom ps ns ws (s .used) 0 m)) h ≡ fill l s buf x objects
-    fill-done z ps ns ws m n h t c e f =
-        ap (λ (y : List ℕ). told l s buf n (apply y (storesFrom ps ns ws (s .used) 0 m)) h) img-is ∙ told-slots l s buf img kept ps ns ws m n h t c e f ∙ sym (fill-passed z)
-
--- ---- the table of offsets
-
-pub offset-at : (at xs : List ℕ) (n i : ℕ) → take n at ≡ xs → i < n → getD at i 0 ≡ getD xs i 0
-offset-at at xs n i e k = sym (getD-take n at i 0 k) ∙ ap (λ (y : List ℕ). getD y i 0) e
-
-all-inside : (xs : List ℕ) (size i : ℕ) → T (every (λ p. leb (p + 6) size) xs) → i < length xs → getD xs i 0 + 6 ≤ size
-all-inside [] size i t k = absurd (omega arith)
-all-inside (x ∷ xs) size zero t k = leb→le (x + 6) size (and-yes (leb (x + 6) size) (every (λ p. leb (p + 6) size) xs) t .0)
-all-inside (x ∷ xs) size (suc i) t k = all-inside xs size i (and-yes (leb (x + 6) size) (every (λ p. leb (p + 6) size) xs) t .1) (omega arith)
-
-pub refs-room : (l : Layout) (at ws : List ℕ) (n : ℕ) → T (every (λ p. leb (p + 6) (baseOf l)) (offsets (l .refs))) → take n at ≡ offsets (l .refs) → n ≡ length (offsets (l .refs)) → n ≤ 6
-    → ((i : ℕ) → getD ws i 0 ≤ 131072) → Room n at ws (baseOf l)
-refs-room l at ws n t e c f short = record {
-  few = f;
-  room = λ i k. rw (offset-at at (offsets (l .refs)) n i e k) (all-inside (offsets (l .refs)) (baseOf l) i t (omega arith));
-  short = λ i k. short i;
-}
-
-pub six-short : (ws : List ℕ) (a b c d e f : ℕ) → ws ≡ a ∷ b ∷ c ∷ d ∷ e ∷ f ∷ [] → a ≤ 131072 → b ≤ 131072 → c ≤ 131072 → d ≤ 131072 → e ≤ 131072 → f ≤ 131072 → (i : ℕ) → getD ws i 0 ≤ 131072
-six-short ws a b c d e f q ka kb kc kd ke kf i = rw q (go i) where
-  go : (i : ℕ) → getD (a ∷ b ∷ c ∷ d ∷ e ∷ f ∷ []) i 0 ≤ 131072
-  go zero = ka
-  go (suc zero) = kb
-  go (suc (suc zero)) = kc
-  go (suc (suc (suc zero))) = kd
-  go (suc (suc (suc (suc zero)))) = ke
-  go (suc (suc (suc (suc (suc zero))))) = kf
-  go (suc (suc (suc (suc (suc (suc i)))))) = omega arith
+        let done : List ℕ → Answer → Outcome = λ y r. outcome r s (next s (sizeOf kept)) buf (placed buf (placeOf s l) (s .used) y kept) in
+        ap₂ done img-is (sym e)
 
 -- what fits is short
 fits-short : (c : Bool) (o : List ℕ) → T (c && isShort o) → length o ≤ 65535
@@ -167,6 +123,3 @@ fine-short n o e = fits-short (fitsNeed n (under n [] o)) (under n [] o) (subst 
 pub three : (f : Bool) → f ≡ ((true && (f && true)) && true)
 three true = refl
 three false = refl
-
-pub length-at : (xs ys : List ℕ) (i : ℕ) → xs ≡ ys → getD xs i 0 ≡ getD ys i 0
-length-at xs ys i e = ap (λ (z : List ℕ). getD z i 0) e

@@ -1,2 +1,1 @@
-// What the builder's calls that are told a record share: what they are told, what its references take, and the laws of a told record.
-pub mod sizes; // what the references of a record take
+// What the builder's calls that are told a record share: what they are told, and the laws of a told record. No code.

@@ -1,46 +1,50 @@
--- The objects of each kind's call, as tables of lengths and as pieces. Assumes nothing.
+-- The objects of each kind's call. Assumes nothing.
 use mathlib.Core.Path.{_≡_, refl, sym, ap, ap₂, _∙_}
 use mathlib.Core.Bool.{Bool, true, false, _&&_}
-use mathlib.Core.List.{List, [], _∷_, _++_, append-nil}
-use Prim.Native.Nat.{ℕ, _+_, _/_, _%_, _≤_, _<_}
+use mathlib.Core.List.{List, [], _∷_, _++_, append-assoc, append-nil}
+use Prim.Native.Nat.{ℕ, _+_, _/_, _%_, _≤_}
 use native.Mathlib.Omega.{arith}
-use lib.ListN.{length, getD, take}
+use lib.ListN.{length}
 use lib.Dec.{eqb, lit<}
 use borrow.Author.Tests.{eq-eqb, ne-eqb}
 use Rattle.table.specs.declared.Need.{Need}
 use Rattle.table.specs.declared.Need.the-variants.{Ignored, Optional, Required}
 use Rattle.table.specs.declared.Answer.{Answer}
 use Rattle.table.specs.declared.State.{State}
-use Rattle.table.specs.Bytes.{pick, num, bits, apply, splice, padded}
-use Rattle.table.specs.Layout.{Slots, nest, none, nil, bytes, gone, rec, offsets}
+use Rattle.table.specs.Bytes.{pick, num, bits}
+use Rattle.table.specs.Layout.{Slots, nil, bytes, gone, rec, baseOf}
 use Rattle.table.specs.FixedLayouts.{layoutOf, whenSet, hfi, ssns, info, extended}
-use Rattle.table.specs.Objects.{under, sizeOf, heapOf, patched, stores, refFor}
+use Rattle.table.specs.Objects.{under, sizeOf, heapOf, patched}
 use Rattle.table.specs.Rules.{firstFail}
-use Rattle.table.specs.Builder.{Outcome, waits, toldImage, toldSlots}
-use Rattle.laws.specs.Fields.{imageIn, length-imageIn}
-use Rattle.writer.specs.Stores.{storesFrom, refNum}
+use Rattle.table.specs.Builder.{waits, toldImage, toldSlots}
+use Rattle.laws.specs.Fields.{imageIn}
 use Rattle.writer.proofs.StoreLaws.{concat}
-use Rattle.writer.proofs.RecordLaws.{Told, many, ref-for}
-use Rattle.writer.proofs.RecordLaws.{length-ref}
-use Rattle.laws.specs.ByteLaws.{length-splice}
-use Rattle.steps.proofs.LayLaws.{take-padded}
+use Rattle.record_writers.specs.Written.{recordWith}
+use Rattle.record_writers.proofs.WriterLaws.{record-is}
 use Rattle.told.specs.Marks.{marked}
 use Rattle.told.proofs.Laws.{image-is}
-use Rattle.steps.specs.Steps.{told, judgeTests}
+use Rattle.steps.specs.Steps.{laid, judgeTests}
 use Rattle.steps.proofs.JudgeLaws.{judge-passed}
 use Rattle.filling.specs.Calls.{hfiTold, tellHfi, pathTold, ssnsTold, tellSsns}
-use Rattle.nested_calls.specs.Nested.{ownNeed, ssnsSlots, laidSsns}
-use Rattle.filling.proofs.FillLaws.{Fine, length-at, three, allFine, fill-refused, fill-passed, fill-done, told-slots, fine-short, two-true, offset-at}
+use Rattle.nested_calls.specs.Nested.{ownNeed, ssnsSlots, extendedSize, extendedPart, namedPart, laidSsns}
+use Rattle.filling.proofs.FillLaws.{Fine, three, allFine, fill-refused, fill-done, fine-short, two-true}
 
 -- ---- an HFI
 
--- a heap record and its object, in two pieces
-held-piece : (x own : List ℕ) (p h m : ℕ) (v : List ℕ) → v ≡ take m (padded 128 (splice x p (refNum h (length own)))) → m ≡ length x → p + 6 ≤ length x
-    → v ≡ splice x p (refFor h own)
-held-piece x own p h m v e k r =
-    e
-    ∙ take-padded m 128 (splice x p (refNum h (length own))) (k ∙ sym (length-splice x p (refNum h (length own)) (omega (arith, length-ref h (length own)))))
-    ∙ ap (splice x p) (ref-for h own)
+pub hfi-size : (i name : List ℕ) → 128 + length name ≡ sizeOf (hfiTold i name)
+unfolding hfi info hfiTold sizeOf
+hfi-size i name = omega arith
+
+pub hfi-record : (b : List ℕ) (u : ℕ) (i name : List ℕ) → recordWith hfi b u (baseOf info ∷ []) ((baseOf info + length name) ∷ []) ≡ patched u (imageIn hfi b 0) (hfiTold i name)
+unfolding hfi info hfiTold sizeOf
+hfi-record b u i name = record-is hfi b u _ _ (hfiTold i name) (refl, refl, lit< tt, omega arith, tt)
+
+-- r is the transport info as it stands in the heap
+pub hfi-heap : (u : ℕ) (i name r : List ℕ) → r ≡ recordWith info i (u + 128) (length name ∷ []) (length name ∷ []) → concat (r ∷ name ∷ []) ≡ heapOf u (hfiTold (imageIn info i 0) name)
+unfolding hfi info hfiTold heapOf
+hfi-heap u i name r e =
+    let w : r ≡ patched (u + 128) (imageIn info i 0) (bytes name nil) = e ∙ record-is info i (u + 128) _ _ (bytes name nil) (refl, refl, refl, tt) in
+    ap (λ (y : List ℕ). y ++ (name ++ [])) w ∙ sym (append-nil (patched (u + 128) (imageIn info i 0) (bytes name nil) ++ (name ++ [])))
 
 module _ (s : State) (buf x b i c name : List ℕ) (a : Answer) (eb : b ≡ marked (layoutOf 3 .shape) (s .position) x) (ec : c ≡ marked (layoutOf 7 .shape) (s .position) i)
     (ea : a ≡ firstFail (judgeTests (layoutOf 3) s (imageIn (layoutOf 3) b 0) (Fine Optional name))) where
@@ -58,29 +62,49 @@ module _ (s : State) (buf x b i c name : List ℕ) (a : Answer) (eb : b ≡ mark
   unfolding tellHfi layoutOf
   hfi-refused z = fill-refused hfi s buf x b (hfiTold i name) (Fine Optional name) a eb ea hfi-fine z
 
-  length₇ : length (imageIn info c 0) ≡ 128
-  unfolding info
-  length₇ = length-imageIn info c 0
+  pub hfi-passed : a .number ≡ 0 → (waits s 3 ≡ true) × (length name ≤ 65535)
+  unfolding layoutOf hfi
+  hfi-passed z =
+      let p = judge-passed (layoutOf 3) s (imageIn (layoutOf 3) b 0) (Fine Optional name) a ea z in
+      (p .0, fine-short Optional name (p .1))
 
   told₇ : imageIn info c 0 ≡ img₇
   unfolding layoutOf
   told₇ = image-is info (s .position) i c ec
 
-  pub hfi-done : a .number ≡ 0 → (ps ns ws : List ℕ) (m : ℕ) (v : List ℕ) → v ≡ take 128 (padded 128 (splice (imageIn (layoutOf 7) c 0) 104 (refNum (s .used + 128) (length name))))
-      → take m ps ≡ offsets (layoutOf 3 .refs) → m ≡ length (offsets (layoutOf 3 .refs))
-      → ns ≡ 128 ∷ 0 ∷ 0 ∷ 0 ∷ 0 ∷ 0 ∷ [] → ws ≡ (128 + length name) ∷ 0 ∷ 0 ∷ 0 ∷ 0 ∷ 0 ∷ []
-      → told (layoutOf 3) s buf (128 + length name) (apply (imageIn (layoutOf 3) b 0) (storesFrom ps ns ws (s .used) 0 m)) (concat (v ∷ name ∷ [] ∷ [] ∷ [] ∷ [] ∷ [])) ≡ tellHfi s buf x i name
-  unfolding tellHfi layoutOf hfi info hfiTold toldSlots sizeOf heapOf patched stores
-  hfi-done z ps ns ws m v ev e k en ew =
-      let w : v ≡ splice img₇ 104 (refFor (s .used + 128) name) =
-      held-piece (imageIn info c 0) name 104 (s .used + 128) 128 v ev (sym length₇) (omega (arith, length₇)) ∙ ap (λ (y : List ℕ). splice y 104 (refFor (s .used + 128) name)) told₇ in
-      fill-done hfi s buf x b (hfiTold i name) (Fine Optional name) a eb ea hfi-fine z ps ns ws m (128 + length name) (v ++ (name ++ []))
-      (offset-at ps (16 ∷ []) m 0 e (omega arith), length-at ns _ 0 en, lit< tt, length-at ws _ 0 ew ∙ omega arith, tt) (sym k) (omega arith)
-      (ap (λ (y : List ℕ). y ++ (name ++ [])) w ∙ sym (append-nil (splice img₇ 104 (refFor (s .used + 128) name) ++ (name ++ []))))
+  pub hfi-done : a .number ≡ 0 → laid hfi s buf b (hfiTold (imageIn info c 0) name) ≡ tellHfi s buf x i name
+  unfolding tellHfi layoutOf hfi info hfiTold toldSlots
+  hfi-done z = ap (λ (y : List ℕ). laid hfi s buf b (hfiTold y name)) told₇ ∙ fill-done hfi s buf x b (hfiTold i name) (Fine Optional name) a eb ea hfi-fine z
+
+-- ---- the extended info, in c, and its object
+
+pub extended-none : (c : List ℕ) (a m : ℕ) (path : List ℕ) → m ≡ 0 → extendedPart c a m path ≡ []
+unfolding extendedPart
+extended-none c a m path e = rw (eq-eqb m 0 e) refl
+
+module _ (m : ℕ) (path : List ℕ) (there : m ≡ 0 → ⊥) where
+  pub extended-some : (c : List ℕ) (a : ℕ) (r : List ℕ) → r ≡ recordWith extended c (a + 18) (length path ∷ []) (length path ∷ []) → concat (r ∷ path ∷ []) ≡ extendedPart c a m path
+  unfolding extended extendedPart
+  extended-some c a r e = rw (e, ne-eqb m 0 there) refl
+
+  pub extended-long : extendedSize m path ≡ 18 + length path
+  unfolding extended extendedSize
+  extended-long = rw (ne-eqb m 0 there) refl
+
+-- it takes no more than is counted
+pub extended-room : (need : Need) (m : ℕ) (own : List ℕ) → m ≡ under need 0 18 → extendedSize m own ≤ m + length own
+unfolding extended extendedSize
+extended-room Ignored m own e = rw e (omega arith)
+extended-room Optional m own e = rw e (omega arith)
+extended-room Required m own e = rw e (omega arith)
+
+-- four objects, then the rest
+pub four-then : (p q r s x : List ℕ) → concat (p ∷ q ∷ r ∷ s ∷ [] ∷ [] ∷ []) ++ x ≡ concat (p ∷ q ∷ r ∷ s ∷ x ∷ [])
+four-then p q r s x = simp (append-assoc, append-nil)
 
 -- ---- an SSNS record, in b, and its extended info, in c
 
-module _ (s : State) (buf b c address service others nqn path : List ℕ) where
+module _ (b c address service others nqn path : List ℕ) (u : ℕ) where
   abbrev img : List ℕ
   img = imageIn ssns b 0
 
@@ -91,83 +115,60 @@ module _ (s : State) (buf b c address service others nqn path : List ℕ) where
   abbrev off : Bool
   off = eqb (bits 3 2 4 4 img) 0
 
-  length-inner : length inner ≡ 18
-  unfolding extended
-  length-inner = length-imageIn extended c 0
-
   abbrev front : ℕ
   front = length address + length service + length others + length nqn
 
-  pub ssns-laid : (need : Need) (ps ns ws : List ℕ) (k m : ℕ) (own v : List ℕ) → need ≡ ownNeed img → m ≡ under need 0 18 → own ≡ under need [] path
-      → v ≡ take m (padded 128 (splice (imageIn (layoutOf 9) c 0) 12 (refNum (s .used + front + m) (length own))))
-      → take k ps ≡ offsets (layoutOf 4 .refs) → k ≡ length (offsets (layoutOf 4 .refs))
-      → ns ≡ length address ∷ length service ∷ length others ∷ length nqn ∷ m ∷ 0 ∷ [] → ws ≡ length address ∷ length service ∷ length others ∷ length nqn ∷ (m + length own) ∷ 0 ∷ []
-      → told (layoutOf 4) s buf (front + m + length own) (apply (imageIn (layoutOf 4) b 0) (storesFrom ps ns ws (s .used) 0 k)) (concat (address ∷ service ∷ others ∷ nqn ∷ v ∷ own ∷ []))
-      ≡ laidSsns s buf b c address service others nqn path
-  unfolding laidSsns ssnsSlots layoutOf ssns extended pathTold sizeOf heapOf patched stores ownNeed
-  ssns-laid need ps ns ws k m own v e₄ em eo ev el ek en ew =
-      let t = facts off refl in
-      told-slots ssns s buf img (under₄ off) ps ns ws k (front + m + length own) (concat (address ∷ service ∷ others ∷ nqn ∷ v ∷ own ∷ [])) (t .0) (t .1) (t .2) (t .3)
+  -- what is named where flag 4 is f
+  under₄ : Bool → Slots (ssns .refs)
+  unfolding ssns
+  under₄ f = bytes address (bytes service (bytes others (bytes nqn (under (pick f Ignored Required) (gone nil) (rec inner (pathTold path) nil)))))
+
+  abbrev pub Laid : Slots (ssns .refs) → (m : ℕ) (own : List ℕ) → Type 0
+  Laid ss m own = (front + m + length own ≡ sizeOf ss)
+      × (recordWith ssns b u (length address ∷ length service ∷ length others ∷ length nqn ∷ m ∷ []) (length address ∷ length service ∷ length others ∷ length nqn ∷ (m + length own) ∷ [])
+      ≡ patched u img ss)
+      × (namedPart u address service others nqn m c own ≡ heapOf u ss)
+
+  not-there : Laid (under₄ true) 0 []
+  unfolding ssns under₄ sizeOf heapOf namedPart extendedPart
+  not-there = (
+    omega arith,
+    record-is ssns b u _ _ (under₄ true) (refl, refl, refl, (refl, refl, refl, (refl, refl, refl, (refl, refl, refl, (refl, refl, refl, tt))))),
+    refl,
+  )
+
+  there : Laid (under₄ false) 18 path
+  unfolding ssns extended pathTold under₄ sizeOf heapOf namedPart extendedPart
+  there = (
+    omega arith,
+    record-is ssns b u _ _ (under₄ false) (refl, refl, refl, (refl, refl, refl, (refl, refl, refl, (refl, refl, refl, (refl, refl, lit< tt, omega arith, tt))))),
+    ap (λ (y : List ℕ). address ++ (service ++ (others ++ (nqn ++ ((y ++ (path ++ [])) ++ [])))))
+        (record-is extended c (u + length address + length service + length others + length nqn + 18) _ _ (pathTold path) (refl, refl, refl, tt)),
+  )
+
+  pub ssns-laid : (need : Need) (m : ℕ) (own : List ℕ) → need ≡ ownNeed img → m ≡ under need 0 18 → own ≡ under need [] path
+      → Laid (ssnsSlots img address service others nqn inner path) m own
+  unfolding ssnsSlots under₄ ownNeed
+  ssns-laid need m own e em eo = go off refl
     where
-      at : (i : ℕ) → i < k → getD ps i 0 ≡ getD (10 ∷ 16 ∷ 48 ∷ 54 ∷ 60 ∷ []) i 0
-      at i j = offset-at ps (10 ∷ 16 ∷ 48 ∷ 54 ∷ 60 ∷ []) k i el j
-
-      -- the four objects before the extended info
-      lead : Slots (nest 60 (whenSet 3 2 4 4) (extended .shape) (extended .refs) none) → Slots (ssns .refs)
-      lead ss = bytes address (bytes service (bytes others (bytes nqn ss)))
-
-      led : (ss : Slots (nest 60 (whenSet 3 2 4 4) (extended .shape) (extended .refs) none)) → Told ss ps ns ws 4 → Told (lead ss) ps ns ws 0
-      led ss t = (
-        at 0 (omega arith),
-        length-at ns _ 0 en,
-        length-at ws _ 0 ew,
-        (
-          at 1 (omega arith),
-          length-at ns _ 1 en,
-          length-at ws _ 1 ew,
-          (at 2 (omega arith), length-at ns _ 2 en, length-at ws _ 2 ew, (at 3 (omega arith), length-at ns _ 3 en, length-at ws _ 3 ew, t)),
-        ),
-      )
-
-      -- what is told where flag 4 is f
-      under₄ : Bool → Slots (ssns .refs)
-      under₄ f = lead (under (pick f Ignored Required) (gone nil) (rec inner (pathTold path) nil))
-
-      facts : (f : Bool) → off ≡ f → Told (under₄ f) ps ns ws 0 × (many (under₄ f) ≡ k) × (front + m + length own ≡ sizeOf (under₄ f))
-          × (concat (address ∷ service ∷ others ∷ nqn ∷ v ∷ own ∷ []) ≡ heapOf (s .used) (under₄ f))
-      facts true q =
-          let n₀ : need ≡ Ignored = e₄ ∙ ap (λ (g : Bool). pick g Ignored Optional) q in
+      go : (f : Bool) → off ≡ f → Laid (under₄ f) m own
+      go true q =
+          let n₀ : need ≡ Ignored = e ∙ ap (λ (g : Bool). pick g Ignored Optional) q in
           let m₀ : m ≡ 0 = em ∙ ap (λ (n : Need). under n 0 18) n₀ in
           let o₀ : own ≡ [] = eo ∙ ap (λ (n : Need). under n [] path) n₀ in
-          let v₀ : v ≡ [] = ev ∙ ap (λ (i : ℕ). take i (padded 128 (splice inner 12 (refNum (s .used + front + m) (length own))))) m₀ in
-          let l₀ : length own ≡ 0 = ap length o₀ in (
-            led (gone nil) (at 4 (omega arith), length-at ns _ 4 en ∙ m₀, length-at ws _ 4 ew ∙ omega arith, tt),
-            sym ek,
-            omega arith,
-            ap₂ (λ (y r : List ℕ). address ++ (service ++ (others ++ (nqn ++ (y ++ (r ++ [])))))) v₀ o₀,
-          )
-      facts false q =
-          let n₀ : need ≡ Optional = e₄ ∙ ap (λ (g : Bool). pick g Ignored Optional) q in
+          rw (m₀, o₀) not-there
+      go false q =
+          let n₀ : need ≡ Optional = e ∙ ap (λ (g : Bool). pick g Ignored Optional) q in
           let m₀ : m ≡ 18 = em ∙ ap (λ (n : Need). under n 0 18) n₀ in
           let o₀ : own ≡ path = eo ∙ ap (λ (n : Need). under n [] path) n₀ in
-          let l₀ : length own ≡ length path = ap length o₀ in
-          let h₀ : s .used + front + m ≡ s .used + length address + length service + length others + length nqn + 18 = omega arith in
-          let w : v ≡ splice inner 12 (refFor (s .used + length address + length service + length others + length nqn + 18) path) =
-          held-piece inner own 12 (s .used + front + m) m v ev (m₀ ∙ sym length-inner) (omega (arith, length-inner))
-          ∙ ap₂ (λ (i : ℕ) (y : List ℕ). splice inner 12 (refFor i y)) h₀ o₀ in (
-            led (rec inner (pathTold path) nil) (at 4 (omega arith), length-at ns _ 4 en ∙ m₀, lit< tt, length-at ws _ 4 ew ∙ omega arith, tt),
-            sym ek,
-            omega arith,
-            ap₂ (λ (y r : List ℕ). address ++ (service ++ (others ++ (nqn ++ (y ++ (r ++ [])))))) w o₀
-                ∙ ap (λ (y : List ℕ). address ++ (service ++ (others ++ (nqn ++ y))))
-                (sym (append-nil (splice inner 12 (refFor (s .used + length address + length service + length others + length nqn + 18) path) ++ (path ++ [])))),
-          )
+          rw (m₀, o₀) there
 
 -- what is told of it: c is the extended info as the builder has it
 
 module _ (s : State) (buf x b address service others nqn e c path : List ℕ) (a : Answer) (eb : b ≡ marked (layoutOf 4 .shape) (s .position) x)
     (ec : c ≡ marked (layoutOf 9 .shape) (s .position) e)
-    (ea : a ≡ firstFail (judgeTests (layoutOf 4) s (imageIn (layoutOf 4) b 0) (Fine Required address && (Fine Required service && (Fine Optional others && (Fine Required nqn && Fine (ownNeed (imageIn ssns b 0)) path))))))
+    (ea : a ≡ firstFail (judgeTests (layoutOf 4) s (imageIn (layoutOf 4) b 0) (Fine Required address && (Fine Required service && (Fine Optional others && (Fine Required nqn && Fine (ownNeed
+    (imageIn ssns b 0)) path))))))
   where
     abbrev img₄ : List ℕ
     img₄ = toldImage (ssns .shape) (s .position) x
@@ -203,8 +204,9 @@ module _ (s : State) (buf x b address service others nqn e c path : List ℕ) (a
     unfolding tellSsns layoutOf
     ssns-refused z = fill-refused ssns s buf x b (ssnsTold address service others nqn e path) (fine₄ (imageIn ssns b 0)) a eb ea ssns-fine z
 
-    pub ssns-passed : a .number ≡ 0 → (waits s (layoutOf 4 .kind) ≡ true) × (length address ≤ 65535) × (length service ≤ 65535) × (length others ≤ 65535) × (length nqn ≤ 65535)
+    pub ssns-passed : a .number ≡ 0 → (waits s 4 ≡ true) × (length address ≤ 65535) × (length service ≤ 65535) × (length others ≤ 65535) × (length nqn ≤ 65535)
         × (length (under (ownNeed (imageIn ssns b 0)) [] path) ≤ 65535)
+    unfolding layoutOf ssns
     ssns-passed z =
         let last : Bool = Fine (ownNeed (imageIn ssns b 0)) path in
         let p = judge-passed (layoutOf 4) s (imageIn (layoutOf 4) b 0) (fine₄ (imageIn ssns b 0)) a ea z in
@@ -223,10 +225,8 @@ module _ (s : State) (buf x b address service others nqn e c path : List ℕ) (a
     pub ssns-done : a .number ≡ 0 → laidSsns s buf b c address service others nqn path ≡ tellSsns s buf x address service others nqn e path
     unfolding laidSsns ssnsSlots tellSsns layoutOf ssns extended ssnsTold pathTold toldSlots
     ssns-done z =
-        let laid : (img own : List ℕ) → Outcome =
-        λ img own.
-        told ssns s buf (sizeOf (ssnsSlots img address service others nqn own path)) (patched (s .used) img (ssnsSlots img address service others nqn own path)) (heapOf (s .used) (ssnsSlots img address service others nqn own path)) in
-        ap₂ laid told₄ told₉ ∙ sym (fill-passed ssns s buf x b (ssnsTold address service others nqn e path) (fine₄ (imageIn ssns b 0)) a eb ea ssns-fine z)
+        ap₂ (λ (img own : List ℕ). laid ssns s buf b (ssnsSlots img address service others nqn own path)) told₄ told₉
+        ∙ fill-done ssns s buf x b (ssnsTold address service others nqn e path) (fine₄ (imageIn ssns b 0)) a eb ea ssns-fine z
 
 pub not-own : (img : List ℕ) (f : ℕ) → f ≡ num img 3 2 → f / 16 % 2 ≡ 0 → Ignored ≡ ownNeed img
 unfolding ownNeed

@@ -1,17 +1,20 @@
 -- An SSNS record and its extended info, which is there only under a flag. Definitions only.
-use mathlib.Core.List.{List}
-use Prim.Native.Nat.{ℕ}
+use mathlib.Core.List.{List, [], _∷_}
+use Prim.Native.Nat.{ℕ, _+_}
+use lib.ListN.{length}
 use lib.Dec.{eqb}
 use Rattle.table.specs.declared.Need.{Need}
 use Rattle.table.specs.declared.Need.the-variants.{Ignored, Optional}
 use Rattle.table.specs.declared.State.{State}
 use Rattle.table.specs.Bytes.{pick, bits}
-use Rattle.table.specs.Layout.{Slots, nil, bytes, gone, rec}
+use Rattle.table.specs.Layout.{Slots, nil, bytes, gone, rec, baseOf}
 use Rattle.table.specs.FixedLayouts.{whenSet, ssns, extended}
-use Rattle.table.specs.Objects.{under, sizeOf, patched, heapOf}
+use Rattle.table.specs.Objects.{under}
 use Rattle.table.specs.Builder.{Outcome}
 use Rattle.laws.specs.Fields.{imageIn}
-use Rattle.steps.specs.Steps.{told}
+use Rattle.writer.proofs.StoreLaws.{concat}
+use Rattle.record_writers.specs.Written.{recordWith}
+use Rattle.steps.specs.Steps.{laid}
 use Rattle.filling.specs.Calls.{pathTold}
 
 -- img is the image of an SSNS record
@@ -24,9 +27,23 @@ unfolding ssns
 ssnsSlots img address service others nqn own path =
     bytes address (bytes service (bytes others (bytes nqn (under (whenSet 3 2 4 4 img) (gone nil) (rec own (pathTold path) nil)))))
 
--- the record in b and what it names laid into buf, where there is room: e has the extended info
+-- how many bytes the extended info and its object take: none where its size is 0
+unfoldable pub extendedSize : (size : ℕ) (path : List ℕ) → ℕ
+extendedSize size path = pick (eqb size 0) 0 (baseOf extended + length path)
+
+-- the extended info told in e at a, and its object
+unfoldable pub extendedPart : (e : List ℕ) (a size : ℕ) (path : List ℕ) → List ℕ
+extendedPart e a size path =
+    pick (eqb size 0) [] (concat (recordWith extended e (a + baseOf extended) (length path ∷ []) (length path ∷ []) ∷ path ∷ []))
+
+-- with the objects before it, from u on
+unfoldable pub namedPart : (u : ℕ) (address service others nqn : List ℕ) (size : ℕ) (e path : List ℕ) → List ℕ
+namedPart u address service others nqn size e path =
+    let a = u + length address + length service + length others + length nqn in
+    concat (address ∷ service ∷ others ∷ nqn ∷ extendedPart e a size path ∷ [])
+
+-- the record told in b and what it names laid into buf, where there is room: e has the extended info
 unfoldable pub laidSsns : State → (buf b e address service others nqn path : List ℕ) → Outcome
 laidSsns s buf b e address service others nqn path =
     let img = imageIn ssns b 0 in
-    let ss = ssnsSlots img address service others nqn (imageIn extended e 0) path in
-    told ssns s buf (sizeOf ss) (patched (s .used) img ss) (heapOf (s .used) ss)
+    laid ssns s buf b (ssnsSlots img address service others nqn (imageIn extended e 0) path)

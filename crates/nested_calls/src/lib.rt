@@ -1,12 +1,15 @@
 // The builder's calls for records that name a heap record: an HFI its transport info, an SSNS record, under flag 4, its extended info. Any state,
 // buffer and told bytes may be handed in.
-use filling::sizes::both;
-use filling::sizes::nested_sizes;
-use filling::sizes::only_nested;
 use flags::ssns_flags;
+use record_writers::write_extended;
+use record_writers::write_hfi;
+use record_writers::write_info;
+use record_writers::write_ssns;
+use room::room_fault;
 use steps::judging::judged;
 use steps::judging::refused;
-use steps::laying::lay_told;
+use steps::laying::lay_pieces;
+use steps::laying::stepped;
 use table::Extended;
 use table::Hfi;
 use table::Info;
@@ -17,22 +20,46 @@ use table::Step;
 use told::marks::mark_18;
 use told::marks::mark_32;
 use told::marks::mark_128;
+use told::objects::both;
 use told::objects::fits;
-use told::objects::held;
 use told::objects::kept;
+use writer::stores::copy_into;
 ghost use mathlib.Core.Path.{_≡_};
 ghost use mathlib.Core.Bool.{true, _&&_};
 ghost use mathlib.Core.List.{[]};
-ghost use Prim.Native.Nat.{_≤_};
+ghost use Prim.Native.Nat.{_+_, _≤_};
 ghost use lib.ListN.{length};
 ghost use Rattle.table.specs.declared.Need.the-variants.{Optional, Required};
+ghost use Rattle.table.specs.Bytes.{splice};
+ghost use Rattle.table.specs.Layout.{baseOf};
 ghost use Rattle.table.specs.FixedLayouts as layouts;
 ghost use Rattle.table.specs.Objects.{under};
 ghost use Rattle.table.specs.Builder.{waits};
 ghost use Rattle.laws.specs.Fields.{imageIn};
-ghost use Rattle.filling.specs.Calls.{tellHfi, tellSsns};
+ghost use Rattle.steps.specs.Steps.{laid};
+ghost use Rattle.filling.specs.Calls.{hfiTold, tellHfi, tellSsns};
 ghost use Rattle.filling.proofs.FillLaws.{Fine};
-ghost use Rattle.nested_calls.specs.Nested.{ownNeed, laidSsns};
+ghost use Rattle.nested_calls.specs.Nested.{ownNeed, extendedSize, extendedPart, namedPart, laidSsns};
+
+// The HFI told in `b`, behind the bytes used its transport info told in `i`, and behind this its host name, where there is room.
+fn lay_hfi(out: &mut [u8], s: State, b: &[u8], i: &[u8], name: &[u8]) -> Step
+    requires { ⌜ (waits s 3 ≡ true) × (length (now b) ≡ baseOf layouts.hfi) × (length (now i) ≡ baseOf layouts.info) × (length (now name) ≤ 65535) ⌝ }
+    ensures { λ r. ⌜ (r ≡ laid layouts.hfi s (now (out .entry)) (now (b .entry)) (hfiTold (imageIn layouts.info (now (i .entry)) 0) (now (name .entry))) .step) × (now (out .exit) ≡ laid layouts.hfi s (now (out .entry)) (now (b .entry)) (hfiTold (imageIn layouts.info (now (i .entry)) 0) (now (name .entry))) .buffer) ⌝ }
+{
+    let used = s.used;
+    let n = Info::SIZE + name.len();
+    let f = room_fault(used + n, out.len());
+    if f.number != 0 {
+        return refused(f, s);
+    }
+    let at = turns::place_of(s, Hfi::ID);
+    let end = at + Hfi::SIZE;
+    write_hfi(&mut out[at..end], b, used, name.len());
+    let own = used + Info::SIZE;
+    write_info(&mut out[used..own], i, own, name.len());
+    copy_into(out, own, name);
+    stepped(f, s, n)
+}
 
 // An HFI, its transport info, and the host name that this names.
 pub fn hfi(out: &mut [u8], s: State, x: Hfi, info: Info, name: &[u8]) -> Step
@@ -46,26 +73,7 @@ pub fn hfi(out: &mut [u8], s: State, x: Hfi, info: Info, name: &[u8]) -> Step
     if a.number != 0 {
         return refused(a, s);
     }
-    let n = name.len();
-    let own = s.used + Info::SIZE;
-    let h = held(&i, Info::ID, own, n);
-    let none = &name[0..0];
-    let z = only_nested(Info::SIZE, n);
-    lay_told(
-        out,
-        s,
-        Hfi::ID,
-        &b,
-        kinds::reference_offsets(Hfi::ID),
-        z,
-        Info::SIZE + n,
-        &h[0..Info::SIZE],
-        name,
-        none,
-        none,
-        none,
-        none,
-    )
+    lay_hfi(out, s, &b, &i, name)
 }
 
 // The need for the object of the extended info: there is none where the extended info is not.
@@ -110,7 +118,42 @@ fn ssns_fits(
     )
 }
 
-// The SSNS record in `b`, its objects, its extended info in `e`, and the object of this; the last two only where the record's flag 4 is set.
+// The extended info told in `e` at `at`, and behind it its root path; nothing where it is to have no bytes.
+fn lay_extended(out: &mut [u8], at: usize, size: usize, e: &[u8], path: &[u8])
+    requires { ⌜ (length (now e) ≡ baseOf layouts.extended) × (length (now path) ≤ 65535) × (at ≤ 65536) × (at + extendedSize size (now path) ≤ length (now out)) ⌝ }
+    ensures { λ r. ⌜ now (out .exit) ≡ splice (now (out .entry)) at (extendedPart (now (e .entry)) at size (now (path .entry))) ⌝ }
+{
+    if size == 0 {
+        return;
+    }
+    let end = at + Extended::SIZE;
+    write_extended(&mut out[at..end], e, end, path.len());
+    copy_into(out, end, path);
+}
+
+// What an SSNS record names, from `u` on.
+fn lay_named(
+    out: &mut [u8],
+    u: usize,
+    address: &[u8],
+    service: &[u8],
+    others: &[u8],
+    nqn: &[u8],
+    size: usize,
+    e: &[u8],
+    path: &[u8],
+)
+    requires { ⌜ (length (now e) ≡ baseOf layouts.extended) × (length (now path) ≤ 65535) ⌝ }
+    requires { ⌜ (u + (length (now address) + length (now service) + length (now others) + length (now nqn) + extendedSize size (now path)) ≤ 65536) × (u + (length (now address) + length (now service) + length (now others) + length (now nqn) + extendedSize size (now path)) ≤ length (now out)) ⌝ }
+    ensures { λ r. ⌜ now (out .exit) ≡ splice (now (out .entry)) u (namedPart u (now (address .entry)) (now (service .entry)) (now (others .entry)) (now (nqn .entry)) size (now (e .entry)) (now (path .entry))) ⌝ }
+{
+    let none = &nqn[0..0];
+    lay_pieces(out, u, address, service, others, nqn, none, none);
+    let at = u + address.len() + service.len() + others.len() + nqn.len();
+    lay_extended(out, at, size, e, path);
+}
+
+// The SSNS record told in `b` and what it names, where there is room; its extended info told in `e` and the object of this only where its flag 4 is set.
 fn lay_ssns(
     out: &mut [u8],
     s: State,
@@ -122,31 +165,35 @@ fn lay_ssns(
     nqn: &[u8],
     path: &[u8],
 ) -> Step
-    requires { ⌜ (waits s 4 ≡ true) × (length (now b) ≡ 128) × (length (now e) ≡ 18) ⌝ }
+    requires { ⌜ (waits s 4 ≡ true) × (length (now b) ≡ baseOf layouts.ssns) × (length (now e) ≡ baseOf layouts.extended) ⌝ }
     requires { ⌜ (length (now address) ≤ 65535) × (length (now service) ≤ 65535) × (length (now others) ≤ 65535) × (length (now nqn) ≤ 65535) × (length (under (ownNeed (imageIn layouts.ssns (now b) 0)) [] (now path)) ≤ 65535) ⌝ }
     ensures { λ r. ⌜ (r ≡ laidSsns s (now (out .entry)) (now (b .entry)) (now (e .entry)) (now (address .entry)) (now (service .entry)) (now (others .entry)) (now (nqn .entry)) (now (path .entry)) .step) × (now (out .exit) ≡ laidSsns s (now (out .entry)) (now (b .entry)) (now (e .entry)) (now (address .entry)) (now (service .entry)) (now (others .entry)) (now (nqn .entry)) (now (path .entry)) .buffer) ⌝ }
 {
+    let used = s.used;
     let need = own_need(b);
-    let m = own_size(need);
+    let size = own_size(need);
     let own = kept(need, path);
     let front = address.len() + service.len() + others.len() + nqn.len();
-    let h = held(e, Extended::ID, s.used + front + m, own.len());
-    let z = nested_sizes(address, service, others, nqn, m, own);
-    lay_told(
-        out,
-        s,
-        Ssns::ID,
+    let n = front + size + own.len();
+    let f = room_fault(used + n, out.len());
+    if f.number != 0 {
+        return refused(f, s);
+    }
+    let at = turns::place_of(s, Ssns::ID);
+    let end = at + Ssns::SIZE;
+    write_ssns(
+        &mut out[at..end],
         b,
-        kinds::reference_offsets(Ssns::ID),
-        z,
-        front + m + own.len(),
-        address,
-        service,
-        others,
-        nqn,
-        &h[0..m],
-        own,
-    )
+        used,
+        address.len(),
+        service.len(),
+        others.len(),
+        nqn.len(),
+        size,
+        own.len(),
+    );
+    lay_named(out, used, address, service, others, nqn, size, e, own);
+    stepped(f, s, n)
 }
 
 // An SSNS record: address, service, secondary HFI indexes, NQN; its extended info, and the DHCP root path that this names.

@@ -1,51 +1,30 @@
--- The objects of each kind's call, as tables of lengths and as pieces. Assumes nothing.
+-- The objects of each kind's call. Assumes nothing.
 use mathlib.Core.Path.{_≡_, refl, sym, ap, _∙_}
 use mathlib.Core.Bool.{Bool, true, _&&_}
-use mathlib.Core.List.{List, [], _∷_}
-use Prim.Native.Nat.{ℕ, _+_, _≤_, _<_}
+use mathlib.Core.List.{List, [], _∷_, append-nil}
+use Prim.Native.Nat.{ℕ, _+_, _≤_}
 use native.Mathlib.Omega.{arith}
-use lib.ListN.{length, getD, take}
-use lib.Dec.{T, leb}
+use lib.ListN.{length}
 use Rattle.table.specs.declared.Need.{Need}
 use Rattle.table.specs.declared.Need.the-variants.{Optional, Required}
 use Rattle.table.specs.declared.Answer.{Answer}
 use Rattle.table.specs.declared.State.{State}
-use Rattle.table.specs.Bytes.{every, apply}
-use Rattle.table.specs.Layout.{Layout, baseOf, offsets}
 use Rattle.table.specs.FixedLayouts.{layoutOf, host, security, discovery}
-use Rattle.table.specs.Objects.{under, sizeOf, heapOf}
+use Rattle.table.specs.Objects.{under, sizeOf, heapOf, patched}
 use Rattle.table.specs.Reads.{needAt}
 use Rattle.table.specs.Rules.{firstFail}
 use Rattle.table.specs.Builder.{waits, toldImage, toldSlots}
 use Rattle.laws.specs.Fields.{imageIn}
-use Rattle.writer.specs.Stores.{storesFrom, Room}
 use Rattle.writer.proofs.StoreLaws.{concat}
+use Rattle.record_writers.specs.Written.{recordWith}
+use Rattle.record_writers.proofs.WriterLaws.{record-is}
 use Rattle.told.specs.Marks.{marked}
 use Rattle.told.proofs.Laws.{image-is}
-use Rattle.steps.specs.Steps.{told, judgeTests}
+use Rattle.steps.specs.Steps.{laid, judgeTests}
 use Rattle.steps.proofs.JudgeLaws.{judge-passed}
-use Rattle.steps.proofs.LayLaws.{six-long}
-use Rattle.plain_calls.specs.Plain.{laidPlain, securityFine}
+use Rattle.plain_calls.specs.Plain.{securityFine}
 use Rattle.filling.specs.Calls.{hostTold, tellHost, discoveryTold, tellDiscovery, securityTold, tellSecurity}
-use Rattle.filling.proofs.FillLaws.{Fine, allFine, and-true, fill-refused, fill-done, fine-short, offset-at, refs-room, six-short, two-true}
-
--- ---- six objects
-
--- they fit the references of a kind
-pub plain-room : (l : Layout) (ps : List ℕ) (m a b c d e f : ℕ) → T (every (λ p. leb (p + 6) (baseOf l)) (offsets (l .refs))) → take m ps ≡ offsets (l .refs)
-    → m ≡ length (offsets (l .refs)) → m ≤ 6 → a ≤ 65535 → b ≤ 65535 → c ≤ 65535 → d ≤ 65535 → e ≤ 65535 → f ≤ 65535
-    → Room m ps (a ∷ b ∷ c ∷ d ∷ e ∷ f ∷ []) (baseOf l)
-plain-room l ps m a b c d e f t q n k ka kb kc kd ke kf =
-    refs-room l ps (a ∷ b ∷ c ∷ d ∷ e ∷ f ∷ []) m t q n k
-    (six-short _ a b c d e f refl (omega arith) (omega arith) (omega arith) (omega arith) (omega arith) (omega arith))
-
--- by the lengths that the code has
-pub laid-is : (k : ℕ) (s : State) (buf b ps : List ℕ) (m n : ℕ) (ns ws p₁ p₂ p₃ p₄ p₅ p₆ : List ℕ)
-    → n ≡ length p₁ + length p₂ + length p₃ + length p₄ + length p₅ + length p₆ → ns ≡ length p₁ ∷ length p₂ ∷ length p₃ ∷ length p₄ ∷ length p₅ ∷ length p₆ ∷ [] → ws ≡ length p₁ ∷ length p₂ ∷ length p₃ ∷ length p₄ ∷ length p₅ ∷ length p₆ ∷ []
-    → told (layoutOf k) s buf n (apply (imageIn (layoutOf k) b 0) (storesFrom ps ns ws (s .used) 0 m)) (concat (p₁ ∷ p₂ ∷ p₃ ∷ p₄ ∷ p₅ ∷ p₆ ∷ [])) ≡ laidPlain k s buf b ps m p₁ p₂ p₃ p₄ p₅ p₆
-laid-is k s buf b ps m n ns ws p₁ p₂ p₃ p₄ p₅ p₆ en el ew =
-    let size : n ≡ length (concat (p₁ ∷ p₂ ∷ p₃ ∷ p₄ ∷ p₅ ∷ p₆ ∷ [])) = en ∙ omega (arith, six-long p₁ p₂ p₃ p₄ p₅ p₆) in
-    rw (size, el, ew) refl
+use Rattle.filling.proofs.FillLaws.{Fine, allFine, and-true, fill-refused, fill-done, fine-short, two-true}
 
 six-true : (c₁ c₂ c₃ c₄ c₅ c₆ : Bool) → (c₁ && (c₂ && (c₃ && (c₄ && (c₅ && c₆))))) ≡ true
     → (c₁ ≡ true) × (c₂ ≡ true) × (c₃ ≡ true) × (c₄ ≡ true) × (c₅ ≡ true) × (c₆ ≡ true)
@@ -59,6 +38,18 @@ six-true c₁ c₂ c₃ c₄ c₅ c₆ e =
 
 -- ---- the host
 
+pub host-size : (nqn : List ℕ) → length nqn ≡ sizeOf (hostTold nqn)
+unfolding host hostTold sizeOf
+host-size nqn = omega arith
+
+pub host-record : (b : List ℕ) (u : ℕ) (nqn : List ℕ) → recordWith host b u (length nqn ∷ []) (length nqn ∷ []) ≡ patched u (imageIn host b 0) (hostTold nqn)
+unfolding host hostTold
+host-record b u nqn = record-is host b u _ _ (hostTold nqn) (refl, refl, refl, tt)
+
+pub host-heap : (u : ℕ) (nqn : List ℕ) → nqn ≡ heapOf u (hostTold nqn)
+unfolding host hostTold heapOf
+host-heap u nqn = sym (append-nil nqn)
+
 module _ (s : State) (buf x b nqn : List ℕ) (a : Answer) (eb : b ≡ marked (layoutOf 2 .shape) (s .position) x)
     (ea : a ≡ firstFail (judgeTests (layoutOf 2) s (imageIn (layoutOf 2) b 0) (Fine Required nqn))) where
   host-fine : Fine Required nqn ≡ allFine (toldImage (host .shape) (s .position) x) (toldSlots (s .position) (toldImage (host .shape) (s .position) x) (hostTold nqn))
@@ -69,14 +60,30 @@ module _ (s : State) (buf x b nqn : List ℕ) (a : Answer) (eb : b ≡ marked (l
   unfolding tellHost layoutOf
   host-refused z = fill-refused host s buf x b (hostTold nqn) (Fine Required nqn) a eb ea host-fine z
 
-  pub host-done : a .number ≡ 0 → (ps : List ℕ) (m : ℕ) → take m ps ≡ offsets (layoutOf 2 .refs) → m ≡ length (offsets (layoutOf 2 .refs))
-      → laidPlain 2 s buf b ps m nqn [] [] [] [] [] ≡ tellHost s buf x nqn
-  unfolding tellHost layoutOf host hostTold toldSlots sizeOf heapOf
-  host-done z ps m e c =
-      fill-done host s buf x b (hostTold nqn) (Fine Required nqn) a eb ea host-fine z ps _ _ m _ _
-      (offset-at ps (18 ∷ []) m 0 e (omega arith), refl, refl, tt) (sym c) (six-long nqn [] [] [] [] [] ∙ omega arith) refl
+  pub host-passed : a .number ≡ 0 → (waits s 2 ≡ true) × (length nqn ≤ 65535)
+  unfolding layoutOf host
+  host-passed z =
+      let p = judge-passed (layoutOf 2) s (imageIn (layoutOf 2) b 0) (Fine Required nqn) a ea z in
+      (p .0, fine-short Required nqn (p .1))
+
+  pub host-done : a .number ≡ 0 → laid host s buf b (hostTold nqn) ≡ tellHost s buf x nqn
+  unfolding tellHost layoutOf host hostTold toldSlots
+  host-done z = fill-done host s buf x b (hostTold nqn) (Fine Required nqn) a eb ea host-fine z
 
 -- ---- a discovery record
+
+pub discovery-size : (address nqn : List ℕ) → length address + length nqn ≡ sizeOf (discoveryTold address nqn)
+unfolding discovery discoveryTold sizeOf
+discovery-size address nqn = omega arith
+
+pub discovery-record : (b : List ℕ) (u : ℕ) (address nqn : List ℕ)
+    → recordWith discovery b u (length address ∷ length nqn ∷ []) (length address ∷ length nqn ∷ []) ≡ patched u (imageIn discovery b 0) (discoveryTold address nqn)
+unfolding discovery discoveryTold
+discovery-record b u address nqn = record-is discovery b u _ _ (discoveryTold address nqn) (refl, refl, refl, (refl, refl, refl, tt))
+
+pub discovery-heap : (u : ℕ) (address nqn : List ℕ) → concat (address ∷ nqn ∷ []) ≡ heapOf u (discoveryTold address nqn)
+unfolding discovery discoveryTold heapOf
+discovery-heap u address nqn = refl
 
 module _ (s : State) (buf x b address nqn : List ℕ) (a : Answer) (eb : b ≡ marked (layoutOf 6 .shape) (s .position) x)
     (ea : a ≡ firstFail (judgeTests (layoutOf 6) s (imageIn (layoutOf 6) b 0) (Fine Optional address && Fine Optional nqn))) where
@@ -89,15 +96,35 @@ module _ (s : State) (buf x b address nqn : List ℕ) (a : Answer) (eb : b ≡ m
   unfolding tellDiscovery layoutOf
   discovery-refused z = fill-refused discovery s buf x b (discoveryTold address nqn) (Fine Optional address && Fine Optional nqn) a eb ea discovery-fine z
 
-  pub discovery-done : a .number ≡ 0 → (ps : List ℕ) (m : ℕ) → take m ps ≡ offsets (layoutOf 6 .refs) → m ≡ length (offsets (layoutOf 6 .refs))
-      → laidPlain 6 s buf b ps m address nqn [] [] [] [] ≡ tellDiscovery s buf x address nqn
-  unfolding tellDiscovery layoutOf discovery discoveryTold toldSlots sizeOf heapOf
-  discovery-done z ps m e c =
-      let at : (i : ℕ) → i < m → getD ps i 0 ≡ getD (6 ∷ 12 ∷ []) i 0 = λ i k. offset-at ps (6 ∷ 12 ∷ []) m i e k in
-      fill-done discovery s buf x b (discoveryTold address nqn) (Fine Optional address && Fine Optional nqn) a eb ea discovery-fine z ps _ _ m _ _
-      (at 0 (omega arith), refl, refl, (at 1 (omega arith), refl, refl, tt)) (sym c) (six-long address nqn [] [] [] [] ∙ omega arith) refl
+  pub discovery-passed : a .number ≡ 0 → (waits s 6 ≡ true) × (length address ≤ 65535) × (length nqn ≤ 65535)
+  unfolding layoutOf discovery
+  discovery-passed z =
+      let p = judge-passed (layoutOf 6) s (imageIn (layoutOf 6) b 0) (Fine Optional address && Fine Optional nqn) a ea z in
+      let q = two-true (Fine Optional address) (Fine Optional nqn) (p .1) in
+      (p .0, fine-short Optional address (q .0), fine-short Optional nqn (q .1))
+
+  pub discovery-done : a .number ≡ 0 → laid discovery s buf b (discoveryTold address nqn) ≡ tellDiscovery s buf x address nqn
+  unfolding tellDiscovery layoutOf discovery discoveryTold toldSlots
+  discovery-done z = fill-done discovery s buf x b (discoveryTold address nqn) (Fine Optional address && Fine Optional nqn) a eb ea discovery-fine z
 
 -- ---- a security record
+
+module _ (p₁ p₂ p₃ p₄ p₅ p₆ : List ℕ) where
+  pub security-size : length p₁ + length p₂ + length p₃ + length p₄ + length p₅ + length p₆ ≡ sizeOf (securityTold p₁ p₂ p₃ p₄ p₅ p₆)
+  unfolding security securityTold sizeOf
+  security-size = omega arith
+
+  pub security-record : (b : List ℕ) (u : ℕ) → recordWith security b u (length p₁ ∷ length p₂ ∷ length p₃ ∷ length p₄ ∷ length p₅ ∷ length p₆ ∷ []) (length p₁ ∷ length p₂ ∷ length p₃ ∷ length p₄
+      ∷ length p₅ ∷ length p₆ ∷ [])
+      ≡ patched u (imageIn security b 0) (securityTold p₁ p₂ p₃ p₄ p₅ p₆)
+  unfolding security securityTold
+  security-record b u =
+      record-is security b u _ _ (securityTold p₁ p₂ p₃ p₄ p₅ p₆)
+      (refl, refl, refl, (refl, refl, refl, (refl, refl, refl, (refl, refl, refl, (refl, refl, refl, (refl, refl, refl, tt))))))
+
+  pub security-heap : (u : ℕ) → concat (p₁ ∷ p₂ ∷ p₃ ∷ p₄ ∷ p₅ ∷ p₆ ∷ []) ≡ heapOf u (securityTold p₁ p₂ p₃ p₄ p₅ p₆)
+  unfolding security securityTold heapOf
+  security-heap u = refl
 
 -- the need of the reference at p of the security record in b
 abbrev pub needFor : List ℕ → ℕ → Need
@@ -121,26 +148,29 @@ module _ (s : State) (buf x b o₁ o₂ o₃ o₄ o₅ o₆ : List ℕ) (a : Ans
     unfolding tellSecurity layoutOf
     security-refused z = fill-refused security s buf x b (securityTold o₁ o₂ o₃ o₄ o₅ o₆) (securityFine (imageIn security b 0) o₁ o₂ o₃ o₄ o₅ o₆) a eb ea security-fine z
 
-    pub security-passed : a .number ≡ 0 → (waits s (layoutOf 5 .kind) ≡ true) × (length (under (needFor b 6) [] o₁) ≤ 65535) × (length (under (needFor b 12) [] o₂) ≤ 65535) × (length (under (needFor b 18) [] o₃) ≤ 65535) × (length (under (needFor b 24) [] o₄) ≤ 65535) × (length (under (needFor b 30) [] o₅) ≤ 65535) × (length (under (needFor b 36) [] o₆) ≤ 65535)
+    pub security-passed : a .number ≡ 0 → (waits s 5 ≡ true) × (length (under (needFor b 6) [] o₁) ≤ 65535) × (length (under (needFor b 12) [] o₂) ≤ 65535) × (length (under (needFor b 18) [] o₃)
+        ≤ 65535) × (length (under (needFor b 24) [] o₄) ≤ 65535) × (length (under (needFor b 30) [] o₅) ≤ 65535) × (length (under (needFor b 36) [] o₆) ≤ 65535)
+    unfolding layoutOf security
     security-passed z =
         let p = judge-passed (layoutOf 5) s (imageIn (layoutOf 5) b 0) (securityFine (imageIn security b 0) o₁ o₂ o₃ o₄ o₅ o₆) a ea z in
-        let q = six-true (Fine (needFor b 6) o₁) (Fine (needFor b 12) o₂) (Fine (needFor b 18) o₃) (Fine (needFor b 24) o₄) (Fine (needFor b 30) o₅) (Fine (needFor b 36) o₆) (p .1) in
-        (p .0, fine-short (needFor b 6) o₁ (q .0), fine-short (needFor b 12) o₂ (q .1), fine-short (needFor b 18) o₃ (q .2), fine-short (needFor b 24) o₄ (q .3), fine-short (needFor b 30) o₅ (q .4), fine-short (needFor b 36) o₆ (q .5))
+        let q = six-true (Fine (needFor b 6) o₁) (Fine (needFor b 12) o₂) (Fine (needFor b 18) o₃) (Fine (needFor b 24) o₄) (Fine (needFor b 30) o₅) (Fine (needFor b 36) o₆) (p .1) in (
+          p .0,
+          fine-short (needFor b 6) o₁ (q .0),
+          fine-short (needFor b 12) o₂ (q .1),
+          fine-short (needFor b 18) o₃ (q .2),
+          fine-short (needFor b 24) o₄ (q .3),
+          fine-short (needFor b 30) o₅
+              (q .4),
+          fine-short (needFor b 36) o₆ (q .5),
+        )
 
-    pub security-done : a .number ≡ 0 → (ps : List ℕ) (m : ℕ) (k₁ k₂ k₃ k₄ k₅ k₆ : List ℕ)
-        → k₁ ≡ under (needFor b 6) [] o₁ → k₂ ≡ under (needFor b 12) [] o₂ → k₃ ≡ under (needFor b 18) [] o₃ → k₄ ≡ under (needFor b 24) [] o₄ → k₅ ≡ under (needFor b 30) [] o₅ → k₆ ≡ under (needFor b 36) [] o₆
-        → take m ps ≡ offsets (layoutOf 5 .refs) → m ≡ length (offsets (layoutOf 5 .refs))
-        → laidPlain 5 s buf b ps m k₁ k₂ k₃ k₄ k₅ k₆ ≡ tellSecurity s buf x o₁ o₂ o₃ o₄ o₅ o₆
-    unfolding tellSecurity layoutOf security securityTold toldSlots sizeOf heapOf
-    security-done z ps m k₁ k₂ k₃ k₄ k₅ k₆ g₁ g₂ g₃ g₄ g₅ g₆ e c =
-        let at : (i : ℕ) → i < m → getD ps i 0 ≡ getD (6 ∷ 12 ∷ 18 ∷ 24 ∷ 30 ∷ 36 ∷ []) i 0 = λ i k. offset-at ps (6 ∷ 12 ∷ 18 ∷ 24 ∷ 30 ∷ 36 ∷ []) m i e k in
+    pub security-done : a .number ≡ 0 → (k₁ k₂ k₃ k₄ k₅ k₆ : List ℕ)
+        → k₁ ≡ under (needFor b 6) [] o₁ → k₂ ≡ under (needFor b 12) [] o₂ → k₃ ≡ under (needFor b 18) [] o₃ → k₄ ≡ under (needFor b 24) [] o₄ → k₅ ≡ under (needFor b 30) [] o₅ → k₆ ≡ under
+        (needFor b 36) [] o₆
+        → laid security s buf b (securityTold k₁ k₂ k₃ k₄ k₅ k₆) ≡ tellSecurity s buf x o₁ o₂ o₃ o₄ o₅ o₆
+    unfolding tellSecurity layoutOf security securityTold toldSlots
+    security-done z k₁ k₂ k₃ k₄ k₅ k₆ g₁ g₂ g₃ g₄ g₅ g₆ =
         let kept : (p : ℕ) (o : List ℕ) → under (needFor b p) [] o ≡ under (needAt p (security .refs) img₅) [] o =
         λ p o. ap (λ (y : List ℕ). under (needAt p (security .refs) y) [] o) told₅ in
-        let d₁ = g₁ ∙ kept 6 o₁ in
-        let d₂ = g₂ ∙ kept 12 o₂ in
-        let d₃ = g₃ ∙ kept 18 o₃ in
-        let d₄ = g₄ ∙ kept 24 o₄ in
-        let d₅ = g₅ ∙ kept 30 o₅ in
-        let d₆ = g₆ ∙ kept 36 o₆ in
-        fill-done security s buf x b (securityTold o₁ o₂ o₃ o₄ o₅ o₆) (securityFine (imageIn security b 0) o₁ o₂ o₃ o₄ o₅ o₆) a eb ea security-fine z ps _ _ m _ _ (at 0 (omega arith), ap length d₁, ap length d₁, (at 1 (omega arith), ap length d₂, ap length d₂, (at 2 (omega arith), ap length d₃, ap length d₃, (at 3 (omega arith), ap length d₄, ap length d₄, (at 4 (omega arith), ap length d₅, ap length d₅, (at 5 (omega arith), ap length d₆, ap length d₆, tt))))))
-        (sym c) (six-long k₁ k₂ k₃ k₄ k₅ k₆ ∙ omega (arith, ap length d₁, ap length d₂, ap length d₃, ap length d₄, ap length d₅, ap length d₆)) (rw (d₁, d₂, d₃, d₄, d₅, d₆) refl)
+        rw (g₁ ∙ kept 6 o₁, g₂ ∙ kept 12 o₂, g₃ ∙ kept 18 o₃, g₄ ∙ kept 24 o₄, g₅ ∙ kept 30 o₅, g₆ ∙ kept 36 o₆)
+        (fill-done security s buf x b (securityTold o₁ o₂ o₃ o₄ o₅ o₆) (securityFine (imageIn security b 0) o₁ o₂ o₃ o₄ o₅ o₆) a eb ea security-fine z)

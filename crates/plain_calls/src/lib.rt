@@ -1,57 +1,53 @@
 // The builder's calls for records that name objects only: host, security, discovery. Any state, buffer and told bytes may be handed in.
-use filling::sizes::both;
-use filling::sizes::plain_sizes;
 use needs::security_need;
+use record_writers::write_discovery;
+use record_writers::write_host;
+use record_writers::write_security;
+use room::room_fault;
 use steps::judging::judged;
 use steps::judging::refused;
-use steps::laying::lay_told;
+use steps::laying::lay_pieces;
+use steps::laying::stepped;
 use table::Discovery;
 use table::Host;
 use table::Need;
-use table::Offsets;
 use table::Security;
 use table::State;
 use table::Step;
 use told::marks::mark_32;
 use told::marks::mark_64;
+use told::objects::both;
 use told::objects::fits;
 use told::objects::kept;
+use writer::stores::copy_into;
 ghost use mathlib.Core.Path.{_≡_};
 ghost use mathlib.Core.Bool.{true};
-ghost use mathlib.Core.List.{[], _∷_};
 ghost use Prim.Native.Nat.{_≤_};
 ghost use lib.ListN.{length};
 ghost use Rattle.table.specs.Layout.{baseOf};
 ghost use Rattle.table.specs.FixedLayouts as layouts;
 ghost use Rattle.table.specs.Builder.{waits};
 ghost use Rattle.laws.specs.Fields.{imageIn};
-ghost use Rattle.writer.specs.Stores.{Room};
-ghost use Rattle.filling.specs.Calls.{tellHost, tellSecurity, tellDiscovery};
-ghost use Rattle.plain_calls.specs.Plain.{laidPlain, securityFine};
+ghost use Rattle.steps.specs.Steps.{laid};
+ghost use Rattle.filling.specs.Calls.{hostTold, tellHost, securityTold, tellSecurity, discoveryTold, tellDiscovery};
+ghost use Rattle.plain_calls.specs.Plain.{securityFine};
 
-// The record of a kind in `b`, whose references name objects alone, so that each takes its own length. A kind that has fewer than six is handed
-// empty ones for the rest.
-fn lay_plain(
-    out: &mut [u8],
-    s: State,
-    kind: u8,
-    b: &[u8],
-    refs: Offsets,
-    p1: &[u8],
-    p2: &[u8],
-    p3: &[u8],
-    p4: &[u8],
-    p5: &[u8],
-    p6: &[u8],
-) -> Step
-    requires { ⌜ (2 ≤ kind) × (kind ≤ 6) × (waits s kind ≡ true) × (length (now b) ≡ baseOf (layouts.layoutOf kind)) ⌝ }
-    requires { ⌜ (length (now p1) ≤ 65535) × (length (now p2) ≤ 65535) × (length (now p3) ≤ 65535) × (length (now p4) ≤ 65535) × (length (now p5) ≤ 65535) × (length (now p6) ≤ 65535) ⌝ }
-    requires { ⌜ Room (refs .count) (refs .at) (length (now p1) ∷ length (now p2) ∷ length (now p3) ∷ length (now p4) ∷ length (now p5) ∷ length (now p6) ∷ []) (baseOf (layouts.layoutOf kind)) ⌝ }
-    ensures { λ r. ⌜ (r ≡ laidPlain kind s (now (out .entry)) (now (b .entry)) (refs .at) (refs .count) (now (p1 .entry)) (now (p2 .entry)) (now (p3 .entry)) (now (p4 .entry)) (now (p5 .entry)) (now (p6 .entry)) .step) × (now (out .exit) ≡ laidPlain kind s (now (out .entry)) (now (b .entry)) (refs .at) (refs .count) (now (p1 .entry)) (now (p2 .entry)) (now (p3 .entry)) (now (p4 .entry)) (now (p5 .entry)) (now (p6 .entry)) .buffer) ⌝ }
+// The host told in `b` and its NQN, where there is room.
+fn lay_host(out: &mut [u8], s: State, b: &[u8], nqn: &[u8]) -> Step
+    requires { ⌜ (waits s 2 ≡ true) × (length (now b) ≡ baseOf layouts.host) × (length (now nqn) ≤ 65535) ⌝ }
+    ensures { λ r. ⌜ (r ≡ laid layouts.host s (now (out .entry)) (now (b .entry)) (hostTold (now (nqn .entry))) .step) × (now (out .exit) ≡ laid layouts.host s (now (out .entry)) (now (b .entry)) (hostTold (now (nqn .entry))) .buffer) ⌝ }
 {
-    let z = plain_sizes(p1.len(), p2.len(), p3.len(), p4.len(), p5.len(), p6.len());
-    let n = p1.len() + p2.len() + p3.len() + p4.len() + p5.len() + p6.len();
-    lay_told(out, s, kind, b, refs, z, n, p1, p2, p3, p4, p5, p6)
+    let used = s.used;
+    let n = nqn.len();
+    let f = room_fault(used + n, out.len());
+    if f.number != 0 {
+        return refused(f, s);
+    }
+    let at = turns::place_of(s, Host::ID);
+    let end = at + Host::SIZE;
+    write_host(&mut out[at..end], b, used, n);
+    copy_into(out, used, nqn);
+    stepped(f, s, n)
 }
 
 // The host and its NQN.
@@ -64,20 +60,26 @@ pub fn host(out: &mut [u8], s: State, x: Host, nqn: &[u8]) -> Step
     if a.number != 0 {
         return refused(a, s);
     }
-    let none = &nqn[0..0];
-    lay_plain(
-        out,
-        s,
-        Host::ID,
-        &b,
-        kinds::reference_offsets(Host::ID),
-        nqn,
-        none,
-        none,
-        none,
-        none,
-        none,
-    )
+    lay_host(out, s, &b, nqn)
+}
+
+// The discovery controller told in `b`, its address and its NQN, where there is room.
+fn lay_discovery(out: &mut [u8], s: State, b: &[u8], address: &[u8], nqn: &[u8]) -> Step
+    requires { ⌜ (waits s 6 ≡ true) × (length (now b) ≡ baseOf layouts.discovery) × (length (now address) ≤ 65535) × (length (now nqn) ≤ 65535) ⌝ }
+    ensures { λ r. ⌜ (r ≡ laid layouts.discovery s (now (out .entry)) (now (b .entry)) (discoveryTold (now (address .entry)) (now (nqn .entry))) .step) × (now (out .exit) ≡ laid layouts.discovery s (now (out .entry)) (now (b .entry)) (discoveryTold (now (address .entry)) (now (nqn .entry))) .buffer) ⌝ }
+{
+    let used = s.used;
+    let n = address.len() + nqn.len();
+    let f = room_fault(used + n, out.len());
+    if f.number != 0 {
+        return refused(f, s);
+    }
+    let at = turns::place_of(s, Discovery::ID);
+    let end = at + Discovery::SIZE;
+    write_discovery(&mut out[at..end], b, used, address.len(), nqn.len());
+    copy_into(out, used, address);
+    copy_into(out, used + address.len(), nqn);
+    stepped(f, s, n)
 }
 
 // A discovery controller, its address and its NQN.
@@ -91,20 +93,7 @@ pub fn discovery(out: &mut [u8], s: State, x: Discovery, address: &[u8], nqn: &[
     if a.number != 0 {
         return refused(a, s);
     }
-    let none = &nqn[0..0];
-    lay_plain(
-        out,
-        s,
-        Discovery::ID,
-        &b,
-        kinds::reference_offsets(Discovery::ID),
-        address,
-        nqn,
-        none,
-        none,
-        none,
-        none,
-    )
+    lay_discovery(out, s, &b, address, nqn)
 }
 
 // Whether each object of the security record in `b` is as the need of its reference has it.
@@ -130,6 +119,45 @@ fn security_fits(
     )
 }
 
+// The security profile told in `b` and its objects, where there is room.
+fn lay_security(
+    out: &mut [u8],
+    s: State,
+    b: &[u8],
+    p1: &[u8],
+    p2: &[u8],
+    p3: &[u8],
+    p4: &[u8],
+    p5: &[u8],
+    p6: &[u8],
+) -> Step
+    requires { ⌜ (waits s 5 ≡ true) × (length (now b) ≡ baseOf layouts.security) ⌝ }
+    requires { ⌜ (length (now p1) ≤ 65535) × (length (now p2) ≤ 65535) × (length (now p3) ≤ 65535) × (length (now p4) ≤ 65535) × (length (now p5) ≤ 65535) × (length (now p6) ≤ 65535) ⌝ }
+    ensures { λ r. ⌜ (r ≡ laid layouts.security s (now (out .entry)) (now (b .entry)) (securityTold (now (p1 .entry)) (now (p2 .entry)) (now (p3 .entry)) (now (p4 .entry)) (now (p5 .entry)) (now (p6 .entry))) .step) × (now (out .exit) ≡ laid layouts.security s (now (out .entry)) (now (b .entry)) (securityTold (now (p1 .entry)) (now (p2 .entry)) (now (p3 .entry)) (now (p4 .entry)) (now (p5 .entry)) (now (p6 .entry))) .buffer) ⌝ }
+{
+    let used = s.used;
+    let n = p1.len() + p2.len() + p3.len() + p4.len() + p5.len() + p6.len();
+    let f = room_fault(used + n, out.len());
+    if f.number != 0 {
+        return refused(f, s);
+    }
+    let at = turns::place_of(s, Security::ID);
+    let end = at + Security::SIZE;
+    write_security(
+        &mut out[at..end],
+        b,
+        used,
+        p1.len(),
+        p2.len(),
+        p3.len(),
+        p4.len(),
+        p5.len(),
+        p6.len(),
+    );
+    lay_pieces(out, used, p1, p2, p3, p4, p5, p6);
+    stepped(f, s, n)
+}
+
 // A security profile and its objects, in the order of their references: those at 6, 12, 18, 24, 30 and 36.
 pub fn security(
     out: &mut [u8],
@@ -151,12 +179,10 @@ pub fn security(
     if a.number != 0 {
         return refused(a, s);
     }
-    lay_plain(
+    lay_security(
         out,
         s,
-        Security::ID,
         &b,
-        kinds::reference_offsets(Security::ID),
         kept(security_need(&b, 0, 6), algorithms),
         kept(security_need(&b, 0, 12), protocols),
         kept(security_need(&b, 0, 18), ciphers),

@@ -5,11 +5,12 @@ use mathlib.Core.List.{List, [], _∷_}
 use Prim.Native.Nat.{ℕ, _+_}
 use lib.ListN.{length}
 use Rattle.table.specs.declared.State.{State}
-use Rattle.table.specs.Bytes.{splice}
-use Rattle.table.specs.Layout.{Layout, baseOf, pairsRight}
+use Rattle.table.specs.Layout.{Layout, Slots, baseOf, pairsRight}
 use Rattle.table.specs.FixedLayouts.{layoutOf}
 use Rattle.table.specs.Rules.{Test, test, firstFail}
-use Rattle.table.specs.Builder.{Outcome, outcome, waits, next, placeOf, roomTests}
+use Rattle.table.specs.Objects.{sizeOf}
+use Rattle.table.specs.Builder.{Outcome, outcome, waits, next, placeOf, placed, roomTests}
+use Rattle.laws.specs.Fields.{imageIn}
 use Rattle.told.specs.Marks.{marked}
 
 -- b is what a caller told of a record of kind k, with what the builder sets itself; n is the record's position
@@ -21,7 +22,7 @@ abbrev pub judgeTests : (l : Layout) → State → List ℕ → Bool → List Te
 judgeTests l s img fine =
     test (waits s (l .kind)) 15 0 0 ∷ test (pairsRight (l .shape) img) 10 (l .kind) (s .position) ∷ test fine 11 (l .kind) (s .position) ∷ []
 
--- 17 and 14; where there is room, the record r in its own part of b and n bytes h behind the bytes used
-unfoldable pub told : Layout → State → List ℕ → ℕ → List ℕ → List ℕ → Outcome
-told l s b n r h =
-    outcome (firstFail (roomTests (s .used + n) (length b))) s (next s n) b (splice (splice b (placeOf s l) r) (s .used) h)
+-- 17 and 14; where there is room, the record of kind l told in b in its own part of buf, and what it names behind the bytes used
+unfoldable pub laid : (l : Layout) → State → (buf b : List ℕ) → Slots (l .refs) → Outcome
+laid l s buf b ss =
+    outcome (firstFail (roomTests (s .used + sizeOf ss) (length buf))) s (next s (sizeOf ss)) buf (placed buf (placeOf s l) (s .used) (imageIn l b 0) ss)

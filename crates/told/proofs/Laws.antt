@@ -1,21 +1,20 @@
 -- Told records: which kinds may be told, what the builder sets of them, and the image and the objects that are left. Assumes nothing.
 use mathlib.Core.Path.{_≡_, refl, sym, ap, ap₂, _∙_, subst}
 use mathlib.Core.Bool.{Bool, true, false, _&&_}
-use mathlib.Core.List.{List, [], _∷_, _++_, append-assoc, append-nil}
-use Prim.Native.Nat.{ℕ, _+_, _-_, _*_, _/_, _≤_, _<_}
+use mathlib.Core.List.{List, [], _∷_, _++_, append-nil}
+use Prim.Native.Nat.{ℕ, _+_, _*_, _/_, _<_}
 use native.Mathlib.Omega.{arith}
-use lib.ListN.{length, getD, take, drop, replicate, length-append, length-replicate}
-use lib.Seq.{take-append-le, drop-append-le, getD-take, take-length, drop-length}
-use lib.Dec.{leb, eqb, lit<, lit≤}
+use lib.ListN.{length, getD, take, drop}
+use lib.Seq.{take-length, drop-length}
+use lib.Dec.{leb, eqb, lit<}
 use borrow.Author.Tests.{ne-eqb, eqb-true}
 use Rattle.table.specs.declared.Need.the-variants.{Required}
-use Rattle.table.specs.Bytes.{splice, padded}
-use Rattle.table.specs.Layout.{Layout, Shape, baseOf, offsets}
+use Rattle.table.specs.Bytes.{splice}
+use Rattle.table.specs.Layout.{Layout, Shape, baseOf}
 use Rattle.table.specs.FixedLayouts.{layoutOf, host, hfi, ssns, security, discovery, info, extended}
 use Rattle.table.specs.Builder.{fitsNeed, isShort, toldImage}
-use Rattle.laws.specs.ByteLaws.{length-splice}
 use Rattle.laws.specs.Fields.{imageIn}
-use Rattle.told.specs.Marks.{Tellable, HeapKind, refAt, stamped, marked}
+use Rattle.told.specs.Marks.{Tellable, stamped, marked}
 
 -- one more store
 pub further : (t t′ u : List ℕ) (a : ℕ) (bs : List ℕ) → u ≡ splice t a bs → t ≡ t′ → u ≡ splice t′ a bs
@@ -34,45 +33,6 @@ required-none (x ∷ o) e = absurd (omega (arith, e))
 pub required-some : (o : List ℕ) → (length o ≡ 0 → ⊥) → leb (length o) 65535 ≡ (fitsNeed Required o && isShort o)
 required-some [] e = absurd (e refl)
 required-some (x ∷ o) e = refl
-
--- ---- heap records
-
-pad-splice : (x : List ℕ) (p : ℕ) (bs : List ℕ) (n : ℕ) → p + length bs ≤ length x → splice (padded n x) p bs ≡ padded n (splice x p bs)
-pad-splice x p bs n k =
-    let z : List ℕ = replicate (n - length x) 0 in
-    let l : length (splice x p bs) ≡ length x = length-splice x p bs k in
-    ap₂ (λ (u v : List ℕ). u ++ (bs ++ v)) (take-append-le p x z (omega arith)) (drop-append-le (p + length bs) x z k)
-    ∙ sym (append-assoc (take p x) (bs ++ drop (p + length bs) x) z ∙ ap (λ (u : List ℕ). take p x ++ u) (append-assoc bs (drop (p + length bs) x) z))
-    ∙ ap (λ (m : ℕ). splice x p bs ++ replicate (n - m) 0) (sym l)
-
-first-of-one : (at : List ℕ) (p : ℕ) → take 1 at ≡ p ∷ [] → getD at 0 0 ≡ p
-first-of-one at p e = sym (getD-take 1 at 0 0 (lit< tt)) ∙ ap (λ (x : List ℕ). getD x 0 0) e
-
-pub ref-at : (k : ℕ) (at : List ℕ) (n : ℕ) → HeapKind k → take n at ≡ offsets (layoutOf k .refs) → n ≡ length (offsets (layoutOf k .refs))
-    → (getD at 0 0 ≡ refAt k) × (refAt k + 6 ≤ baseOf (layoutOf k)) × (baseOf (layoutOf k) ≤ 128)
-unfolding layoutOf info extended
-ref-at k at n h e l = go (eqb k 7) refl
-  where
-    go : (b : Bool) → eqb k 7 ≡ b → (getD at 0 0 ≡ refAt k) × (refAt k + 6 ≤ baseOf (layoutOf k)) × (baseOf (layoutOf k) ≤ 128)
-    go true q =
-        let s : k ≡ 7 = eqb-true k 7 q in
-        let m : n ≡ 1 = rw s at l in
-        let f : take 1 at ≡ 104 ∷ [] = rw (s, m) at e in
-        rw s (first-of-one at 104 f, lit≤ tt, lit≤ tt)
-    go false q =
-        let s : k ≡ 9 = eqb-true k 9 (rw q at h) in
-        let m : n ≡ 1 = rw s at l in
-        let f : take 1 at ≡ 12 ∷ [] = rw (s, m) at e in
-        rw s (first-of-one at 12 f, lit≤ tt, lit≤ tt)
-
--- the bytes of a heap record that code holds in an array
-pub held-is : (y x : List ℕ) (p : ℕ) (bs z : List ℕ) → z ≡ splice (take 128 y) p bs → y ≡ padded 128 x → length x ≤ 128 → p + length bs ≤ length x
-    → z ++ drop 128 y ≡ padded 128 (splice x p bs)
-held-is y x p bs z e f l k =
-    let n : length y ≡ 128 = ap length f ∙ length-append x (replicate (128 - length x) 0) ∙ omega (arith, length-replicate {A = ℕ} (128 - length x) 0) in
-    let t : take 128 y ≡ y = ap (λ (m : ℕ). take m y) (sym n) ∙ take-length y in
-    let d : drop 128 y ≡ [] = ap (λ (m : ℕ). drop m y) (sym n) ∙ drop-length y in
-    ap (λ (r : List ℕ). z ++ r) d ∙ append-nil z ∙ e ∙ ap (λ (r : List ℕ). splice r p bs) (t ∙ f) ∙ pad-splice x p bs 128 k
 
 -- ---- any kind that is told
 

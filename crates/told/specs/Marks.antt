@@ -5,19 +5,12 @@ use mathlib.Core.List.{List, [], _∷_, _++_}
 use Prim.Native.Nat.{ℕ, _+_, _*_, _/_}
 use lib.ListN.{getD}
 use lib.Dec.{eqb}
-use Rattle.table.specs.Bytes.{pick, le, splice, edit, apply}
+use Rattle.table.specs.Bytes.{le, splice, edit, apply}
 use Rattle.table.specs.Layout.{Shape}
 
--- the kinds of records that a caller tells, and those that stand in the heap
-abbrev pub HeapKind : ℕ → Type 0
-HeapKind k = (eqb k 7 || eqb k 9) ≡ true
-
+-- the kinds of records that a caller tells
 abbrev pub Tellable : ℕ → Type 0
 Tellable k = (eqb k 2 || (eqb k 3 || (eqb k 4 || (eqb k 5 || (eqb k 6 || (eqb k 7 || eqb k 9)))))) ≡ true
-
--- the one reference of a heap record
-abbrev pub refAt : ℕ → ℕ
-refAt k = pick (eqb k 7) 104 12
 
 -- x with what is fixed in a record of this shape and, where it has one, the index n
 unfoldable pub stamped : Shape → ℕ → List ℕ → List ℕ

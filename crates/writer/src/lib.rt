@@ -1,4 +1,4 @@
-// Writing: numbers, references, copies and zeros into lent bytes, and records into their own parts.
+// Writing: numbers, references, copies and zeros into lent bytes.
 pub mod checksum; // the checksum of a table
-pub mod records; // a record: its image and its references
+pub mod records; // the references of a record
 pub mod stores; // numbers, references, copies, zeros

@@ -1,5 +1,4 @@
-// Records written into a lent part: their image, and their references by a table of offsets.
-use crate::stores::copy_into;
+// The references of a record, stored in its own part by a table of offsets.
 use crate::stores::put_ref;
 use table::Offsets;
 ghost use mathlib.Core.Path.{_≡_};
@@ -43,15 +42,4 @@ pub fn put_refs(part: &mut [u8], t: Offsets, z: Sizes, h: usize)
         u = u + w;
         i += 1;
     }
-}
-
-// A record: its image, and its references.
-pub fn write_record(part: &mut [u8], img: &[u8], t: Offsets, z: Sizes, h: usize)
-    requires { ⌜ length (now img) ≡ length (now part) ⌝ }
-    requires { ⌜ Room (t .count) (t .at) (z .span) (length (now part)) ⌝ }
-    requires { ⌜ h ≤ 131072 ⌝ }
-    ensures { λ r. ⌜ now (part .exit) ≡ apply (now (img .entry)) (storesFrom (t .at) (z .len) (z .span) h 0 (t .count)) ⌝ }
-{
-    copy_into(part, 0, img);
-    put_refs(part, t, z, h);
 }

@@ -1,32 +1,58 @@
+use mathlib.Core.Path.{ap, _∙_}
+use mathlib.Core.List.{[], _∷_}
+use Prim.Native.Nat.{_+_, _≤_}
 use native.Mathlib.Omega.{arith}
-use mathlib.Core.Path.{_≡_, refl, sym, ap, _∙_}
-use mathlib.Core.List.{[]}
-use Prim.Native.Nat.{ℕ, _-_, _≤_}
-use lib.ListN.{length, take, length-take}
-use native.Mathlib.Nat.{sub-zero}
+use lib.ListN.{length}
 use lib.Dec.{lit≤}
-use Rattle.table.specs.FixedLayouts.{layoutOf, ssns, extended}
-use Rattle.table.specs.Builder.{Outcome, recordsEnd}
-use Rattle.table.specs.Objects.{under}
 use Rattle.table.specs.declared.Need.{Need}
+use Rattle.table.specs.FixedLayouts.{layoutOf, ssns, extended}
+use Rattle.table.specs.Objects.{under}
+use Rattle.table.specs.Builder.{recordsEnd}
+use Rattle.laws.specs.Fields.{imageIn}
+use Rattle.record_writers.specs.Written.{recordWith}
 use Rattle.turns.proofs.Laws.{used-bounds}
-use Rattle.steps.proofs.LayLaws.{six-long}
-use Rattle.filling.proofs.FillLaws.{refs-room, six-short}
-use Rattle.nested_calls.proofs.KindLaws.{ssns-laid}
+use Rattle.steps.proofs.LayLaws.{part-size, part-stored, roomy, laid-refused, laid-done}
+use Rattle.nested_calls.specs.Nested.{ssnsSlots, namedPart, laidSsns}
+use Rattle.nested_calls.proofs.KindLaws.{Laid, ssns-laid, extended-room}
 use borrow.Author.Needs.{needs}
 use Rattle.nested_calls.proofs.lay_ssns.Statement.{statement}
 use Rattle.nested_calls.proofs.lay_ssns.Tie as tie
 
--- what is known of the object of the extended info, and of the bytes used
-module _ (c : tie.After-kept) where
-  path-short : length (c .kept .result .now) ≤ 65535
-  path-short = rw (c .kept .ensures ∙ ap (λ (n : Need). under n [] (c .before .before .before .before .before .before .before .before .before .before .before .args .path .now)) (c .before .before .own-need .ensures)) (c .before .before .before .before .before .before .before .before .before .before .before .pre .1 .4)
+-- what is known of the object of the extended info
+path-short : (c : tie.After-kept) → length (c .kept .result .now) ≤ 65535
+path-short c = rw (c .kept .ensures ∙ ap (λ (n : Need). under n [] (c .before .before .before .before .before .before .before .before .before .before .before .args .path .now))
+    (c .before .before .own-need .ensures)) (c .before .before .before .before .before .before .before .before .before .before .before .pre .1 .4)
 
-  used : (recordsEnd (c .before .before .before .before .before .before .before .before .before .before .before .args .s) ≤ c .before .before .before .before .before .before .before .before .before .before .before .args .s .used) × (c .before .before .before .before .before .before .before .before .before .before .before .args .s .used ≤ 65536)
-  used = used-bounds (c .before .before .before .before .before .before .before .before .before .before .before .args .s) 4 (c .before .before .before .before .before .before .before .before .before .before .before .pre .0 .0)
+-- and of all that the record names
+named : (c : tie.After-kept) → let a = c .before .before .before .before .before .before .before .before .before .before .before .args in Laid (a .b .now) (a .e .now) (a .address .now)
+    (a .service .now) (a .others .now) (a .nqn .now) (a .path .now) (a .s .used) (ssnsSlots (imageIn ssns (a .b .now) 0) (a .address .now) (a .service .now) (a .others .now) (a .nqn .now)
+    (imageIn extended (a .e .now) 0) (a .path .now)) (c .before .own-size .result) (c .kept .result .now)
+named c =
+    let a = c .before .before .before .before .before .before .before .before .before .before .before .args in
+    ssns-laid (a .b .now) (a .e .now) (a .address .now) (a .service .now) (a .others .now) (a .nqn .now) (a .path .now) (a .s .used) (c .before .before .own-need .result)
+    (c .before .own-size .result) (c .kept .result .now) (c .before .before .own-need .ensures) (c .before .own-size .ensures .0) (c .kept .ensures)
+
+-- where there is room
+roomy-here : (c : tie.After-place-of) → let a = c .before .before .before .before .before .before .before .before .before .before .before .before .before .before .before .args in (recordsEnd
+    (a .s) ≤ a .s .used) × (a .s .used + (length (a .address .now) + length (a .service .now) + length (a .others .now) + length (a .nqn .now) +
+    c .before .before .before .before .before .own-size .result + length (c .before .before .before .before .kept .result .now)) ≤ 65536) × (a .s .used + (length (a .address .now) + length
+    (a .service .now) + length (a .others .now) + length (a .nqn .now) + c .before .before .before .before .before .own-size .result + length
+    (c .before .before .before .before .kept .result .now)) ≤ length (a .out .now))
+roomy-here c =
+    let s = c .before .before .before .before .before .before .before .before .before .before .before .before .before .before .before in
+    let a = s .args in
+    roomy (a .s) 4 (length (a .address .now) + length (a .service .now) + length (a .others .now) + length (a .nqn .now) + c .before .before .before .before .before .own-size .result + length
+    (c .before .before .before .before .kept .result .now)) (length (a .out .now)) (c .before .before .before .room-fault .result) (s .pre .0 .0) (c .before .before .before .room-fault .ensures)
+    (c .before .if1 .left)
+
+inside : (c : tie.After-place-of) → c .place-of .result + 128 ≤ length
+    (c .before .before .before .before .before .before .before .before .before .before .before .before .before .before .before .args .out .now)
+unfolding layoutOf ssns
+inside c = omega (arith, roomy-here c, c .place-of .ensures .1)
 
 own-need-requires : tie.Need-own-need-requires
-own-need-requires c κs = search needs
+unfolding ssns
+own-need-requires c κs = omega (arith, c .before .before .before .before .before .before .before .before .pre .0 .1)
 
 own-size-requires : tie.Need-own-size-requires
 own-size-requires c κs = search needs
@@ -35,54 +61,113 @@ kept-requires : tie.Need-kept-requires
 kept-requires c κs = search needs
 
 add-front : tie.Need-add-front
-add-front c = search needs
+add-front c = omega (arith, c .before .before .before .before .before .before .before .before .before .before .before .pre .1)
 
 add-front-2 : tie.Need-add-front-2
-add-front-2 c = search needs
+add-front-2 c = omega (arith, c .before .before .before .before .before .before .before .before .before .before .before .pre .1)
 
 add-front-3 : tie.Need-add-front-3
-add-front-3 c = search needs
+add-front-3 c = omega (arith, c .before .before .before .before .before .before .before .before .before .before .before .pre .1)
 
-add-held : tie.Need-add-held
-add-held c = omega (arith, c .before .before .before .before .before .before .before .before .before .before .before .before .pre .1, used (c .before))
+add-n : tie.Need-add-n
+add-n c = omega (arith, c .before .before .before .before .before .before .before .before .before .before .before .pre .1, c .before .own-size .ensures .1)
 
-add-held-2 : tie.Need-add-held-2
-add-held-2 c = omega (arith, c .before .before .before .before .before .before .before .before .before .before .before .before .pre .1, used (c .before), c .before .before .own-size .ensures .1)
+add-n-2 : tie.Need-add-n-2
+add-n-2 c = omega (arith, c .before .before .before .before .before .before .before .before .before .before .before .pre .1, c .before .own-size .ensures .1, path-short c)
 
-held-requires : tie.Need-held-requires
-unfolding layoutOf extended
-held-requires c κs = (refl, c .before .before .before .before .before .before .before .before .before .before .before .before .pre .0 .2)
+add-room-fault : tie.Need-add-room-fault
+add-room-fault c =
+    let s = c .before .before .before .before .before .before .before .before .before .before .before in
+    let v = used-bounds (s .args .s) 4 (s .pre .0 .0) in
+    omega (arith, v, s .pre .1, c .before .own-size .ensures .1, path-short c)
 
-nested-sizes-requires : tie.Need-nested-sizes-requires
-nested-sizes-requires c κs = let p = c .before .before .before .before .before .before .before .before .before .before .before .before .before .pre .1 in (p .0, p .1, p .2, p .3, omega (arith, c .before .before .before .own-size .ensures .1), path-short (c .before .before))
+room-fault-requires : tie.Need-room-fault-requires
+room-fault-requires c κs = search needs
 
-reference-offsets-requires : tie.Need-reference-offsets-requires
-reference-offsets-requires c κs = search needs
+refused-requires : tie.Need-refused-requires
+refused-requires c κs = search needs
 
-add-lay-told : tie.Need-add-lay-told
-add-lay-told c = omega (arith, c .before .before .before .before .before .before .before .before .before .before .before .before .before .before .before .before .pre .1, c .before .before .before .before .before .before .own-size .ensures .1)
+returns : tie.Need-returns
+unfolding laidSsns
+returns c =
+    let a = c .before .before .before .before .before .before .before .before .before .before .before .before .before .before .before .args in
+    laid-refused ssns (a .s) (a .out .now) (a .b .now) (ssnsSlots (imageIn ssns (a .b .now) 0) (a .address .now) (a .service .now) (a .others .now) (a .nqn .now) (imageIn extended (a .e .now) 0)
+    (a .path .now)) (length (a .address .now) + length (a .service .now) + length (a .others .now) + length (a .nqn .now) + c .before .before .before .before .before .own-size .result + length
+    (c .before .before .before .before .kept .result .now)) (c .before .before .before .room-fault .result) (c .refused .result) (named (c .before .before .before .before) .0)
+    (c .before .before .before .room-fault .ensures) (c .refused .ensures .0) (c .before .if1 .taken) (c .refused .ensures .1)
 
-add-lay-told-2 : tie.Need-add-lay-told-2
-add-lay-told-2 c = omega (arith, c .before .before .before .before .before .before .before .before .before .before .before .before .before .before .before .before .pre .1, c .before .before .before .before .before .before .own-size .ensures .1, path-short (c .before .before .before .before .before))
+place-of-requires : tie.Need-place-of-requires
+place-of-requires c κs = let s = c .before .before .before .before .before .before .before .before .before .before .before .before .before .before in (lit≤ tt, lit≤ tt, s .pre .0 .0)
 
-sub-lay-told : tie.Need-sub-lay-told
-sub-lay-told c = search needs
-
-part-lay-told-start : tie.Need-part-lay-told-start
-part-lay-told-start c = search needs
-
-part-lay-told-end : tie.Need-part-lay-told-end
-part-lay-told-end c = search needs
-
-lay-told-requires : tie.Need-lay-told-requires
+add-end : tie.Need-add-end
 unfolding layoutOf ssns
-lay-told-requires c κs = let q = c .before .before .before .before .before .before .before .before .before .before .before .before .before .before .before .before .before .before .pre .0 in let p = c .before .before .before .before .before .before .before .before .before .before .before .before .before .before .before .before .before .before .pre .1 in let own = path-short (c .before .before .before .before .before .before .before) in let small = c .before .before .before .before .before .before .before .before .own-size .ensures .1 in let whole : length (c .before .before .before .before .before .held .result) ≡ 128 = search needs in let part : length (take (c .before .before .before .before .before .before .before .before .own-size .result - 0) (c .before .before .before .before .before .held .result)) ≡ c .before .before .before .before .before .before .before .before .own-size .result = simp length-take (omega (arith, whole, small)) in let r = c .before .before .reference-offsets .ensures in let z = c .before .before .before .before .nested-sizes .ensures in ((lit≤ tt, lit≤ tt, q .0, q .1), (refs-room (layoutOf 4) (c .before .before .reference-offsets .result .at) (c .before .before .before .before .nested-sizes .result .span) (c .before .before .reference-offsets .result .count) tt (r .0) (r .1) (r .2) (six-short (c .before .before .before .before .nested-sizes .result .span) _ _ _ _ _ _ (z .1) (omega (arith, p .0)) (omega (arith, p .1)) (omega (arith, p .2)) (omega (arith, p .3)) (omega (arith, own, small)) (lit≤ tt)), sym (six-long (c .before .before .before .before .before .before .before .before .before .before .before .before .before .before .before .before .before .before .args .address .now) (c .before .before .before .before .before .before .before .before .before .before .before .before .before .before .before .before .before .before .args .service .now) (c .before .before .before .before .before .before .before .before .before .before .before .before .before .before .before .before .before .before .args .others .now) (c .before .before .before .before .before .before .before .before .before .before .before .before .before .before .before .before .before .before .args .nqn .now) (take (c .before .before .before .before .before .before .before .before .own-size .result - 0) (c .before .before .before .before .before .held .result)) (c .before .before .before .before .before .before .before .kept .result .now) ∙ omega (arith, part)), omega (arith, p, own, small)))
+add-end c = omega (arith, roomy-here c, c .place-of .ensures .1)
+
+sub-write-ssns : tie.Need-sub-write-ssns
+sub-write-ssns c = search needs
+
+part-write-ssns-start : tie.Need-part-write-ssns-start
+part-write-ssns-start c = search needs
+
+part-write-ssns-end : tie.Need-part-write-ssns-end
+part-write-ssns-end c = omega (arith, inside c)
+
+write-ssns-requires : tie.Need-write-ssns-requires
+unfolding ssns
+write-ssns-requires c κs =
+    let s = c .before .before .before .before .before .before .before .before .before .before .before .before .before .before .before .before in (
+      (part-size (s .args .out .now) (c .before .place-of .result) 128 (inside (c .before)), s .pre .0 .1, omega (arith, roomy-here (c .before))),
+      s .pre .1 .0,
+      s .pre .1 .1,
+      s .pre .1 .2,
+      s .pre .1 .3,
+      omega (arith, c .before .before .before .before .before .before .own-size .ensures .1),
+      path-short (c .before .before .before .before .before),
+    )
+
+lay-named-requires : tie.Need-lay-named-requires
+lay-named-requires c κs =
+    let s = c .before .before .before .before .before .before .before .before .before .before .before .before .before .before .before .before .before .before .before .before in
+    let x = extended-room (c .before .before .before .before .before .before .before .before .before .before .before .own-need .result)
+    (c .before .before .before .before .before .before .before .before .before .before .own-size .result)
+    (c .before .before .before .before .before .before .before .before .before .kept .result .now)
+    (c .before .before .before .before .before .before .before .before .before .before .own-size .ensures .0) in (
+      (s .pre .0 .2, path-short (c .before .before .before .before .before .before .before .before .before)),
+      (
+        omega (arith, x, roomy-here (c .before .before .before .before .before)),
+        omega
+            (arith, x, roomy-here (c .before .before .before .before .before), c .before .before .out .given .1),
+      ),
+    )
+
+stepped-requires : tie.Need-stepped-requires
+stepped-requires c κs = roomy-here (c .before .before .before .before .before .before .before .before) .1
 
 same-length : tie.Need-same-length
 same-length c = search needs
 
-returns : tie.Need-returns
-returns c = let a = c .before .before .before .before .before .before .before .before .before .before .before .before .before .before .before .before .before .before .before .before .before .args in let r = c .before .before .before .before .before .reference-offsets .ensures in let z = c .before .before .before .before .before .before .before .nested-sizes .ensures in let d = ssns-laid (a .s) (a .out .now) (a .b .now) (a .e .now) (c .before .before .before .before .before .before .before .before .before .before .before .before .before .before .before .before .before .before .before .before .before .args .address .now) (c .before .before .before .before .before .before .before .before .before .before .before .before .before .before .before .before .before .before .before .before .before .args .service .now) (c .before .before .before .before .before .before .before .before .before .before .before .before .before .before .before .before .before .before .before .before .before .args .others .now) (c .before .before .before .before .before .before .before .before .before .before .before .before .before .before .before .before .before .before .before .before .before .args .nqn .now) (a .path .now) (c .before .before .before .before .before .before .before .before .before .before .before .before .own-need .result) (c .before .before .before .before .before .reference-offsets .result .at) (c .before .before .before .before .before .before .before .nested-sizes .result .len) (c .before .before .before .before .before .before .before .nested-sizes .result .span) (c .before .before .before .before .before .reference-offsets .result .count) (c .before .before .before .before .before .before .before .before .before .before .before .own-size .result) (c .before .before .before .before .before .before .before .before .before .before .kept .result .now) (take (c .before .before .before .before .before .before .before .before .before .before .before .own-size .result - 0) (c .before .before .before .before .before .before .before .before .held .result)) (c .before .before .before .before .before .before .before .before .before .before .before .before .own-need .ensures) (c .before .before .before .before .before .before .before .before .before .before .before .own-size .ensures .0) (c .before .before .before .before .before .before .before .before .before .before .kept .ensures) (ap (λ (i : ℕ). take i (c .before .before .before .before .before .before .before .before .held .result)) (sub-zero (c .before .before .before .before .before .before .before .before .before .before .before .own-size .result)) ∙ ap (take (c .before .before .before .before .before .before .before .before .before .before .before .own-size .result)) (c .before .before .before .before .before .before .before .before .held .ensures)) (r .0) (r .1) (z .0) (z .1) in (c .before .before .lay-told .ensures .0 ∙ ap (λ (o : Outcome). o .step) d, c .before .before .lay-told .ensures .1 ∙ ap (λ (o : Outcome). o .buffer) d)
+returns-2 : tie.Need-returns-2
+unfolding layoutOf laidSsns
+returns-2 c =
+    let s =
+    c .before .before .before .before .before .before .before .before .before .before .before .before .before .before .before .before .before .before .before .before .before .before .before .before in
+    let a = s .args in
+    let w = c .before .before .before .before .before .before .before .write-ssns in
+    let t = c .before .before .before .before .before .before .before .before .before .place-of in
+    let m = c .before .before .before .before .before .before .before .before .before .before .before .before .before .before .own-size .result in
+    let own = c .before .before .before .before .before .before .before .before .before .before .before .before .before .kept .result .now in
+    let f = named (c .before .before .before .before .before .before .before .before .before .before .before .before .before) in
+    let y = part-stored (a .out .now) (t .result) 128 (w .last .0) (recordWith ssns (a .b .now) (a .s .used) (length (a .address .now) ∷ length (a .service .now) ∷ length (a .others .now) ∷
+    length (a .nqn .now) ∷ m ∷ []) (length (a .address .now) ∷ length (a .service .now) ∷ length (a .others .now) ∷ length (a .nqn .now) ∷ (m + length own) ∷ [])) (inside
+    (c .before .before .before .before .before .before .before .before .before)) (w .kept .0) (w .ensures) in
+    laid-done ssns (a .s) (a .out .now) (a .b .now) (ssnsSlots (imageIn ssns (a .b .now) 0) (a .address .now) (a .service .now) (a .others .now) (a .nqn .now) (imageIn extended (a .e .now) 0)
+    (a .path .now)) (length (a .address .now) + length (a .service .now) + length (a .others .now) + length (a .nqn .now) +
+    c .before .before .before .before .before .before .before .before .before .before .before .before .before .before .own-size .result + length
+    (c .before .before .before .before .before .before .before .before .before .before .before .before .before .kept .result .now))
+    (c .before .before .before .before .before .before .before .before .before .before .before .before .room-fault .result) (c .stepped .result) (f .0)
+    (c .before .before .before .before .before .before .before .before .before .before .before .before .room-fault .ensures) (c .stepped .ensures .0)
+    (c .before .before .before .before .before .before .before .before .before .before .if1 .left) (c .stepped .ensures .1) (t .result) _ _ (c .before .before .before .lay-named .last .0)
+    (namedPart (a .s .used) (a .address .now) (a .service .now) (a .others .now) (a .nqn .now) m (a .e .now) own) (t .ensures .0) (f .1) y (f .2) (c .before .before .before .lay-named .ensures)
 
 pub lay-ssns-spec : {M : Type 1} → statement M
 lay-ssns-spec =
@@ -94,16 +179,19 @@ lay-ssns-spec =
     add-front
     add-front-2
     add-front-3
-    add-held
-    add-held-2
-    held-requires
-    nested-sizes-requires
-    reference-offsets-requires
-    add-lay-told
-    add-lay-told-2
-    sub-lay-told
-    part-lay-told-start
-    part-lay-told-end
-    lay-told-requires
+    add-n
+    add-n-2
+    add-room-fault
+    room-fault-requires
+    refused-requires
+    returns
+    place-of-requires
+    add-end
+    sub-write-ssns
+    part-write-ssns-start
+    part-write-ssns-end
+    write-ssns-requires
+    lay-named-requires
+    stepped-requires
     same-length
-    returns)
+    returns-2)

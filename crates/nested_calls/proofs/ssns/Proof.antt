@@ -2,13 +2,13 @@ use mathlib.Core.Path.{_≡_, refl, ap, _∙_}
 use mathlib.Core.Bool.{Bool, _&&_}
 use lib.Dec.{lit≤}
 use Rattle.table.specs.declared.Need.the-variants.{Optional, Required}
-use Rattle.table.specs.FixedLayouts.{layoutOf, ssns, extended}
 use Rattle.table.specs.Rules.{firstFail}
 use Rattle.table.specs.Builder.{Outcome}
 use Rattle.laws.specs.Fields.{imageIn}
 use Rattle.steps.specs.Steps.{judgeTests}
 use Rattle.steps.proofs.LayLaws.{step-is}
 use Rattle.filling.proofs.FillLaws.{Fine}
+use Rattle.table.specs.FixedLayouts.{layoutOf, ssns, extended}
 use Rattle.nested_calls.specs.Nested.{ownNeed}
 use Rattle.nested_calls.proofs.KindLaws.{ssns-refused, ssns-passed, ssns-done}
 use borrow.Author.Needs.{needs}
@@ -16,8 +16,18 @@ use Rattle.nested_calls.proofs.ssns.Statement.{statement}
 use Rattle.nested_calls.proofs.ssns.Tie as tie
 
 -- what was answered, by the objects
-judged-is : (c : tie.After-judged) → c .judged .result ≡ firstFail (judgeTests (layoutOf 4) (c .before .before .before .before .before .before .before .before .before .before .before .before .before .before .before .before .args .s) (imageIn (layoutOf 4) (c .before .before .before .before .before .before .before .mark-128 .result) 0) (Fine Required (c .before .before .before .before .before .before .before .before .before .before .before .before .before .before .before .before .args .address .now) && (Fine Required (c .before .before .before .before .before .before .before .before .before .before .before .before .before .before .before .before .args .service .now) && (Fine Optional (c .before .before .before .before .before .before .before .before .before .before .before .before .before .before .before .before .args .others .now) && (Fine Required (c .before .before .before .before .before .before .before .before .before .before .before .before .before .before .before .before .args .nqn .now) && Fine (ownNeed (imageIn ssns (c .before .before .before .before .before .before .before .mark-128 .result) 0)) (c .before .before .before .before .before .before .before .before .before .before .before .before .before .before .before .before .args .path .now))))))
-judged-is c = c .judged .ensures ∙ ap (λ (f : Bool). firstFail (judgeTests (layoutOf 4) (c .before .before .before .before .before .before .before .before .before .before .before .before .before .before .before .before .args .s) (imageIn (layoutOf 4) (c .before .before .before .before .before .before .before .mark-128 .result) 0) f)) (c .before .before .ssns-fits .ensures)
+judged-is : (c : tie.After-judged) → c .judged .result ≡ firstFail (judgeTests (layoutOf 4)
+    (c .before .before .before .before .before .before .before .before .before .before .before .before .before .before .before .before .args .s) (imageIn (layoutOf 4)
+    (c .before .before .before .before .before .before .before .mark-128 .result) 0) (Fine Required
+    (c .before .before .before .before .before .before .before .before .before .before .before .before .before .before .before .before .args .address .now) && (Fine Required
+    (c .before .before .before .before .before .before .before .before .before .before .before .before .before .before .before .before .args .service .now) && (Fine Optional
+    (c .before .before .before .before .before .before .before .before .before .before .before .before .before .before .before .before .args .others .now) && (Fine Required
+    (c .before .before .before .before .before .before .before .before .before .before .before .before .before .before .before .before .args .nqn .now) && Fine (ownNeed (imageIn ssns
+    (c .before .before .before .before .before .before .before .mark-128 .result) 0))
+    (c .before .before .before .before .before .before .before .before .before .before .before .before .before .before .before .before .args .path .now))))))
+judged-is c = c .judged .ensures ∙ ap (λ (f : Bool). firstFail (judgeTests (layoutOf 4)
+    (c .before .before .before .before .before .before .before .before .before .before .before .before .before .before .before .before .args .s) (imageIn (layoutOf 4)
+    (c .before .before .before .before .before .before .before .mark-128 .result) 0) f)) (c .before .before .ssns-fits .ensures)
 
 cast-mark-128 : tie.Need-cast-mark-128
 cast-mark-128 c = search needs
@@ -44,13 +54,40 @@ slice-aggregate-judged c = search needs
 
 judged-requires : tie.Need-judged-requires
 unfolding layoutOf ssns
-judged-requires c κs = (lit≤ tt, lit≤ tt, (c .before .before .before .before .before .before .before .before .before .before .before .before .before .before .before .args .x .bytes, c .before .before .before .before .before .before .mark-128 .ensures .1, c .before .before .before .before .before .before .mark-128 .ensures .2, c .before .before .before .before .before .before .mark-128 .ensures .0))
+judged-requires c κs = (
+  lit≤ tt,
+  lit≤ tt,
+  (
+    c .before .before .before .before .before .before .before .before .before .before .before .before .before .before .before .args .x .bytes,
+    c .before .before .before .before .before .before .mark-128 .ensures .1,
+    c .before .before .before .before .before .before .mark-128 .ensures .2,
+    c .before .before .before .before .before .before .mark-128 .ensures .0,
+  ),
+)
 
 refused-requires : tie.Need-refused-requires
 refused-requires c κs = search needs
 
 returns : tie.Need-returns
-returns c = let j = c .before .before .before in let a = c .before .before .before .before .before .before .before .before .before .before .before .before .before .before .before .before .before .before .before .args in let t = ssns-refused (c .before .before .before .before .before .before .before .before .before .before .before .before .before .before .before .before .before .before .before .args .s) (c .before .before .before .before .before .before .before .before .before .before .before .before .before .before .before .before .before .before .before .args .out .now) (c .before .before .before .before .before .before .before .before .before .before .before .before .before .before .before .before .before .before .before .args .x .bytes) (c .before .before .before .before .before .before .before .before .before .before .mark-128 .result) (c .before .before .before .before .before .before .before .before .before .before .before .before .before .before .before .before .before .before .before .args .address .now) (c .before .before .before .before .before .before .before .before .before .before .before .before .before .before .before .before .before .before .before .args .service .now) (c .before .before .before .before .before .before .before .before .before .before .before .before .before .before .before .before .before .before .before .args .others .now) (c .before .before .before .before .before .before .before .before .before .before .before .before .before .before .before .before .before .before .before .args .nqn .now) (c .before .before .before .before .before .before .before .before .before .before .before .before .before .before .before .before .before .before .before .args .extended .bytes) (c .before .before .before .before .before .before .before .mark-18 .result) (c .before .before .before .before .before .before .before .before .before .before .before .before .before .before .before .before .before .before .before .args .path .now) (c .before .before .before .judged .result) (c .before .before .before .before .before .before .before .before .before .before .mark-128 .ensures .0) (c .before .before .before .before .before .before .before .mark-18 .ensures .0) (judged-is j) (c .before .if1 .taken) in (step-is (c .refused .result) (j .judged .result) (a .s) (c .refused .ensures .0) (c .refused .ensures .1) ∙ t .0, t .1)
+returns c =
+    let t = ssns-refused (c .before .before .before .before .before .before .before .before .before .before .before .before .before .before .before .before .before .before .before .args .s)
+    (c .before .before .before .before .before .before .before .before .before .before .before .before .before .before .before .before .before .before .before .args .out .now)
+    (c .before .before .before .before .before .before .before .before .before .before .before .before .before .before .before .before .before .before .before .args .x .bytes)
+    (c .before .before .before .before .before .before .before .before .before .before .mark-128 .result)
+    (c .before .before .before .before .before .before .before .before .before .before .before .before .before .before .before .before .before .before .before .args .address .now)
+    (c .before .before .before .before .before .before .before .before .before .before .before .before .before .before .before .before .before .before .before .args .service .now)
+    (c .before .before .before .before .before .before .before .before .before .before .before .before .before .before .before .before .before .before .before .args .others .now)
+    (c .before .before .before .before .before .before .before .before .before .before .before .before .before .before .before .before .before .before .before .args .nqn .now)
+    (c .before .before .before .before .before .before .before .before .before .before .before .before .before .before .before .before .before .before .before .args .extended .bytes)
+    (c .before .before .before .before .before .before .before .mark-18 .result)
+    (c .before .before .before .before .before .before .before .before .before .before .before .before .before .before .before .before .before .before .before .args .path .now)
+    (c .before .before .before .judged .result) (c .before .before .before .before .before .before .before .before .before .before .mark-128 .ensures .0)
+    (c .before .before .before .before .before .before .before .mark-18 .ensures .0) (judged-is (c .before .before .before)) (c .before .if1 .taken) in (
+      step-is (c .refused .result) (c .before .before .before .judged .result)
+          (c .before .before .before .before .before .before .before .before .before .before .before .before .before .before .before .before .before .before .before .args .s) (c .refused .ensures .0)
+          (c .refused .ensures .1) ∙ t .0,
+      t .1,
+    )
 
 slice-aggregate-lay-ssns : tie.Need-slice-aggregate-lay-ssns
 slice-aggregate-lay-ssns c = search needs
@@ -59,14 +96,60 @@ slice-aggregate-lay-ssns-2 : tie.Need-slice-aggregate-lay-ssns-2
 slice-aggregate-lay-ssns-2 c = search needs
 
 lay-ssns-requires : tie.Need-lay-ssns-requires
-unfolding layoutOf ssns
-lay-ssns-requires c κs = let p = ssns-passed (c .before .before .before .before .before .before .before .before .before .before .before .before .before .before .before .before .before .before .before .before .before .args .s) (c .before .before .before .before .before .before .before .before .before .before .before .before .before .before .before .before .before .before .before .before .before .args .out .now) (c .before .before .before .before .before .before .before .before .before .before .before .before .before .before .before .before .before .before .before .before .before .args .x .bytes) (c .before .before .before .before .before .before .before .before .before .before .before .before .mark-128 .result) (c .before .before .before .before .before .before .before .before .before .before .before .before .before .before .before .before .before .before .before .before .before .args .address .now) (c .before .before .before .before .before .before .before .before .before .before .before .before .before .before .before .before .before .before .before .before .before .args .service .now) (c .before .before .before .before .before .before .before .before .before .before .before .before .before .before .before .before .before .before .before .before .before .args .others .now) (c .before .before .before .before .before .before .before .before .before .before .before .before .before .before .before .before .before .before .before .before .before .args .nqn .now) (c .before .before .before .before .before .before .before .before .before .before .before .before .before .before .before .before .before .before .before .before .before .args .extended .bytes) (c .before .before .before .before .before .before .before .before .before .mark-18 .result) (c .before .before .before .before .before .before .before .before .before .before .before .before .before .before .before .before .before .before .before .before .before .args .path .now) (c .before .before .before .before .before .judged .result) (c .before .before .before .before .before .before .before .before .before .before .before .before .mark-128 .ensures .0) (c .before .before .before .before .before .before .before .before .before .mark-18 .ensures .0) (judged-is (c .before .before .before .before .before)) (c .before .before .before .if1 .left) in ((p .0, c .before .before .before .before .before .before .before .before .before .before .before .before .mark-128 .ensures .2, c .before .before .before .before .before .before .before .before .before .mark-18 .ensures .2), (p .1, p .2, p .3, p .4, p .5))
+unfolding ssns extended
+lay-ssns-requires c κs =
+    let p = ssns-passed
+    (c .before .before .before .before .before .before .before .before .before .before .before .before .before .before .before .before .before .before .before .before .before .args .s)
+    (c .before .before .before .before .before .before .before .before .before .before .before .before .before .before .before .before .before .before .before .before .before .args .out .now)
+    (c .before .before .before .before .before .before .before .before .before .before .before .before .before .before .before .before .before .before .before .before .before .args .x .bytes)
+    (c .before .before .before .before .before .before .before .before .before .before .before .before .mark-128 .result)
+    (c .before .before .before .before .before .before .before .before .before .before .before .before .before .before .before .before .before .before .before .before .before .args .address
+    .now) (c .before .before .before .before .before .before .before .before .before .before .before .before .before .before .before .before .before .before .before .before .before .args
+    .service .now) (c .before .before .before .before .before .before .before .before .before .before .before .before .before .before .before .before .before .before .before .before .before
+    .args .others .now) (c .before .before .before .before .before .before .before .before .before .before .before .before .before .before .before .before .before .before .before .before
+    .before .args .nqn .now)
+    (c .before .before .before .before .before .before .before .before .before .before .before .before .before .before .before .before .before .before .before .before .before .args .extended
+    .bytes) (c .before .before .before .before .before .before .before .before .before .mark-18 .result)
+    (c .before .before .before .before .before .before .before .before .before .before .before .before .before .before .before .before .before .before .before .before .before .args .path
+    .now) (c .before .before .before .before .before .judged .result)
+    (c .before .before .before .before .before .before .before .before .before .before .before .before .mark-128 .ensures .0)
+    (c .before .before .before .before .before .before .before .before .before .mark-18 .ensures .0) (judged-is (c .before .before .before .before .before))
+    (c .before .before .before .if1 .left) in (
+      (
+        p .0,
+        c .before .before .before .before .before .before .before .before .before .before .before .before .mark-128 .ensures .2,
+        c .before .before .before .before .before .before .before .before .before .mark-18 .ensures .2,
+      ),
+      (p .1, p .2, p .3, p .4, p .5),
+    )
 
 same-length : tie.Need-same-length
 same-length c = search needs
 
 returns-2 : tie.Need-returns-2
-returns-2 c = let d = ssns-done (c .before .before .before .before .before .before .before .before .before .before .before .before .before .before .before .before .before .before .before .before .before .before .before .before .args .s) (c .before .before .before .before .before .before .before .before .before .before .before .before .before .before .before .before .before .before .before .before .before .before .before .before .args .out .now) (c .before .before .before .before .before .before .before .before .before .before .before .before .before .before .before .before .before .before .before .before .before .before .before .before .args .x .bytes) (c .before .before .before .before .before .before .before .before .before .before .before .before .before .before .before .mark-128 .result) (c .before .before .before .before .before .before .before .before .before .before .before .before .before .before .before .before .before .before .before .before .before .before .before .before .args .address .now) (c .before .before .before .before .before .before .before .before .before .before .before .before .before .before .before .before .before .before .before .before .before .before .before .before .args .service .now) (c .before .before .before .before .before .before .before .before .before .before .before .before .before .before .before .before .before .before .before .before .before .before .before .before .args .others .now) (c .before .before .before .before .before .before .before .before .before .before .before .before .before .before .before .before .before .before .before .before .before .before .before .before .args .nqn .now) (c .before .before .before .before .before .before .before .before .before .before .before .before .before .before .before .before .before .before .before .before .before .before .before .before .args .extended .bytes) (c .before .before .before .before .before .before .before .before .before .before .before .before .mark-18 .result) (c .before .before .before .before .before .before .before .before .before .before .before .before .before .before .before .before .before .before .before .before .before .before .before .before .args .path .now) (c .before .before .before .before .before .before .before .before .judged .result) (c .before .before .before .before .before .before .before .before .before .before .before .before .before .before .before .mark-128 .ensures .0) (c .before .before .before .before .before .before .before .before .before .before .before .before .mark-18 .ensures .0) (judged-is (c .before .before .before .before .before .before .before .before)) (c .before .before .before .before .before .before .if1 .left) in (c .before .before .lay-ssns .ensures .0 ∙ ap (λ (o : Outcome). o .step) d, c .before .before .lay-ssns .ensures .1 ∙ ap (λ (o : Outcome). o .buffer) d)
+returns-2 c =
+    let d = ssns-done
+    (c .before .before .before .before .before .before .before .before .before .before .before .before .before .before .before .before .before .before .before .before .before .before .before
+    .before .args .s) (c .before .before .before .before .before .before .before .before .before .before .before .before .before .before .before .before .before .before .before .before
+    .before .before .before .before .args .out .now)
+    (c .before .before .before .before .before .before .before .before .before .before .before .before .before .before .before .before .before .before .before .before .before .before .before
+    .before .args .x .bytes) (c .before .before .before .before .before .before .before .before .before .before .before .before .before .before .before .mark-128 .result)
+    (c .before .before .before .before .before .before .before .before .before .before .before .before .before .before .before .before .before .before .before .before .before .before .before
+    .before .args .address .now)
+    (c .before .before .before .before .before .before .before .before .before .before .before .before .before .before .before .before .before .before .before .before .before .before .before
+    .before .args .service .now)
+    (c .before .before .before .before .before .before .before .before .before .before .before .before .before .before .before .before .before .before .before .before .before .before .before
+    .before .args .others .now)
+    (c .before .before .before .before .before .before .before .before .before .before .before .before .before .before .before .before .before .before .before .before .before .before .before
+    .before .args .nqn .now)
+    (c .before .before .before .before .before .before .before .before .before .before .before .before .before .before .before .before .before .before .before .before .before .before .before
+    .before .args .extended .bytes) (c .before .before .before .before .before .before .before .before .before .before .before .before .mark-18 .result)
+    (c .before .before .before .before .before .before .before .before .before .before .before .before .before .before .before .before .before .before .before .before .before .before .before
+    .before .args .path .now) (c .before .before .before .before .before .before .before .before .judged .result)
+    (c .before .before .before .before .before .before .before .before .before .before .before .before .before .before .before .mark-128 .ensures .0)
+    (c .before .before .before .before .before .before .before .before .before .before .before .before .mark-18 .ensures .0) (judged-is
+    (c .before .before .before .before .before .before .before .before)) (c .before .before .before .before .before .before .if1 .left) in
+    (c .before .before .lay-ssns .ensures .0 ∙ ap (λ (o : Outcome). o .step) d, c .before .before .lay-ssns .ensures .1 ∙ ap (λ (o : Outcome). o .buffer) d)
 
 pub ssns-spec : {M : Type 1} → statement M
 ssns-spec =

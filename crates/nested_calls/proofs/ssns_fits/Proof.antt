@@ -37,7 +37,12 @@ both-requires-4 : tie.Need-both-requires-4
 both-requires-4 c κs = search needs
 
 returns : tie.Need-returns
-returns c = c .both4 .ensures ∙ ap₂ (λ (c d : Bool). c && d) (c .before .before .before .fits5 .ensures) (c .before .both3 .ensures ∙ ap₂ (λ (c d : Bool). c && d) (c .before .before .fits6 .ensures) (c .before .before .before .before .both2 .ensures ∙ ap₂ (λ (c d : Bool). c && d) (c .before .before .before .before .before .fits4 .ensures) (c .before .before .before .before .before .before .both .ensures ∙ ap₂ (λ (c d : Bool). c && d) (c .before .before .before .before .before .before .before .before .before .fits2 .ensures) (c .before .before .before .before .before .before .before .fits3 .ensures ∙ ap (λ (n : Need). Fine n (c .before .before .before .before .before .before .before .before .before .before .before .before .before .before .before .before .args .path .now)) (c .before .before .before .before .before .before .before .before .own-need .ensures)))))
+returns c = c .both4 .ensures ∙ ap₂ (λ (c d : Bool). c && d) (c .before .before .before .fits5 .ensures) (c .before .both3 .ensures ∙ ap₂ (λ (c d : Bool). c && d)
+    (c .before .before .fits6 .ensures) (c .before .before .before .before .both2 .ensures ∙ ap₂ (λ (c d : Bool). c && d) (c .before .before .before .before .before .fits4 .ensures)
+    (c .before .before .before .before .before .before .both .ensures ∙ ap₂ (λ (c d : Bool). c && d) (c .before .before .before .before .before .before .before .before .before .fits2 .ensures)
+    (c .before .before .before .before .before .before .before .fits3 .ensures ∙ ap (λ (n : Need). Fine n
+    (c .before .before .before .before .before .before .before .before .before .before .before .before .before .before .before .before .args .path .now))
+    (c .before .before .before .before .before .before .before .before .own-need .ensures)))))
 
 pub ssns-fits-spec : {M : Type 1} → statement M
 ssns-fits-spec =

@@ -1,24 +1,27 @@
 use mathlib.Core.Path.{_≡_, refl, ap, ap₂, _∙_}
 use mathlib.Core.Bool.{Bool, _&&_}
-use lib.ListN.{length}
+use lib.Dec.{lit≤}
 use Rattle.table.specs.declared.Need.the-variants.{Optional}
 use Rattle.table.specs.FixedLayouts.{layoutOf, discovery}
-use Rattle.steps.proofs.JudgeLaws.{judge-passed}
-use Rattle.filling.proofs.FillLaws.{Fine, fine-short, two-true}
-use Rattle.plain_calls.proofs.KindLaws.{discovery-refused, discovery-done, plain-room}
-use lib.Dec.{lit≤}
 use Rattle.table.specs.Rules.{firstFail}
 use Rattle.table.specs.Builder.{Outcome}
 use Rattle.laws.specs.Fields.{imageIn}
 use Rattle.steps.specs.Steps.{judgeTests}
 use Rattle.steps.proofs.LayLaws.{step-is}
+use Rattle.filling.proofs.FillLaws.{Fine}
+use Rattle.plain_calls.proofs.KindLaws.{discovery-refused, discovery-passed, discovery-done}
 use borrow.Author.Needs.{needs}
 use Rattle.plain_calls.proofs.discovery.Statement.{statement}
 use Rattle.plain_calls.proofs.discovery.Tie as tie
 
 -- what was answered, by the objects
-judged-is : (c : tie.After-judged) → c .judged .result ≡ firstFail (judgeTests (layoutOf 6) (c .before .before .before .before .before .before .before .before .before .before .before .args .s) (imageIn (layoutOf 6) (c .before .before .before .before .before .mark-32 .result) 0) (Fine Optional (c .before .before .before .before .before .before .before .before .before .before .before .args .address .now) && Fine Optional (c .before .before .before .before .before .before .before .before .before .before .before .args .nqn .now)))
-judged-is c = c .judged .ensures ∙ ap (λ (f : Bool). firstFail (judgeTests (layoutOf 6) (c .before .before .before .before .before .before .before .before .before .before .before .args .s) (imageIn (layoutOf 6) (c .before .before .before .before .before .mark-32 .result) 0) f)) (c .before .before .both .ensures ∙ ap₂ (λ (c d : Bool). c && d) (c .before .before .before .before .fits2 .ensures) (c .before .before .before .fits3 .ensures))
+judged-is : (c : tie.After-judged) → c .judged .result ≡ firstFail (judgeTests (layoutOf 6) (c .before .before .before .before .before .before .before .before .before .before .before .args .s)
+    (imageIn (layoutOf 6) (c .before .before .before .before .before .mark-32 .result) 0) (Fine Optional
+    (c .before .before .before .before .before .before .before .before .before .before .before .args .address .now) && Fine Optional
+    (c .before .before .before .before .before .before .before .before .before .before .before .args .nqn .now)))
+judged-is c = c .judged .ensures ∙ ap (λ (f : Bool). firstFail (judgeTests (layoutOf 6) (c .before .before .before .before .before .before .before .before .before .before .before .args .s)
+    (imageIn (layoutOf 6) (c .before .before .before .before .before .mark-32 .result) 0) f)) (c .before .before .both .ensures ∙ ap₂ (λ (c d : Bool). c && d)
+    (c .before .before .before .before .fits2 .ensures) (c .before .before .before .fits3 .ensures))
 
 cast-mark-32 : tie.Need-cast-mark-32
 cast-mark-32 c = search needs
@@ -41,38 +44,65 @@ slice-aggregate-judged c = search needs
 
 judged-requires : tie.Need-judged-requires
 unfolding layoutOf discovery
-judged-requires c κs = (lit≤ tt, lit≤ tt, (c .before .before .before .before .before .before .before .before .before .before .args .x .bytes, c .before .before .before .before .mark-32 .ensures .1, c .before .before .before .before .mark-32 .ensures .2, c .before .before .before .before .mark-32 .ensures .0))
+judged-requires c κs = (
+  lit≤ tt,
+  lit≤ tt,
+  (
+    c .before .before .before .before .before .before .before .before .before .before .args .x .bytes,
+    c .before .before .before .before .mark-32 .ensures .1,
+    c .before .before .before .before .mark-32 .ensures .2,
+    c .before .before .before .before .mark-32 .ensures .0,
+  ),
+)
 
 refused-requires : tie.Need-refused-requires
 refused-requires c κs = search needs
 
 returns : tie.Need-returns
-returns c = let j = c .before .before .before in let a = c .before .before .before .before .before .before .before .before .before .before .before .before .before .before .args in let t = discovery-refused (c .before .before .before .before .before .before .before .before .before .before .before .before .before .before .args .s) (c .before .before .before .before .before .before .before .before .before .before .before .before .before .before .args .out .now) (c .before .before .before .before .before .before .before .before .before .before .before .before .before .before .args .x .bytes) (c .before .before .before .before .before .before .before .before .mark-32 .result) (c .before .before .before .before .before .before .before .before .before .before .before .before .before .before .args .address .now) (c .before .before .before .before .before .before .before .before .before .before .before .before .before .before .args .nqn .now) (c .before .before .before .judged .result) (c .before .before .before .before .before .before .before .before .mark-32 .ensures .0) (judged-is j) (c .before .if1 .taken) in (step-is (c .refused .result) (j .judged .result) (a .s) (c .refused .ensures .0) (c .refused .ensures .1) ∙ t .0, t .1)
+returns c =
+    let t = discovery-refused (c .before .before .before .before .before .before .before .before .before .before .before .before .before .before .args .s)
+    (c .before .before .before .before .before .before .before .before .before .before .before .before .before .before .args .out .now)
+    (c .before .before .before .before .before .before .before .before .before .before .before .before .before .before .args .x .bytes)
+    (c .before .before .before .before .before .before .before .before .mark-32 .result)
+    (c .before .before .before .before .before .before .before .before .before .before .before .before .before .before .args .address .now)
+    (c .before .before .before .before .before .before .before .before .before .before .before .before .before .before .args .nqn .now) (c .before .before .before .judged .result)
+    (c .before .before .before .before .before .before .before .before .mark-32 .ensures .0) (judged-is (c .before .before .before)) (c .before .if1 .taken) in (
+      step-is (c .refused .result) (c .before .before .before .judged .result)
+          (c .before .before .before .before .before .before .before .before .before .before .before .before .before .before .args .s) (c .refused .ensures .0) (c .refused .ensures .1) ∙ t .0,
+      t .1,
+    )
 
-sub-none : tie.Need-sub-none
-sub-none c = search needs
+slice-aggregate-lay-discovery : tie.Need-slice-aggregate-lay-discovery
+slice-aggregate-lay-discovery c = search needs
 
-part-none-start : tie.Need-part-none-start
-part-none-start c = search needs
-
-part-none-end : tie.Need-part-none-end
-part-none-end c = search needs
-
-slice-aggregate-lay-plain : tie.Need-slice-aggregate-lay-plain
-slice-aggregate-lay-plain c = search needs
-
-reference-offsets-requires : tie.Need-reference-offsets-requires
-reference-offsets-requires c κs = search needs
-
-lay-plain-requires : tie.Need-lay-plain-requires
-unfolding layoutOf discovery
-lay-plain-requires c κs = let r = c .reference-offsets .ensures in let a = c .before .before .before .before .before .before .before .before .before .before .before .before .before .before .before .before .before .args in let p = judge-passed (layoutOf 6) (a .s) (imageIn (layoutOf 6) (c .before .before .before .before .before .before .before .before .before .before .before .mark-32 .result) 0) (Fine Optional (a .address .now) && Fine Optional (a .nqn .now)) (c .before .before .before .before .before .before .judged .result) (judged-is (c .before .before .before .before .before .before)) (c .before .before .before .before .if1 .left) in let q = two-true (Fine Optional (a .address .now)) (Fine Optional (a .nqn .now)) (p .1) in let m = fine-short Optional (a .address .now) (q .0) in let n = fine-short Optional (a .nqn .now) (q .1) in ((lit≤ tt, lit≤ tt, p .0, c .before .before .before .before .before .before .before .before .before .before .before .mark-32 .ensures .2), ((m, n, lit≤ tt, lit≤ tt, lit≤ tt, lit≤ tt), plain-room (layoutOf 6) (c .reference-offsets .result .at) (c .reference-offsets .result .count) (length (a .address .now)) (length (a .nqn .now)) 0 0 0 0 tt (r .0) (r .1) (r .2) m n (lit≤ tt) (lit≤ tt) (lit≤ tt) (lit≤ tt)))
+lay-discovery-requires : tie.Need-lay-discovery-requires
+unfolding discovery
+lay-discovery-requires c κs =
+    let p = discovery-passed (c .before .before .before .before .before .before .before .before .before .before .before .before .before .before .before .args .s)
+    (c .before .before .before .before .before .before .before .before .before .before .before .before .before .before .before .args .out .now)
+    (c .before .before .before .before .before .before .before .before .before .before .before .before .before .before .before .args .x .bytes)
+    (c .before .before .before .before .before .before .before .before .before .mark-32 .result)
+    (c .before .before .before .before .before .before .before .before .before .before .before .before .before .before .before .args .address .now)
+    (c .before .before .before .before .before .before .before .before .before .before .before .before .before .before .before .args .nqn .now)
+    (c .before .before .before .before .judged .result) (c .before .before .before .before .before .before .before .before .before .mark-32 .ensures .0) (judged-is
+    (c .before .before .before .before)) (c .before .before .if1 .left) in
+    (p .0, c .before .before .before .before .before .before .before .before .before .mark-32 .ensures .2, p .1, p .2)
 
 same-length : tie.Need-same-length
 same-length c = search needs
 
 returns-2 : tie.Need-returns-2
-returns-2 c = let r = c .before .before .before .reference-offsets .ensures in let d = discovery-done (c .before .before .before .before .before .before .before .before .before .before .before .before .before .before .before .before .before .before .before .before .args .s) (c .before .before .before .before .before .before .before .before .before .before .before .before .before .before .before .before .before .before .before .before .args .out .now) (c .before .before .before .before .before .before .before .before .before .before .before .before .before .before .before .before .before .before .before .before .args .x .bytes) (c .before .before .before .before .before .before .before .before .before .before .before .before .before .before .mark-32 .result) (c .before .before .before .before .before .before .before .before .before .before .before .before .before .before .before .before .before .before .before .before .args .address .now) (c .before .before .before .before .before .before .before .before .before .before .before .before .before .before .before .before .before .before .before .before .args .nqn .now) (c .before .before .before .before .before .before .before .before .before .judged .result) (c .before .before .before .before .before .before .before .before .before .before .before .before .before .before .mark-32 .ensures .0) (judged-is (c .before .before .before .before .before .before .before .before .before)) (c .before .before .before .before .before .before .before .if1 .left) (c .before .before .before .reference-offsets .result .at) (c .before .before .before .reference-offsets .result .count) (r .0) (r .1) in (c .before .before .lay-plain .ensures .0 ∙ ap (λ (o : Outcome). o .step) d, c .before .before .lay-plain .ensures .1 ∙ ap (λ (o : Outcome). o .buffer) d)
+returns-2 c =
+    let d = discovery-done (c .before .before .before .before .before .before .before .before .before .before .before .before .before .before .before .before .before .before .args .s)
+    (c .before .before .before .before .before .before .before .before .before .before .before .before .before .before .before .before .before .before .args .out .now)
+    (c .before .before .before .before .before .before .before .before .before .before .before .before .before .before .before .before .before .before .args .x .bytes)
+    (c .before .before .before .before .before .before .before .before .before .before .before .before .mark-32 .result)
+    (c .before .before .before .before .before .before .before .before .before .before .before .before .before .before .before .before .before .before .args .address .now)
+    (c .before .before .before .before .before .before .before .before .before .before .before .before .before .before .before .before .before .before .args .nqn .now)
+    (c .before .before .before .before .before .before .before .judged .result)
+    (c .before .before .before .before .before .before .before .before .before .before .before .before .mark-32 .ensures .0) (judged-is
+    (c .before .before .before .before .before .before .before)) (c .before .before .before .before .before .if1 .left) in
+    (c .before .before .lay-discovery .ensures .0 ∙ ap (λ (o : Outcome). o .step) d, c .before .before .lay-discovery .ensures .1 ∙ ap (λ (o : Outcome). o .buffer) d)
 
 pub discovery-spec : {M : Type 1} → statement M
 discovery-spec =
@@ -87,11 +117,7 @@ discovery-spec =
     judged-requires
     refused-requires
     returns
-    sub-none
-    part-none-start
-    part-none-end
-    slice-aggregate-lay-plain
-    reference-offsets-requires
-    lay-plain-requires
+    slice-aggregate-lay-discovery
+    lay-discovery-requires
     same-length
     returns-2)

@@ -1,53 +1,95 @@
-use mathlib.Core.Path.{_≡_, refl, sym, ap, _∙_}
-use mathlib.Core.List.{[]}
-use mathlib.Core.Bool.{Bool, true}
-use lib.ListN.{length}
-use Prim.Native.Nat.{_≤_}
-use Rattle.table.specs.FixedLayouts.{layoutOf, security}
-use Rattle.table.specs.Builder.{Outcome, waits}
-use Rattle.table.specs.Objects.{under}
-use Rattle.table.specs.declared.Need.{Need}
-use Rattle.plain_calls.specs.Plain.{securityFine}
-use Rattle.plain_calls.proofs.KindLaws.{needFor, security-refused, security-passed, security-done, plain-room}
-use native.Mathlib.Omega.{arith}
+use mathlib.Core.Path.{sym, _≡_, refl, ap, _∙_}
+use mathlib.Core.Bool.{Bool}
 use lib.Dec.{lit≤}
+use Rattle.table.specs.FixedLayouts.{layoutOf, security}
 use Rattle.table.specs.Rules.{firstFail}
+use Rattle.table.specs.Builder.{Outcome}
 use Rattle.laws.specs.Fields.{imageIn}
 use Rattle.steps.specs.Steps.{judgeTests}
 use Rattle.steps.proofs.LayLaws.{step-is}
+use Rattle.plain_calls.proofs.KindLaws.{security-refused, security-passed, security-done, needFor}
+use mathlib.Core.List.{[]}
+use native.Mathlib.Omega.{arith}
+use Rattle.table.specs.declared.Need.{Need}
+use Rattle.table.specs.Objects.{under}
+use Rattle.plain_calls.specs.Plain.{securityFine}
 use borrow.Author.Needs.{needs}
 use Rattle.plain_calls.proofs.security.Statement.{statement}
 use Rattle.plain_calls.proofs.security.Tie as tie
 
 -- what was answered, by the objects
-judged-is : (c : tie.After-judged) → c .judged .result ≡ firstFail (judgeTests (layoutOf 5) (c .before .before .before .before .before .before .before .before .before .before .before .before .before .before .args .s) (imageIn (layoutOf 5) (c .before .before .before .before .mark-64 .result) 0) (securityFine (imageIn security (c .before .before .before .before .mark-64 .result) 0) (c .before .before .before .before .before .before .before .before .before .before .before .before .before .before .args .algorithms .now) (c .before .before .before .before .before .before .before .before .before .before .before .before .before .before .args .protocols .now) (c .before .before .before .before .before .before .before .before .before .before .before .before .before .before .args .ciphers .now) (c .before .before .before .before .before .before .before .before .before .before .before .before .before .before .args .groups .now) (c .before .before .before .before .before .before .before .before .before .before .before .before .before .before .args .hashes .now) (c .before .before .before .before .before .before .before .before .before .before .before .before .before .before .args .keypath .now)))
-judged-is c = c .judged .ensures ∙ ap (λ (f : Bool). firstFail (judgeTests (layoutOf 5) (c .before .before .before .before .before .before .before .before .before .before .before .before .before .before .args .s) (imageIn (layoutOf 5) (c .before .before .before .before .mark-64 .result) 0) f)) (c .before .before .security-fits .ensures)
+judged-is : (c : tie.After-judged) → c .judged .result ≡ firstFail (judgeTests (layoutOf 5)
+    (c .before .before .before .before .before .before .before .before .before .before .before .before .before .before .args .s) (imageIn (layoutOf 5)
+    (c .before .before .before .before .mark-64 .result) 0) (securityFine (imageIn security (c .before .before .before .before .mark-64 .result) 0)
+    (c .before .before .before .before .before .before .before .before .before .before .before .before .before .before .args .algorithms .now)
+    (c .before .before .before .before .before .before .before .before .before .before .before .before .before .before .args .protocols .now)
+    (c .before .before .before .before .before .before .before .before .before .before .before .before .before .before .args .ciphers .now)
+    (c .before .before .before .before .before .before .before .before .before .before .before .before .before .before .args .groups .now)
+    (c .before .before .before .before .before .before .before .before .before .before .before .before .before .before .args .hashes .now)
+    (c .before .before .before .before .before .before .before .before .before .before .before .before .before .before .args .keypath .now)))
+judged-is c = c .judged .ensures ∙ ap (λ (f : Bool). firstFail (judgeTests (layoutOf 5)
+    (c .before .before .before .before .before .before .before .before .before .before .before .before .before .before .args .s) (imageIn (layoutOf 5)
+    (c .before .before .before .before .mark-64 .result) 0) f)) (c .before .before .security-fits .ensures)
 
 -- what is known of a record that was taken
 module _ (c : tie.After-kept6) where
-  algorithms-kept : c .before .before .before .before .before .before .before .before .before .before .before .before .before .before .before .kept .result .now ≡ under (needFor (c .before .before .before .before .before .before .before .before .before .before .before .before .before .before .before .before .before .before .before .before .before .before .before .before .before .before .before .mark-64 .result) 6) [] (c .before .before .before .before .before .before .before .before .before .before .before .before .before .before .before .before .before .before .before .before .before .before .before .before .before .before .before .before .before .before .before .before .before .before .before .before .before .args .algorithms .now)
-  algorithms-kept = c .before .before .before .before .before .before .before .before .before .before .before .before .before .before .before .kept .ensures ∙ ap (λ (n : Need). under n [] (c .before .before .before .before .before .before .before .before .before .before .before .before .before .before .before .before .before .before .before .before .before .before .before .before .before .before .before .before .before .before .before .before .before .before .before .before .before .args .algorithms .now)) (c .before .before .before .before .before .before .before .before .before .before .before .before .before .before .before .before .security-need .ensures)
+  algorithms-kept : c .before .before .before .before .before .before .before .before .before .before .before .before .before .before .before .kept .result .now ≡ under (needFor
+      (c .before .before .before .before .before .before .before .before .before .before .before .before .before .before .before .before .before .before .before .before .before .before .before
+      .before .before .before .mark-64 .result) 6) []
+      (c .before .before .before .before .before .before .before .before .before .before .before .before .before .before .before .before .before .before .before .before .before .before
+      .before .before .before .before .before .before .before .before .before .before .before .before .before .before .args .algorithms .now)
+  algorithms-kept = c .before .before .before .before .before .before .before .before .before .before .before .before .before .before .before .kept .ensures ∙ ap (λ (n : Need). under n []
+      (c .before .before .before .before .before .before .before .before .before .before .before .before .before .before .before .before .before .before .before .before .before .before .before
+      .before .before .before .before .before .before .before .before .before .before .before .before .before .args .algorithms .now))
+      (c .before .before .before .before .before .before .before .before .before .before .before .before .before .before .before .before .security-need .ensures)
 
-  protocols-kept : c .before .before .before .before .before .before .before .before .before .before .before .before .kept2 .result .now ≡ under (needFor (c .before .before .before .before .before .before .before .before .before .before .before .before .before .before .before .before .before .before .before .before .before .before .before .before .before .before .before .mark-64 .result) 12) [] (c .before .before .before .before .before .before .before .before .before .before .before .before .before .before .before .before .before .before .before .before .before .before .before .before .before .before .before .before .before .before .before .before .before .before .before .before .before .args .protocols .now)
-  protocols-kept = c .before .before .before .before .before .before .before .before .before .before .before .before .kept2 .ensures ∙ ap (λ (n : Need). under n [] (c .before .before .before .before .before .before .before .before .before .before .before .before .before .before .before .before .before .before .before .before .before .before .before .before .before .before .before .before .before .before .before .before .before .before .before .before .before .args .protocols .now)) (c .before .before .before .before .before .before .before .before .before .before .before .before .before .security-need2 .ensures)
+  protocols-kept : c .before .before .before .before .before .before .before .before .before .before .before .before .kept2 .result .now ≡ under (needFor
+      (c .before .before .before .before .before .before .before .before .before .before .before .before .before .before .before .before .before .before .before .before .before .before .before
+      .before .before .before .mark-64 .result) 12) []
+      (c .before .before .before .before .before .before .before .before .before .before .before .before .before .before .before .before .before .before .before .before .before .before
+      .before .before .before .before .before .before .before .before .before .before .before .before .before .before .args .protocols .now)
+  protocols-kept = c .before .before .before .before .before .before .before .before .before .before .before .before .kept2 .ensures ∙ ap (λ (n : Need). under n []
+      (c .before .before .before .before .before .before .before .before .before .before .before .before .before .before .before .before .before .before .before .before .before .before .before
+      .before .before .before .before .before .before .before .before .before .before .before .before .before .args .protocols .now))
+      (c .before .before .before .before .before .before .before .before .before .before .before .before .before .security-need2 .ensures)
 
-  ciphers-kept : c .before .before .before .before .before .before .before .before .before .kept3 .result .now ≡ under (needFor (c .before .before .before .before .before .before .before .before .before .before .before .before .before .before .before .before .before .before .before .before .before .before .before .before .before .before .before .mark-64 .result) 18) [] (c .before .before .before .before .before .before .before .before .before .before .before .before .before .before .before .before .before .before .before .before .before .before .before .before .before .before .before .before .before .before .before .before .before .before .before .before .before .args .ciphers .now)
-  ciphers-kept = c .before .before .before .before .before .before .before .before .before .kept3 .ensures ∙ ap (λ (n : Need). under n [] (c .before .before .before .before .before .before .before .before .before .before .before .before .before .before .before .before .before .before .before .before .before .before .before .before .before .before .before .before .before .before .before .before .before .before .before .before .before .args .ciphers .now)) (c .before .before .before .before .before .before .before .before .before .before .security-need3 .ensures)
+  ciphers-kept : c .before .before .before .before .before .before .before .before .before .kept3 .result .now ≡ under (needFor
+      (c .before .before .before .before .before .before .before .before .before .before .before .before .before .before .before .before .before .before .before .before .before .before .before
+      .before .before .before .mark-64 .result) 18) []
+      (c .before .before .before .before .before .before .before .before .before .before .before .before .before .before .before .before .before .before .before .before .before .before
+      .before .before .before .before .before .before .before .before .before .before .before .before .before .before .args .ciphers .now)
+  ciphers-kept = c .before .before .before .before .before .before .before .before .before .kept3 .ensures ∙ ap (λ (n : Need). under n []
+      (c .before .before .before .before .before .before .before .before .before .before .before .before .before .before .before .before .before .before .before .before .before .before .before
+      .before .before .before .before .before .before .before .before .before .before .before .before .before .args .ciphers .now))
+      (c .before .before .before .before .before .before .before .before .before .before .security-need3 .ensures)
 
-  groups-kept : c .before .before .before .before .before .before .kept4 .result .now ≡ under (needFor (c .before .before .before .before .before .before .before .before .before .before .before .before .before .before .before .before .before .before .before .before .before .before .before .before .before .before .before .mark-64 .result) 24) [] (c .before .before .before .before .before .before .before .before .before .before .before .before .before .before .before .before .before .before .before .before .before .before .before .before .before .before .before .before .before .before .before .before .before .before .before .before .before .args .groups .now)
-  groups-kept = c .before .before .before .before .before .before .kept4 .ensures ∙ ap (λ (n : Need). under n [] (c .before .before .before .before .before .before .before .before .before .before .before .before .before .before .before .before .before .before .before .before .before .before .before .before .before .before .before .before .before .before .before .before .before .before .before .before .before .args .groups .now)) (c .before .before .before .before .before .before .before .security-need4 .ensures)
+  groups-kept : c .before .before .before .before .before .before .kept4 .result .now ≡ under (needFor
+      (c .before .before .before .before .before .before .before .before .before .before .before .before .before .before .before .before .before .before .before .before .before .before .before
+      .before .before .before .mark-64 .result) 24) []
+      (c .before .before .before .before .before .before .before .before .before .before .before .before .before .before .before .before .before .before .before .before .before .before
+      .before .before .before .before .before .before .before .before .before .before .before .before .before .before .args .groups .now)
+  groups-kept = c .before .before .before .before .before .before .kept4 .ensures ∙ ap (λ (n : Need). under n []
+      (c .before .before .before .before .before .before .before .before .before .before .before .before .before .before .before .before .before .before .before .before .before .before .before
+      .before .before .before .before .before .before .before .before .before .before .before .before .before .args .groups .now))
+      (c .before .before .before .before .before .before .before .security-need4 .ensures)
 
-  hashes-kept : c .before .before .before .kept5 .result .now ≡ under (needFor (c .before .before .before .before .before .before .before .before .before .before .before .before .before .before .before .before .before .before .before .before .before .before .before .before .before .before .before .mark-64 .result) 30) [] (c .before .before .before .before .before .before .before .before .before .before .before .before .before .before .before .before .before .before .before .before .before .before .before .before .before .before .before .before .before .before .before .before .before .before .before .before .before .args .hashes .now)
-  hashes-kept = c .before .before .before .kept5 .ensures ∙ ap (λ (n : Need). under n [] (c .before .before .before .before .before .before .before .before .before .before .before .before .before .before .before .before .before .before .before .before .before .before .before .before .before .before .before .before .before .before .before .before .before .before .before .before .before .args .hashes .now)) (c .before .before .before .before .security-need5 .ensures)
+  hashes-kept : c .before .before .before .kept5 .result .now ≡ under (needFor
+      (c .before .before .before .before .before .before .before .before .before .before .before .before .before .before .before .before .before .before .before .before .before .before .before
+      .before .before .before .mark-64 .result) 30) []
+      (c .before .before .before .before .before .before .before .before .before .before .before .before .before .before .before .before .before .before .before .before .before .before
+      .before .before .before .before .before .before .before .before .before .before .before .before .before .before .args .hashes .now)
+  hashes-kept = c .before .before .before .kept5 .ensures ∙ ap (λ (n : Need). under n []
+      (c .before .before .before .before .before .before .before .before .before .before .before .before .before .before .before .before .before .before .before .before .before .before .before
+      .before .before .before .before .before .before .before .before .before .before .before .before .before .args .hashes .now)) (c .before .before .before .before .security-need5 .ensures)
 
-  keypath-kept : c .kept6 .result .now ≡ under (needFor (c .before .before .before .before .before .before .before .before .before .before .before .before .before .before .before .before .before .before .before .before .before .before .before .before .before .before .before .mark-64 .result) 36) [] (c .before .before .before .before .before .before .before .before .before .before .before .before .before .before .before .before .before .before .before .before .before .before .before .before .before .before .before .before .before .before .before .before .before .before .before .before .before .args .keypath .now)
-  keypath-kept = c .kept6 .ensures ∙ ap (λ (n : Need). under n [] (c .before .before .before .before .before .before .before .before .before .before .before .before .before .before .before .before .before .before .before .before .before .before .before .before .before .before .before .before .before .before .before .before .before .before .before .before .before .args .keypath .now)) (c .before .security-need6 .ensures)
-
-  passed : (waits (c .before .before .before .before .before .before .before .before .before .before .before .before .before .before .before .before .before .before .before .before .before .before .before .before .before .before .before .before .before .before .before .before .before .before .before .before .before .args .s) (layoutOf 5 .kind) ≡ true) × (length (under (needFor (c .before .before .before .before .before .before .before .before .before .before .before .before .before .before .before .before .before .before .before .before .before .before .before .before .before .before .before .mark-64 .result) 6) [] (c .before .before .before .before .before .before .before .before .before .before .before .before .before .before .before .before .before .before .before .before .before .before .before .before .before .before .before .before .before .before .before .before .before .before .before .before .before .args .algorithms .now)) ≤ 65535) × (length (under (needFor (c .before .before .before .before .before .before .before .before .before .before .before .before .before .before .before .before .before .before .before .before .before .before .before .before .before .before .before .mark-64 .result) 12) [] (c .before .before .before .before .before .before .before .before .before .before .before .before .before .before .before .before .before .before .before .before .before .before .before .before .before .before .before .before .before .before .before .before .before .before .before .before .before .args .protocols .now)) ≤ 65535) × (length (under (needFor (c .before .before .before .before .before .before .before .before .before .before .before .before .before .before .before .before .before .before .before .before .before .before .before .before .before .before .before .mark-64 .result) 18) [] (c .before .before .before .before .before .before .before .before .before .before .before .before .before .before .before .before .before .before .before .before .before .before .before .before .before .before .before .before .before .before .before .before .before .before .before .before .before .args .ciphers .now)) ≤ 65535) × (length (under (needFor (c .before .before .before .before .before .before .before .before .before .before .before .before .before .before .before .before .before .before .before .before .before .before .before .before .before .before .before .mark-64 .result) 24) [] (c .before .before .before .before .before .before .before .before .before .before .before .before .before .before .before .before .before .before .before .before .before .before .before .before .before .before .before .before .before .before .before .before .before .before .before .before .before .args .groups .now)) ≤ 65535) × (length (under (needFor (c .before .before .before .before .before .before .before .before .before .before .before .before .before .before .before .before .before .before .before .before .before .before .before .before .before .before .before .mark-64 .result) 30) [] (c .before .before .before .before .before .before .before .before .before .before .before .before .before .before .before .before .before .before .before .before .before .before .before .before .before .before .before .before .before .before .before .before .before .before .before .before .before .args .hashes .now)) ≤ 65535) × (length (under (needFor (c .before .before .before .before .before .before .before .before .before .before .before .before .before .before .before .before .before .before .before .before .before .before .before .before .before .before .before .mark-64 .result) 36) [] (c .before .before .before .before .before .before .before .before .before .before .before .before .before .before .before .before .before .before .before .before .before .before .before .before .before .before .before .before .before .before .before .before .before .before .before .before .before .args .keypath .now)) ≤ 65535)
-  passed = security-passed (c .before .before .before .before .before .before .before .before .before .before .before .before .before .before .before .before .before .before .before .before .before .before .before .before .before .before .before .before .before .before .before .before .before .before .before .before .before .args .s) (c .before .before .before .before .before .before .before .before .before .before .before .before .before .before .before .before .before .before .before .before .before .before .before .before .before .before .before .before .before .before .before .before .before .before .before .before .before .args .out .now) (c .before .before .before .before .before .before .before .before .before .before .before .before .before .before .before .before .before .before .before .before .before .before .before .before .before .before .before .before .before .before .before .before .before .before .before .before .before .args .x .bytes) (c .before .before .before .before .before .before .before .before .before .before .before .before .before .before .before .before .before .before .before .before .before .before .before .before .before .before .before .mark-64 .result) (c .before .before .before .before .before .before .before .before .before .before .before .before .before .before .before .before .before .before .before .before .before .before .before .before .before .before .before .before .before .before .before .before .before .before .before .before .before .args .algorithms .now) (c .before .before .before .before .before .before .before .before .before .before .before .before .before .before .before .before .before .before .before .before .before .before .before .before .before .before .before .before .before .before .before .before .before .before .before .before .before .args .protocols .now) (c .before .before .before .before .before .before .before .before .before .before .before .before .before .before .before .before .before .before .before .before .before .before .before .before .before .before .before .before .before .before .before .before .before .before .before .before .before .args .ciphers .now) (c .before .before .before .before .before .before .before .before .before .before .before .before .before .before .before .before .before .before .before .before .before .before .before .before .before .before .before .before .before .before .before .before .before .before .before .before .before .args .groups .now) (c .before .before .before .before .before .before .before .before .before .before .before .before .before .before .before .before .before .before .before .before .before .before .before .before .before .before .before .before .before .before .before .before .before .before .before .before .before .args .hashes .now) (c .before .before .before .before .before .before .before .before .before .before .before .before .before .before .before .before .before .before .before .before .before .before .before .before .before .before .before .before .before .before .before .before .before .before .before .before .before .args .keypath .now) (c .before .before .before .before .before .before .before .before .before .before .before .before .before .before .before .before .before .before .before .before .before .before .before .judged .result) (c .before .before .before .before .before .before .before .before .before .before .before .before .before .before .before .before .before .before .before .before .before .before .before .before .before .before .before .mark-64 .ensures .0) (judged-is (c .before .before .before .before .before .before .before .before .before .before .before .before .before .before .before .before .before .before .before .before .before .before .before)) (c .before .before .before .before .before .before .before .before .before .before .before .before .before .before .before .before .before .before .before .before .before .if1 .left)
-
-  short : (length (c .before .before .before .before .before .before .before .before .before .before .before .before .before .before .before .kept .result .now) ≤ 65535) × (length (c .before .before .before .before .before .before .before .before .before .before .before .before .kept2 .result .now) ≤ 65535) × (length (c .before .before .before .before .before .before .before .before .before .kept3 .result .now) ≤ 65535) × (length (c .before .before .before .before .before .before .kept4 .result .now) ≤ 65535) × (length (c .before .before .before .kept5 .result .now) ≤ 65535) × (length (c .kept6 .result .now) ≤ 65535)
-  short = (rw algorithms-kept (passed .1), rw protocols-kept (passed .2), rw ciphers-kept (passed .3), rw groups-kept (passed .4), rw hashes-kept (passed .5), rw keypath-kept (passed .6))
+  keypath-kept : c .kept6 .result .now ≡ under (needFor
+      (c .before .before .before .before .before .before .before .before .before .before .before .before .before .before .before .before .before .before .before .before .before .before .before
+      .before .before .before .mark-64 .result) 36) []
+      (c .before .before .before .before .before .before .before .before .before .before .before .before .before .before .before .before .before .before .before .before .before .before
+      .before .before .before .before .before .before .before .before .before .before .before .before .before .before .args .keypath .now)
+  keypath-kept = c .kept6 .ensures ∙ ap (λ (n : Need). under n []
+      (c .before .before .before .before .before .before .before .before .before .before .before .before .before .before .before .before .before .before .before .before .before .before .before
+      .before .before .before .before .before .before .before .before .before .before .before .before .before .args .keypath .now)) (c .before .security-need6 .ensures)
 
 cast-mark-64 : tie.Need-cast-mark-64
 cast-mark-64 c = search needs
@@ -67,19 +109,41 @@ slice-aggregate-judged c = search needs
 
 judged-requires : tie.Need-judged-requires
 unfolding layoutOf security
-judged-requires c κs = (lit≤ tt, lit≤ tt, (c .before .before .before .before .before .before .before .before .before .before .before .before .before .args .x .bytes, c .before .before .before .mark-64 .ensures .1, c .before .before .before .mark-64 .ensures .2, c .before .before .before .mark-64 .ensures .0))
+judged-requires c κs = (
+  lit≤ tt,
+  lit≤ tt,
+  (
+    c .before .before .before .before .before .before .before .before .before .before .before .before .before .args .x .bytes,
+    c .before .before .before .mark-64 .ensures .1,
+    c .before .before .before .mark-64 .ensures .2,
+    c .before .before .before .mark-64 .ensures .0,
+  ),
+)
 
 refused-requires : tie.Need-refused-requires
 refused-requires c κs = search needs
 
 returns : tie.Need-returns
-returns c = let j = c .before .before .before in let a = c .before .before .before .before .before .before .before .before .before .before .before .before .before .before .before .before .before .args in let t = security-refused (c .before .before .before .before .before .before .before .before .before .before .before .before .before .before .before .before .before .args .s) (c .before .before .before .before .before .before .before .before .before .before .before .before .before .before .before .before .before .args .out .now) (c .before .before .before .before .before .before .before .before .before .before .before .before .before .before .before .before .before .args .x .bytes) (c .before .before .before .before .before .before .before .mark-64 .result) (c .before .before .before .before .before .before .before .before .before .before .before .before .before .before .before .before .before .args .algorithms .now) (c .before .before .before .before .before .before .before .before .before .before .before .before .before .before .before .before .before .args .protocols .now) (c .before .before .before .before .before .before .before .before .before .before .before .before .before .before .before .before .before .args .ciphers .now) (c .before .before .before .before .before .before .before .before .before .before .before .before .before .before .before .before .before .args .groups .now) (c .before .before .before .before .before .before .before .before .before .before .before .before .before .before .before .before .before .args .hashes .now) (c .before .before .before .before .before .before .before .before .before .before .before .before .before .before .before .before .before .args .keypath .now) (c .before .before .before .judged .result) (c .before .before .before .before .before .before .before .mark-64 .ensures .0) (judged-is j) (c .before .if1 .taken) in (step-is (c .refused .result) (j .judged .result) (a .s) (c .refused .ensures .0) (c .refused .ensures .1) ∙ t .0, t .1)
+returns c =
+    let t = security-refused (c .before .before .before .before .before .before .before .before .before .before .before .before .before .before .before .before .before .args .s)
+    (c .before .before .before .before .before .before .before .before .before .before .before .before .before .before .before .before .before .args .out .now)
+    (c .before .before .before .before .before .before .before .before .before .before .before .before .before .before .before .before .before .args .x .bytes)
+    (c .before .before .before .before .before .before .before .mark-64 .result)
+    (c .before .before .before .before .before .before .before .before .before .before .before .before .before .before .before .before .before .args .algorithms .now)
+    (c .before .before .before .before .before .before .before .before .before .before .before .before .before .before .before .before .before .args .protocols .now)
+    (c .before .before .before .before .before .before .before .before .before .before .before .before .before .before .before .before .before .args .ciphers .now)
+    (c .before .before .before .before .before .before .before .before .before .before .before .before .before .before .before .before .before .args .groups .now)
+    (c .before .before .before .before .before .before .before .before .before .before .before .before .before .before .before .before .before .args .hashes .now)
+    (c .before .before .before .before .before .before .before .before .before .before .before .before .before .before .before .before .before .args .keypath .now)
+    (c .before .before .before .judged .result) (c .before .before .before .before .before .before .before .mark-64 .ensures .0) (judged-is (c .before .before .before)) (c .before .if1 .taken) in (
+      step-is (c .refused .result) (c .before .before .before .judged .result)
+          (c .before .before .before .before .before .before .before .before .before .before .before .before .before .before .before .before .before .args .s) (c .refused .ensures .0)
+          (c .refused .ensures .1) ∙ t .0,
+      t .1,
+    )
 
-slice-aggregate-lay-plain : tie.Need-slice-aggregate-lay-plain
-slice-aggregate-lay-plain c = search needs
-
-reference-offsets-requires : tie.Need-reference-offsets-requires
-reference-offsets-requires c κs = search needs
+slice-aggregate-lay-security : tie.Need-slice-aggregate-lay-security
+slice-aggregate-lay-security c = search needs
 
 slice-aggregate-security-need : tie.Need-slice-aggregate-security-need
 slice-aggregate-security-need c = search needs
@@ -109,41 +173,123 @@ kept-requires-3 : tie.Need-kept-requires-3
 kept-requires-3 c κs = search needs
 
 slice-aggregate-security-need-4 : tie.Need-slice-aggregate-security-need-4
-slice-aggregate-security-need-4 c = sym (c .before .before .before .before .before .before .before .before .before .before .before .before .before .before .before .before .before .before .before .mark-64 .ensures .2)
+slice-aggregate-security-need-4 c = sym
+    (c .before .before .before .before .before .before .before .before .before .before .before .before .before .before .before .before .before .before .mark-64 .ensures .2)
 
 security-need-requires-4 : tie.Need-security-need-requires-4
-security-need-requires-4 c κs = omega (arith, c .before .before .before .before .before .before .before .before .before .before .before .before .before .before .before .before .before .before .before .mark-64 .ensures .2)
+security-need-requires-4 c κs = omega (
+  arith,
+  c .before .before .before .before .before .before .before .before .before .before .before .before .before .before .before .before .before .before .mark-64 .ensures .2,
+)
 
 kept-requires-4 : tie.Need-kept-requires-4
 kept-requires-4 c κs = search needs
 
 slice-aggregate-security-need-5 : tie.Need-slice-aggregate-security-need-5
-slice-aggregate-security-need-5 c = sym (c .before .before .before .before .before .before .before .before .before .before .before .before .before .before .before .before .before .before .before .before .before .before .mark-64 .ensures .2)
+slice-aggregate-security-need-5 c = sym
+    (c .before .before .before .before .before .before .before .before .before .before .before .before .before .before .before .before .before .before .before .before .before .mark-64 .ensures .2)
 
 security-need-requires-5 : tie.Need-security-need-requires-5
-security-need-requires-5 c κs = omega (arith, c .before .before .before .before .before .before .before .before .before .before .before .before .before .before .before .before .before .before .before .before .before .before .mark-64 .ensures .2)
+security-need-requires-5 c κs = omega (
+  arith,
+  c .before .before .before .before .before .before .before .before .before .before .before .before .before .before .before .before .before .before .before .before .before .mark-64 .ensures .2,
+)
 
 kept-requires-5 : tie.Need-kept-requires-5
 kept-requires-5 c κs = search needs
 
 slice-aggregate-security-need-6 : tie.Need-slice-aggregate-security-need-6
-slice-aggregate-security-need-6 c = sym (c .before .before .before .before .before .before .before .before .before .before .before .before .before .before .before .before .before .before .before .before .before .before .before .before .before .mark-64 .ensures .2)
+slice-aggregate-security-need-6 c = sym
+    (c .before .before .before .before .before .before .before .before .before .before .before .before .before .before .before .before .before .before .before .before .before .before .before
+    .before .mark-64 .ensures .2)
 
 security-need-requires-6 : tie.Need-security-need-requires-6
-security-need-requires-6 c κs = omega (arith, c .before .before .before .before .before .before .before .before .before .before .before .before .before .before .before .before .before .before .before .before .before .before .before .before .before .mark-64 .ensures .2)
+security-need-requires-6 c κs = omega (
+  arith,
+  c .before .before .before .before .before .before .before .before .before .before .before .before .before .before .before .before .before .before .before .before .before .before .before
+      .before .mark-64 .ensures .2,
+)
 
 kept-requires-6 : tie.Need-kept-requires-6
 kept-requires-6 c κs = search needs
 
-lay-plain-requires : tie.Need-lay-plain-requires
-unfolding layoutOf security
-lay-plain-requires c κs = let r = c .before .before .before .before .before .before .before .before .before .before .before .before .before .before .before .before .before .before .reference-offsets .ensures in let z = short (c) in ((lit≤ tt, lit≤ tt, passed (c) .0, c .before .before .before .before .before .before .before .before .before .before .before .before .before .before .before .before .before .before .before .before .before .before .before .before .before .before .before .mark-64 .ensures .2), (z, plain-room (layoutOf 5) (c .before .before .before .before .before .before .before .before .before .before .before .before .before .before .before .before .before .before .reference-offsets .result .at) (c .before .before .before .before .before .before .before .before .before .before .before .before .before .before .before .before .before .before .reference-offsets .result .count) (length (c .before .before .before .before .before .before .before .before .before .before .before .before .before .before .before .kept .result .now)) (length (c .before .before .before .before .before .before .before .before .before .before .before .before .kept2 .result .now)) (length (c .before .before .before .before .before .before .before .before .before .kept3 .result .now)) (length (c .before .before .before .before .before .before .kept4 .result .now)) (length (c .before .before .before .kept5 .result .now)) (length (c .kept6 .result .now)) tt (r .0) (r .1) (r .2) (z .0) (z .1) (z .2) (z .3) (z .4) (z .5)))
+lay-security-requires : tie.Need-lay-security-requires
+unfolding security
+lay-security-requires c κs =
+    let p = security-passed
+    (c .before .before .before .before .before .before .before .before .before .before .before .before .before .before .before .before .before .before .before .before .before .before .before
+    .before .before .before .before .before .before .before .before .before .before .before .before .before .args .s)
+    (c .before .before .before .before .before .before .before .before .before .before .before .before .before .before .before .before .before .before .before .before .before .before .before
+    .before .before .before .before .before .before .before .before .before .before .before .before .before .args .out .now)
+    (c .before .before .before .before .before .before .before .before .before .before .before .before .before .before .before .before .before .before .before .before .before .before .before
+    .before .before .before .before .before .before .before .before .before .before .before .before .before .args .x .bytes)
+    (c .before .before .before .before .before .before .before .before .before .before .before .before .before .before .before .before .before .before .before .before .before .before .before
+    .before .before .before .mark-64 .result)
+    (c .before .before .before .before .before .before .before .before .before .before .before .before .before .before .before .before .before .before .before .before .before .before .before
+    .before .before .before .before .before .before .before .before .before .before .before .before .before .args .algorithms .now)
+    (c .before .before .before .before .before .before .before .before .before .before .before .before .before .before .before .before .before .before .before .before .before .before .before
+    .before .before .before .before .before .before .before .before .before .before .before .before .before .args .protocols .now)
+    (c .before .before .before .before .before .before .before .before .before .before .before .before .before .before .before .before .before .before .before .before .before .before .before
+    .before .before .before .before .before .before .before .before .before .before .before .before .before .args .ciphers .now)
+    (c .before .before .before .before .before .before .before .before .before .before .before .before .before .before .before .before .before .before .before .before .before .before .before
+    .before .before .before .before .before .before .before .before .before .before .before .before .before .args .groups .now)
+    (c .before .before .before .before .before .before .before .before .before .before .before .before .before .before .before .before .before .before .before .before .before .before .before
+    .before .before .before .before .before .before .before .before .before .before .before .before .before .args .hashes .now)
+    (c .before .before .before .before .before .before .before .before .before .before .before .before .before .before .before .before .before .before .before .before .before .before .before
+    .before .before .before .before .before .before .before .before .before .before .before .before .before .args .keypath .now)
+    (c .before .before .before .before .before .before .before .before .before .before .before .before .before .before .before .before .before .before .before .before .before .before .judged
+    .result) (c .before .before .before .before .before .before .before .before .before .before .before .before .before .before .before .before .before .before .before .before .before
+    .before .before .before .before .before .mark-64 .ensures .0) (judged-is
+    (c .before .before .before .before .before .before .before .before .before .before .before .before .before .before .before .before .before .before .before .before .before .before))
+    (c .before .before .before .before .before .before .before .before .before .before .before .before .before .before .before .before .before .before .before .before .if1 .left) in (
+      (
+        p .0,
+        c .before .before .before .before .before .before .before .before .before .before .before .before .before .before .before .before .before .before .before .before .before .before .before
+            .before .before .before .mark-64 .ensures .2,
+      ),
+      (rw (algorithms-kept c) (p .1), rw (protocols-kept c) (p .2), rw (ciphers-kept c) (p .3), rw (groups-kept c) (p .4), rw (hashes-kept c) (p .5), rw (keypath-kept c) (p .6)),
+    )
 
 same-length : tie.Need-same-length
 same-length c = search needs
 
 returns-2 : tie.Need-returns-2
-returns-2 c = let r = c .before .before .before .before .before .before .before .before .before .before .before .before .before .before .before .before .before .before .before .before .before .reference-offsets .ensures in let k = c .before .before .before in let d = security-done (c .before .before .before .before .before .before .before .before .before .before .before .before .before .before .before .before .before .before .before .before .before .before .before .before .before .before .before .before .before .before .before .before .before .before .before .before .before .before .before .before .args .s) (c .before .before .before .before .before .before .before .before .before .before .before .before .before .before .before .before .before .before .before .before .before .before .before .before .before .before .before .before .before .before .before .before .before .before .before .before .before .before .before .before .args .out .now) (c .before .before .before .before .before .before .before .before .before .before .before .before .before .before .before .before .before .before .before .before .before .before .before .before .before .before .before .before .before .before .before .before .before .before .before .before .before .before .before .before .args .x .bytes) (c .before .before .before .before .before .before .before .before .before .before .before .before .before .before .before .before .before .before .before .before .before .before .before .before .before .before .before .before .before .before .mark-64 .result) (c .before .before .before .before .before .before .before .before .before .before .before .before .before .before .before .before .before .before .before .before .before .before .before .before .before .before .before .before .before .before .before .before .before .before .before .before .before .before .before .before .args .algorithms .now) (c .before .before .before .before .before .before .before .before .before .before .before .before .before .before .before .before .before .before .before .before .before .before .before .before .before .before .before .before .before .before .before .before .before .before .before .before .before .before .before .before .args .protocols .now) (c .before .before .before .before .before .before .before .before .before .before .before .before .before .before .before .before .before .before .before .before .before .before .before .before .before .before .before .before .before .before .before .before .before .before .before .before .before .before .before .before .args .ciphers .now) (c .before .before .before .before .before .before .before .before .before .before .before .before .before .before .before .before .before .before .before .before .before .before .before .before .before .before .before .before .before .before .before .before .before .before .before .before .before .before .before .before .args .groups .now) (c .before .before .before .before .before .before .before .before .before .before .before .before .before .before .before .before .before .before .before .before .before .before .before .before .before .before .before .before .before .before .before .before .before .before .before .before .before .before .before .before .args .hashes .now) (c .before .before .before .before .before .before .before .before .before .before .before .before .before .before .before .before .before .before .before .before .before .before .before .before .before .before .before .before .before .before .before .before .before .before .before .before .before .before .before .before .args .keypath .now) (c .before .before .before .before .before .before .before .before .before .before .before .before .before .before .before .before .before .before .before .before .before .before .before .before .before .before .judged .result) (c .before .before .before .before .before .before .before .before .before .before .before .before .before .before .before .before .before .before .before .before .before .before .before .before .before .before .before .before .before .before .mark-64 .ensures .0) (judged-is (c .before .before .before .before .before .before .before .before .before .before .before .before .before .before .before .before .before .before .before .before .before .before .before .before .before .before)) (c .before .before .before .before .before .before .before .before .before .before .before .before .before .before .before .before .before .before .before .before .before .before .before .before .if1 .left) (c .before .before .before .before .before .before .before .before .before .before .before .before .before .before .before .before .before .before .before .before .before .reference-offsets .result .at) (c .before .before .before .before .before .before .before .before .before .before .before .before .before .before .before .before .before .before .before .before .before .reference-offsets .result .count) (c .before .before .before .before .before .before .before .before .before .before .before .before .before .before .before .before .before .before .kept .result .now) (c .before .before .before .before .before .before .before .before .before .before .before .before .before .before .before .kept2 .result .now) (c .before .before .before .before .before .before .before .before .before .before .before .before .kept3 .result .now) (c .before .before .before .before .before .before .before .before .before .kept4 .result .now) (c .before .before .before .before .before .before .kept5 .result .now) (c .before .before .before .kept6 .result .now) (algorithms-kept k) (protocols-kept k) (ciphers-kept k) (groups-kept k) (hashes-kept k) (keypath-kept k) (r .0) (r .1) in (c .before .before .lay-plain .ensures .0 ∙ ap (λ (o : Outcome). o .step) d, c .before .before .lay-plain .ensures .1 ∙ ap (λ (o : Outcome). o .buffer) d)
+returns-2 c =
+    let d = security-done
+    (c .before .before .before .before .before .before .before .before .before .before .before .before .before .before .before .before .before .before .before .before .before .before .before
+    .before .before .before .before .before .before .before .before .before .before .before .before .before .before .before .before .args .s)
+    (c .before .before .before .before .before .before .before .before .before .before .before .before .before .before .before .before .before .before .before .before .before .before .before
+    .before .before .before .before .before .before .before .before .before .before .before .before .before .before .before .before .args .out .now)
+    (c .before .before .before .before .before .before .before .before .before .before .before .before .before .before .before .before .before .before .before .before .before .before .before
+    .before .before .before .before .before .before .before .before .before .before .before .before .before .before .before .before .args .x .bytes)
+    (c .before .before .before .before .before .before .before .before .before .before .before .before .before .before .before .before .before .before .before .before .before .before .before
+    .before .before .before .before .before .before .mark-64 .result)
+    (c .before .before .before .before .before .before .before .before .before .before .before .before .before .before .before .before .before .before .before .before .before .before .before
+    .before .before .before .before .before .before .before .before .before .before .before .before .before .before .before .before .args .algorithms .now)
+    (c .before .before .before .before .before .before .before .before .before .before .before .before .before .before .before .before .before .before .before .before .before .before .before
+    .before .before .before .before .before .before .before .before .before .before .before .before .before .before .before .before .args .protocols .now)
+    (c .before .before .before .before .before .before .before .before .before .before .before .before .before .before .before .before .before .before .before .before .before .before .before
+    .before .before .before .before .before .before .before .before .before .before .before .before .before .before .before .before .args .ciphers .now)
+    (c .before .before .before .before .before .before .before .before .before .before .before .before .before .before .before .before .before .before .before .before .before .before .before
+    .before .before .before .before .before .before .before .before .before .before .before .before .before .before .before .before .args .groups .now)
+    (c .before .before .before .before .before .before .before .before .before .before .before .before .before .before .before .before .before .before .before .before .before .before .before
+    .before .before .before .before .before .before .before .before .before .before .before .before .before .before .before .before .args .hashes .now)
+    (c .before .before .before .before .before .before .before .before .before .before .before .before .before .before .before .before .before .before .before .before .before .before .before
+    .before .before .before .before .before .before .before .before .before .before .before .before .before .before .before .before .args .keypath .now)
+    (c .before .before .before .before .before .before .before .before .before .before .before .before .before .before .before .before .before .before .before .before .before .before .before
+    .before .before .judged .result)
+    (c .before .before .before .before .before .before .before .before .before .before .before .before .before .before .before .before .before .before .before .before .before .before .before
+    .before .before .before .before .before .before .mark-64 .ensures .0) (judged-is
+    (c .before .before .before .before .before .before .before .before .before .before .before .before .before .before .before .before .before .before .before .before .before .before .before
+    .before .before)) (c .before .before .before .before .before .before .before .before .before .before .before .before .before .before .before .before .before .before .before .before
+    .before .before .before .if1 .left)
+    (c .before .before .before .before .before .before .before .before .before .before .before .before .before .before .before .before .before .before .kept .result .now)
+    (c .before .before .before .before .before .before .before .before .before .before .before .before .before .before .before .kept2 .result .now)
+    (c .before .before .before .before .before .before .before .before .before .before .before .before .kept3 .result .now)
+    (c .before .before .before .before .before .before .before .before .before .kept4 .result .now) (c .before .before .before .before .before .before .kept5 .result .now)
+    (c .before .before .before .kept6 .result .now) (algorithms-kept (c .before .before .before)) (protocols-kept (c .before .before .before)) (ciphers-kept (c .before .before .before))
+    (groups-kept (c .before .before .before)) (hashes-kept (c .before .before .before)) (keypath-kept (c .before .before .before)) in
+    (c .before .before .lay-security .ensures .0 ∙ ap (λ (o : Outcome). o .step) d, c .before .before .lay-security .ensures .1 ∙ ap (λ (o : Outcome). o .buffer) d)
 
 pub security-spec : {M : Type 1} → statement M
 security-spec =
@@ -157,8 +303,7 @@ security-spec =
     judged-requires
     refused-requires
     returns
-    slice-aggregate-lay-plain
-    reference-offsets-requires
+    slice-aggregate-lay-security
     slice-aggregate-security-need
     security-need-requires
     kept-requires
@@ -177,6 +322,6 @@ security-spec =
     slice-aggregate-security-need-6
     security-need-requires-6
     kept-requires-6
-    lay-plain-requires
+    lay-security-requires
     same-length
     returns-2)

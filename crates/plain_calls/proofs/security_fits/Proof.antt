@@ -58,7 +58,26 @@ both-requires-5 : tie.Need-both-requires-5
 both-requires-5 c κs = search needs
 
 returns : tie.Need-returns
-returns c = c .both5 .ensures ∙ ap₂ (λ (c d : Bool). c && d) (c .before .before .before .before .fits6 .ensures ∙ ap (λ (n : Need). Fine n (c .before .before .before .before .before .before .before .before .before .before .before .before .before .before .before .before .before .before .before .before .before .before .before .before .args .algorithms .now)) (c .before .before .before .before .before .security-need5 .ensures)) (c .before .both4 .ensures ∙ ap₂ (λ (c d : Bool). c && d) (c .before .before .fits7 .ensures ∙ ap (λ (n : Need). Fine n (c .before .before .before .before .before .before .before .before .before .before .before .before .before .before .before .before .before .before .before .before .before .before .before .before .args .protocols .now)) (c .before .before .before .security-need6 .ensures)) (c .before .before .before .before .before .before .both3 .ensures ∙ ap₂ (λ (c d : Bool). c && d) (c .before .before .before .before .before .before .before .fits5 .ensures ∙ ap (λ (n : Need). Fine n (c .before .before .before .before .before .before .before .before .before .before .before .before .before .before .before .before .before .before .before .before .before .before .before .before .args .ciphers .now)) (c .before .before .before .before .before .before .before .before .security-need4 .ensures)) (c .before .before .before .before .before .before .before .before .before .both2 .ensures ∙ ap₂ (λ (c d : Bool). c && d) (c .before .before .before .before .before .before .before .before .before .before .before .fits4 .ensures ∙ ap (λ (n : Need). Fine n (c .before .before .before .before .before .before .before .before .before .before .before .before .before .before .before .before .before .before .before .before .before .before .before .before .args .groups .now)) (c .before .before .before .before .before .before .before .before .before .before .before .before .security-need3 .ensures)) (c .before .before .before .before .before .before .before .before .before .before .both .ensures ∙ ap₂ (λ (c d : Bool). c && d) (c .before .before .before .before .before .before .before .before .before .before .before .before .before .before .before .fits2 .ensures ∙ ap (λ (n : Need). Fine n (c .before .before .before .before .before .before .before .before .before .before .before .before .before .before .before .before .before .before .before .before .before .before .before .before .args .hashes .now)) (c .before .before .before .before .before .before .before .before .before .before .before .before .before .before .before .before .security-need .ensures)) (c .before .before .before .before .before .before .before .before .before .before .before .before .before .fits3 .ensures ∙ ap (λ (n : Need). Fine n (c .before .before .before .before .before .before .before .before .before .before .before .before .before .before .before .before .before .before .before .before .before .before .before .before .args .keypath .now)) (c .before .before .before .before .before .before .before .before .before .before .before .before .before .before .security-need2 .ensures))))))
+returns c = c .both5 .ensures ∙ ap₂ (λ (c d : Bool). c && d) (c .before .before .before .before .fits6 .ensures ∙ ap (λ (n : Need). Fine n
+    (c .before .before .before .before .before .before .before .before .before .before .before .before .before .before .before .before .before .before .before .before .before .before .before
+    .before .args .algorithms .now)) (c .before .before .before .before .before .security-need5 .ensures)) (c .before .both4 .ensures ∙ ap₂ (λ (c d : Bool). c && d)
+    (c .before .before .fits7 .ensures ∙ ap (λ (n : Need). Fine n
+    (c .before .before .before .before .before .before .before .before .before .before .before .before .before .before .before .before .before .before .before .before .before .before .before
+    .before .args .protocols .now)) (c .before .before .before .security-need6 .ensures)) (c .before .before .before .before .before .before .both3 .ensures ∙ ap₂ (λ (c d : Bool). c && d)
+    (c .before .before .before .before .before .before .before .fits5 .ensures ∙ ap (λ (n : Need). Fine n
+    (c .before .before .before .before .before .before .before .before .before .before .before .before .before .before .before .before .before .before .before .before .before .before .before
+    .before .args .ciphers .now)) (c .before .before .before .before .before .before .before .before .security-need4 .ensures))
+    (c .before .before .before .before .before .before .before .before .before .both2 .ensures ∙ ap₂ (λ (c d : Bool). c && d)
+    (c .before .before .before .before .before .before .before .before .before .before .before .fits4 .ensures ∙ ap (λ (n : Need). Fine n
+    (c .before .before .before .before .before .before .before .before .before .before .before .before .before .before .before .before .before .before .before .before .before .before .before
+    .before .args .groups .now)) (c .before .before .before .before .before .before .before .before .before .before .before .before .security-need3 .ensures))
+    (c .before .before .before .before .before .before .before .before .before .before .both .ensures ∙ ap₂ (λ (c d : Bool). c && d)
+    (c .before .before .before .before .before .before .before .before .before .before .before .before .before .before .before .fits2 .ensures ∙ ap (λ (n : Need). Fine n
+    (c .before .before .before .before .before .before .before .before .before .before .before .before .before .before .before .before .before .before .before .before .before .before .before
+    .before .args .hashes .now)) (c .before .before .before .before .before .before .before .before .before .before .before .before .before .before .before .before .security-need .ensures))
+    (c .before .before .before .before .before .before .before .before .before .before .before .before .before .fits3 .ensures ∙ ap (λ (n : Need). Fine n
+    (c .before .before .before .before .before .before .before .before .before .before .before .before .before .before .before .before .before .before .before .before .before .before .before
+    .before .args .keypath .now)) (c .before .before .before .before .before .before .before .before .before .before .before .before .before .before .security-need2 .ensures))))))
 
 pub security-fits-spec : {M : Type 1} → statement M
 security-fits-spec =
