@@ -1,6 +1,6 @@
 -- The objects of each kind's call. Assumes nothing.
 use mathlib.Core.Path.{_≡_, refl, sym, ap, ap₂, _∙_}
-use mathlib.Core.Bool.{Bool, true, false, _&&_}
+use mathlib.Core.Bool.{Bool, true, false}
 use mathlib.Core.List.{List, [], _∷_, _++_, append-assoc, append-nil}
 use Prim.Native.Nat.{ℕ, _+_, _/_, _%_, _≤_}
 use native.Mathlib.Omega.{arith}
@@ -15,7 +15,7 @@ use Rattle.table.specs.Bytes.{pick, num, bits}
 use Rattle.table.specs.Layout.{Slots, nil, bytes, gone, rec, baseOf}
 use Rattle.table.specs.FixedLayouts.{layoutOf, whenSet, hfi, ssns, info, extended}
 use Rattle.table.specs.Objects.{under, sizeOf, heapOf, patched}
-use Rattle.table.specs.Rules.{firstFail}
+use Rattle.table.specs.Rules.{firstOf, firstFail}
 use Rattle.table.specs.Builder.{waits, toldImage, toldSlots}
 use Rattle.laws.specs.Fields.{imageIn}
 use Rattle.writer.proofs.StoreLaws.{concat}
@@ -26,8 +26,14 @@ use Rattle.told.proofs.Laws.{image-is}
 use Rattle.steps.specs.Steps.{laid, judgeTests}
 use Rattle.steps.proofs.JudgeLaws.{judge-passed}
 use Rattle.filling.specs.Calls.{hfiTold, tellHfi, pathTold, ssnsTold, tellSsns}
-use Rattle.nested_calls.specs.Nested.{ownNeed, ssnsSlots, extendedSize, extendedPart, namedPart, laidSsns}
-use Rattle.filling.proofs.FillLaws.{Fine, three, allFine, fill-refused, fill-done, fine-short, two-true}
+use Rattle.nested_calls.specs.Nested.{ownNeed, ssnsFault, ssnsSlots, extendedSize, extendedPart, namedPart, laidSsns}
+use Rattle.filling.proofs.FillLaws.{slotsFault, fill-refused, fill-done, first-none, fault-short}
+use Rattle.laws.specs.RefWalk.{first-zero}
+use Rattle.told.specs.Faults.{objectFault}
+
+-- a heap record that may be there, whose only object has the fault f
+nested-fault : (f : ℕ) → f ≡ firstOf (firstOf 0 (firstOf f 0)) 0
+nested-fault f = sym (first-zero (firstOf f 0) ∙ first-zero f)
 
 -- ---- an HFI
 
@@ -47,26 +53,26 @@ hfi-heap u i name r e =
     ap (λ (y : List ℕ). y ++ (name ++ [])) w ∙ sym (append-nil (patched (u + 128) (imageIn info i 0) (bytes name nil) ++ (name ++ [])))
 
 module _ (s : State) (buf x b i c name : List ℕ) (a : Answer) (eb : b ≡ marked (layoutOf 3 .shape) (s .position) x) (ec : c ≡ marked (layoutOf 7 .shape) (s .position) i)
-    (ea : a ≡ firstFail (judgeTests (layoutOf 3) s (imageIn (layoutOf 3) b 0) (Fine Optional name))) where
+    (ea : a ≡ firstFail (judgeTests (layoutOf 3) s (imageIn (layoutOf 3) b 0) 0 (objectFault Optional name))) where
   abbrev img₃ : List ℕ
   img₃ = toldImage (hfi .shape) (s .position) x
 
   abbrev img₇ : List ℕ
   img₇ = toldImage (info .shape) (s .position) i
 
-  hfi-fine : Fine Optional name ≡ allFine img₃ (toldSlots (s .position) img₃ (hfiTold i name))
+  hfi-fault : objectFault Optional name ≡ slotsFault img₃ (toldSlots (s .position) img₃ (hfiTold i name))
   unfolding hfi info hfiTold toldSlots
-  hfi-fine = three (Fine Optional name)
+  hfi-fault = nested-fault (objectFault Optional name)
 
   pub hfi-refused : (a .number ≡ 0 → ⊥) → (record { answer = a; state = s } ≡ tellHfi s buf x i name .step) × (buf ≡ tellHfi s buf x i name .buffer)
   unfolding tellHfi layoutOf
-  hfi-refused z = fill-refused hfi s buf x b (hfiTold i name) (Fine Optional name) a eb ea hfi-fine z
+  hfi-refused z = fill-refused hfi s buf x b (hfiTold i name) (objectFault Optional name) a eb ea hfi-fault z
 
   pub hfi-passed : a .number ≡ 0 → (waits s 3 ≡ true) × (length name ≤ 65535)
   unfolding layoutOf hfi
   hfi-passed z =
-      let p = judge-passed (layoutOf 3) s (imageIn (layoutOf 3) b 0) (Fine Optional name) a ea z in
-      (p .0, fine-short Optional name (p .1))
+      let p = judge-passed (layoutOf 3) s (imageIn (layoutOf 3) b 0) 0 (objectFault Optional name) a ea z in
+      (p .0, fault-short Optional name (p .1))
 
   told₇ : imageIn info c 0 ≡ img₇
   unfolding layoutOf
@@ -74,7 +80,7 @@ module _ (s : State) (buf x b i c name : List ℕ) (a : Answer) (eb : b ≡ mark
 
   pub hfi-done : a .number ≡ 0 → laid hfi s buf b (hfiTold (imageIn info c 0) name) ≡ tellHfi s buf x i name
   unfolding tellHfi layoutOf hfi info hfiTold toldSlots
-  hfi-done z = ap (λ (y : List ℕ). laid hfi s buf b (hfiTold y name)) told₇ ∙ fill-done hfi s buf x b (hfiTold i name) (Fine Optional name) a eb ea hfi-fine z
+  hfi-done z = ap (λ (y : List ℕ). laid hfi s buf b (hfiTold y name)) told₇ ∙ fill-done hfi s buf x b (hfiTold i name) (objectFault Optional name) a eb ea hfi-fault z
 
 -- ---- the extended info, in c, and its object
 
@@ -167,8 +173,7 @@ module _ (b c address service others nqn path : List ℕ) (u : ℕ) where
 
 module _ (s : State) (buf x b address service others nqn e c path : List ℕ) (a : Answer) (eb : b ≡ marked (layoutOf 4 .shape) (s .position) x)
     (ec : c ≡ marked (layoutOf 9 .shape) (s .position) e)
-    (ea : a ≡ firstFail (judgeTests (layoutOf 4) s (imageIn (layoutOf 4) b 0) (Fine Required address && (Fine Required service && (Fine Optional others && (Fine Required nqn && Fine (ownNeed
-    (imageIn ssns b 0)) path))))))
+    (ea : a ≡ firstFail (judgeTests (layoutOf 4) s (imageIn (layoutOf 4) b 0) 0 (ssnsFault (imageIn ssns b 0) address service others nqn path)))
   where
     abbrev img₄ : List ℕ
     img₄ = toldImage (ssns .shape) (s .position) x
@@ -184,49 +189,55 @@ module _ (s : State) (buf x b address service others nqn e c path : List ℕ) (a
     unfolding layoutOf
     told₉ = image-is extended (s .position) e c ec
 
-    last-fine : (f : Bool) → eqb (bits 3 2 4 4 img₄) 0 ≡ f → Fine (ownNeed img₄) path
-        ≡ allFine img₄ (under (pick f Ignored Required) (gone {p = 60} {need = whenSet 3 2 4 4} {shape = extended .shape} {own = extended .refs} nil)
+    last-fault : (f : Bool) → eqb (bits 3 2 4 4 img₄) 0 ≡ f → objectFault (ownNeed img₄) path
+        ≡ slotsFault img₄ (under (pick f Ignored Required) (gone {p = 60} {need = whenSet 3 2 4 4} {shape = extended .shape} {own = extended .refs} nil)
         (rec {p = 60} {need = whenSet 3 2 4 4} {shape = extended .shape} img₉ (toldSlots (s .position) img₉ (pathTold path)) nil))
     unfolding ownNeed extended pathTold toldSlots
-    last-fine true q = ap (λ (g : Bool). Fine (pick g Ignored Optional) path) q ∙ rw q refl
-    last-fine false q = ap (λ (g : Bool). Fine (pick g Ignored Optional) path) q ∙ rw q (three (Fine Optional path))
+    last-fault true q = ap (λ (g : Bool). objectFault (pick g Ignored Optional) path) q ∙ rw q refl
+    last-fault false q = ap (λ (g : Bool). objectFault (pick g Ignored Optional) path) q ∙ rw q (nested-fault (objectFault Optional path))
 
-    abbrev fine₄ : List ℕ → Bool
-    fine₄ img = Fine Required address && (Fine Required service && (Fine Optional others && (Fine Required nqn && Fine (ownNeed img) path)))
+    abbrev fault₄ : List ℕ → ℕ
+    fault₄ img = ssnsFault img address service others nqn path
 
-    ssns-fine : fine₄ (imageIn ssns b 0) ≡ allFine img₄ (toldSlots (s .position) img₄ (ssnsTold address service others nqn e path))
+    ssns-fault : fault₄ (imageIn ssns b 0) ≡ slotsFault img₄ (toldSlots (s .position) img₄ (ssnsTold address service others nqn e path))
     unfolding ssns extended ssnsTold toldSlots pathTold
-    ssns-fine =
-        ap fine₄ told₄ ∙ ap (λ (f : Bool). Fine Required address && (Fine Required service && (Fine Optional others && (Fine Required nqn && f)))) (last-fine (eqb (bits 3 2 4 4 img₄) 0) refl)
+    ssns-fault =
+        ap fault₄ told₄
+        ∙ ap (λ (f : ℕ). firstOf (objectFault Required address) (firstOf (objectFault Required service) (firstOf (objectFault Optional others) (firstOf (objectFault Required nqn) f))))
+        (last-fault (eqb (bits 3 2 4 4 img₄) 0) refl)
 
     pub ssns-refused : (a .number ≡ 0 → ⊥)
         → (record { answer = a; state = s } ≡ tellSsns s buf x address service others nqn e path .step) × (buf ≡ tellSsns s buf x address service others nqn e path .buffer)
     unfolding tellSsns layoutOf
-    ssns-refused z = fill-refused ssns s buf x b (ssnsTold address service others nqn e path) (fine₄ (imageIn ssns b 0)) a eb ea ssns-fine z
+    ssns-refused z = fill-refused ssns s buf x b (ssnsTold address service others nqn e path) (fault₄ (imageIn ssns b 0)) a eb ea ssns-fault z
 
     pub ssns-passed : a .number ≡ 0 → (waits s 4 ≡ true) × (length address ≤ 65535) × (length service ≤ 65535) × (length others ≤ 65535) × (length nqn ≤ 65535)
         × (length (under (ownNeed (imageIn ssns b 0)) [] path) ≤ 65535)
     unfolding layoutOf ssns
     ssns-passed z =
-        let last : Bool = Fine (ownNeed (imageIn ssns b 0)) path in
-        let p = judge-passed (layoutOf 4) s (imageIn (layoutOf 4) b 0) (fine₄ (imageIn ssns b 0)) a ea z in
-        let a₁ = two-true (Fine Required address) (Fine Required service && (Fine Optional others && (Fine Required nqn && last))) (p .1) in
-        let a₂ = two-true (Fine Required service) (Fine Optional others && (Fine Required nqn && last)) (a₁ .1) in
-        let a₃ = two-true (Fine Optional others) (Fine Required nqn && last) (a₂ .1) in
-        let a₄ = two-true (Fine Required nqn) last (a₃ .1) in (
+        let f₁ : ℕ = objectFault Required address in
+        let f₂ : ℕ = objectFault Required service in
+        let f₃ : ℕ = objectFault Optional others in
+        let f₄ : ℕ = objectFault Required nqn in
+        let f₅ : ℕ = objectFault (ownNeed (imageIn ssns b 0)) path in
+        let p = judge-passed (layoutOf 4) s (imageIn (layoutOf 4) b 0) 0 (fault₄ (imageIn ssns b 0)) a ea z in
+        let a₁ = first-none f₁ (firstOf f₂ (firstOf f₃ (firstOf f₄ f₅))) (p .1) in
+        let a₂ = first-none f₂ (firstOf f₃ (firstOf f₄ f₅)) (a₁ .1) in
+        let a₃ = first-none f₃ (firstOf f₄ f₅) (a₂ .1) in
+        let a₄ = first-none f₄ f₅ (a₃ .1) in (
           p .0,
-          fine-short Required address (a₁ .0),
-          fine-short Required service (a₂ .0),
-          fine-short Optional others (a₃ .0),
-          fine-short Required nqn (a₄ .0),
-          fine-short (ownNeed (imageIn ssns b 0)) path (a₄ .1),
+          fault-short Required address (a₁ .0),
+          fault-short Required service (a₂ .0),
+          fault-short Optional others (a₃ .0),
+          fault-short Required nqn (a₄ .0),
+          fault-short (ownNeed (imageIn ssns b 0)) path (a₄ .1),
         )
 
     pub ssns-done : a .number ≡ 0 → laidSsns s buf b c address service others nqn path ≡ tellSsns s buf x address service others nqn e path
     unfolding laidSsns ssnsSlots tellSsns layoutOf ssns extended ssnsTold pathTold toldSlots
     ssns-done z =
         ap₂ (λ (img own : List ℕ). laid ssns s buf b (ssnsSlots img address service others nqn own path)) told₄ told₉
-        ∙ fill-done ssns s buf x b (ssnsTold address service others nqn e path) (fine₄ (imageIn ssns b 0)) a eb ea ssns-fine z
+        ∙ fill-done ssns s buf x b (ssnsTold address service others nqn e path) (fault₄ (imageIn ssns b 0)) a eb ea ssns-fault z
 
 pub not-own : (img : List ℕ) (f : ℕ) → f ≡ num img 3 2 → f / 16 % 2 ≡ 0 → Ignored ≡ ownNeed img
 unfolding ownNeed

@@ -4,22 +4,31 @@ use Prim.Native.Nat.{ℕ, _+_}
 use lib.ListN.{length}
 use lib.Dec.{eqb}
 use Rattle.table.specs.declared.Need.{Need}
-use Rattle.table.specs.declared.Need.the-variants.{Ignored, Optional}
+use Rattle.table.specs.declared.Need.the-variants.{Ignored, Optional, Required}
 use Rattle.table.specs.declared.State.{State}
 use Rattle.table.specs.Bytes.{pick, bits}
 use Rattle.table.specs.Layout.{Slots, nil, bytes, gone, rec, baseOf}
 use Rattle.table.specs.FixedLayouts.{whenSet, ssns, extended}
 use Rattle.table.specs.Objects.{under}
+use Rattle.table.specs.Rules.{firstOf}
 use Rattle.table.specs.Builder.{Outcome}
 use Rattle.laws.specs.Fields.{imageIn}
 use Rattle.writer.proofs.StoreLaws.{concat}
 use Rattle.record_writers.specs.Written.{recordWith}
+use Rattle.told.specs.Faults.{objectFault}
 use Rattle.steps.specs.Steps.{laid}
 use Rattle.filling.specs.Calls.{pathTold}
 
 -- img is the image of an SSNS record
 unfoldable pub ownNeed : List ℕ → Need
 ownNeed img = pick (eqb (bits 3 2 4 4 img) 0) Ignored Optional
+
+-- the first fault of its objects
+abbrev pub ssnsFault : (img address service others nqn path : List ℕ) → ℕ
+ssnsFault img address service others nqn path =
+    firstOf (objectFault Required address)
+    (firstOf (objectFault Required service)
+    (firstOf (objectFault Optional others) (firstOf (objectFault Required nqn) (objectFault (ownNeed img) path))))
 
 -- what it names: own is the image of the extended info
 unfoldable pub ssnsSlots : (img address service others nqn own path : List ℕ) → Slots (ssns .refs)

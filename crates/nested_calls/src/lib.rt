@@ -20,16 +20,15 @@ use table::Step;
 use told::marks::mark_18;
 use told::marks::mark_32;
 use told::marks::mark_128;
-use told::objects::both;
+use told::objects::first_of;
 use told::objects::fits;
 use told::objects::kept;
 use writer::stores::copy_into;
 ghost use mathlib.Core.Path.{_≡_};
-ghost use mathlib.Core.Bool.{true, _&&_};
+ghost use mathlib.Core.Bool.{true};
 ghost use mathlib.Core.List.{[]};
 ghost use Prim.Native.Nat.{_+_, _≤_};
 ghost use lib.ListN.{length};
-ghost use Rattle.table.specs.declared.Need.the-variants.{Optional, Required};
 ghost use Rattle.table.specs.Bytes.{splice};
 ghost use Rattle.table.specs.Layout.{baseOf};
 ghost use Rattle.table.specs.FixedLayouts as layouts;
@@ -38,8 +37,7 @@ ghost use Rattle.table.specs.Builder.{waits};
 ghost use Rattle.laws.specs.Fields.{imageIn};
 ghost use Rattle.steps.specs.Steps.{laid};
 ghost use Rattle.filling.specs.Calls.{hfiTold, tellHfi, tellSsns};
-ghost use Rattle.filling.proofs.FillLaws.{Fine};
-ghost use Rattle.nested_calls.specs.Nested.{ownNeed, extendedSize, extendedPart, namedPart, laidSsns};
+ghost use Rattle.nested_calls.specs.Nested.{ownNeed, ssnsFault, extendedSize, extendedPart, namedPart, laidSsns};
 
 // The HFI told in `b`, behind the bytes used its transport info told in `i`, and behind this its host name, where there is room.
 fn lay_hfi(out: &mut [u8], s: State, b: &[u8], i: &[u8], name: &[u8]) -> Step
@@ -69,7 +67,7 @@ pub fn hfi(out: &mut [u8], s: State, x: Hfi, info: Info, name: &[u8]) -> Step
     let b = mark_32(bytes, Hfi::ID, s.position as usize);
     let info_bytes = info.bytes;
     let i = mark_128(info_bytes, Info::ID, s.position as usize);
-    let a = judged(s, Hfi::ID, &b, fits(Need::Optional, name));
+    let a = judged(s, Hfi::ID, &b, 0, fits(Need::Optional, name));
     if a.number != 0 {
         return refused(a, s);
     }
@@ -98,23 +96,23 @@ fn own_size(need: Need) -> usize
     }
 }
 
-// Whether each object of the SSNS record in `b` is as the need for it has it.
-fn ssns_fits(
+// The first fault of the objects of the SSNS record told in `b`, by the needs for them.
+fn ssns_fault(
     b: &[u8],
     address: &[u8],
     service: &[u8],
     others: &[u8],
     nqn: &[u8],
     path: &[u8],
-) -> bool
+) -> u8
     requires { ⌜ 128 ≤ length (now b) ⌝ }
-    ensures { λ r. ⌜ r ≡ (Fine Required (now (address .entry)) && (Fine Required (now (service .entry)) && (Fine Optional (now (others .entry)) && (Fine Required (now (nqn .entry)) && Fine (ownNeed (imageIn layouts.ssns (now (b .entry)) 0)) (now (path .entry)))))) ⌝ }
+    ensures { λ r. ⌜ r ≡ ssnsFault (imageIn layouts.ssns (now (b .entry)) 0) (now (address .entry)) (now (service .entry)) (now (others .entry)) (now (nqn .entry)) (now (path .entry)) ⌝ }
 {
-    let last = both(fits(Need::Required, nqn), fits(own_need(b), path));
-    let rest = both(fits(Need::Optional, others), last);
-    both(
+    let last = first_of(fits(Need::Required, nqn), fits(own_need(b), path));
+    let rest = first_of(fits(Need::Optional, others), last);
+    first_of(
         fits(Need::Required, address),
-        both(fits(Need::Required, service), rest),
+        first_of(fits(Need::Required, service), rest),
     )
 }
 
@@ -214,8 +212,8 @@ pub fn ssns(
     let b = mark_128(bytes, Ssns::ID, s.position as usize);
     let extended_bytes = extended.bytes;
     let e = mark_18(extended_bytes, Extended::ID, s.position as usize);
-    let fine = ssns_fits(&b, address, service, others, nqn, path);
-    let a = judged(s, Ssns::ID, &b, fine);
+    let fault = ssns_fault(&b, address, service, others, nqn, path);
+    let a = judged(s, Ssns::ID, &b, 0, fault);
     if a.number != 0 {
         return refused(a, s);
     }

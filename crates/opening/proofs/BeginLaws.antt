@@ -1,29 +1,32 @@
 -- The beginning of a build: its answers, and the table of which only that is told. Assumes nothing.
 use mathlib.Core.Path.{_≡_, refl, sym, ap, ap₂, _∙_}
-use mathlib.Core.Bool.{Bool, true, false}
+use mathlib.Core.Bool.{true, false}
 use mathlib.Core.List.{List, [], _∷_, _++_, append-assoc, append-nil}
-use Prim.Native.Nat.{ℕ, zero, suc, _+_, _-_, _≤_, _<_}
+use Prim.Native.Nat.{ℕ, zero, suc, _+_, _-_, _<_}
 use native.Mathlib.Omega.{arith}
 use native.Mathlib.Nat.{add-zero}
 use lib.ListN.{length, getD, replicate, length-append, replicate-append-replicate}
 use lib.Dec.{eqb, lit<}
-use borrow.Author.Tests.{le-leb, lt-leb, eq-eqb, ne-eqb}
+use borrow.Author.Tests.{eq-eqb, ne-eqb}
 use Rattle.table.specs.declared.Answer.{Answer}
 use Rattle.table.specs.declared.State.{State}
-use Rattle.table.specs.Bytes.{pick, splice}
+use Rattle.table.specs.Bytes.{splice}
 use Rattle.table.specs.Layout.{Env, env, slotAt}
-use Rattle.table.specs.FixedLayouts.{header, host, hfi, ssns, security, discovery, listKinds}
+use Rattle.table.specs.FixedLayouts.{header, host, listKinds}
 use Rattle.table.specs.Objects.{sizeOf, sizeEntry, spanBody, heapOf, recEntry, heapEntry, recsBody, heapBody}
 use Rattle.table.specs.Meaning.{Meaning, heapAt, heapLen, formLength, headFront, headBack, controlBytes, behind, laidOut}
 use Rattle.table.specs.Rules.{answer, firstFail}
-use Rattle.table.specs.Builder.{begin, begun, endOf, recordsEnd, countOf, empty, isShort, opened, allUnused, roomTests, sameState, slotsRule}
+use Rattle.table.specs.Builder.{begin, begun, endOf, recordsEnd, countOf, empty, opened, allUnused, roomTests, sameState, slotsRule}
 use Rattle.laws.specs.Blank.{AllBlank, lengthsOf, fit-unused, blank-recs, blank-heap, blank-size}
 use Rattle.laws.specs.Turns.{end-is}
 use Rattle.front.specs.declared.Counts.{Counts}
 use Rattle.front.specs.Front.{headerFor, controlFor}
 use Rattle.writer.proofs.StoreLaws.{concat}
 use Rattle.front.proofs.FrontLaws.{header-is, header-joined, header-long, control-is, control-joined, control-long}
-use Rattle.filling.proofs.FillLaws.{and-true, slots-fine}
+use Rattle.filling.proofs.FillLaws.{slots-fault}
+use Rattle.laws.specs.RefWalk.{first-zero}
+use Rattle.told.specs.Faults.{objectFault}
+use Rattle.table.specs.declared.Need.the-variants.{Optional}
 use Rattle.opening.specs.Begins.{headerTold, beginWith, SmallCounts}
 
 -- ---- the empty state
@@ -96,9 +99,9 @@ module _ (oem : List ℕ) (c : Counts) (small : SmallCounts c) (signature : List
 
 -- ---- answers
 
-number-is : (e : Env) (signature : List ℕ) → slotsRule e [] (headerTold signature) ≡ pick (isShort signature) 0 11
+number-is : (e : Env) (signature : List ℕ) → slotsRule e [] (headerTold signature) ≡ objectFault Optional signature
 unfolding headerTold header
-number-is e signature = slots-fine e [] (headerTold signature) ∙ ap (λ (c : Bool). pick c 0 11) (and-true (isShort signature))
+number-is e signature = slots-fault e [] (headerTold signature) ∙ first-zero (objectFault Optional signature)
 
 module _ (s : State) (b oem cs signature : List ℕ) where
   pub begin-again : sameState s empty ≡ false → (record { answer = answer 15 0 0; state = s } ≡ beginWith s b oem cs signature .step) × (b ≡ beginWith s b oem cs signature .buffer)
@@ -106,22 +109,25 @@ module _ (s : State) (b oem cs signature : List ℕ) where
   begin-again e = (rw e refl, rw e refl)
 
   module _ (e : sameState s empty ≡ true) where
-    pub begin-long : 65535 < length signature → (record { answer = answer 11 0 0; state = s } ≡ beginWith s b oem cs signature .step) × (b ≡ beginWith s b oem cs signature .buffer)
-    unfolding beginWith begin
-    begin-long l =
-        let n = number-is (env (countOf listKinds cs) 0) signature ∙ ap (λ (c : Bool). pick c 0 11) (lt-leb (length signature) 65535 l) in
-        (rw (e, n) refl, rw (e, n) refl)
+    module _ (q : ℕ) (p : q ≡ objectFault Optional signature) where
+      number : slotsRule (env (countOf listKinds cs) 0) [] (headerTold signature) ≡ q
+      number = number-is (env (countOf listKinds cs) 0) signature ∙ sym p
 
-    module _ (k : length signature ≤ 65535) (n : ℕ) (f : n ≡ formLength (opened oem cs (headerTold signature))) (a : Answer) (g : a ≡ firstFail (roomTests n (length b))) where
+      pub begin-faulty : (q ≡ 0 → ⊥) → (record { answer = answer q 0 0; state = s } ≡ beginWith s b oem cs signature .step) × (b ≡ beginWith s b oem cs signature .buffer)
+      unfolding beginWith begin
+      begin-faulty z = let f = ne-eqb q 0 z in (rw (e, number, f) (rw f refl), rw (e, number, f) (rw f refl))
+
+    module _ (k : objectFault Optional signature ≡ 0) (n : ℕ) (f : n ≡ formLength (opened oem cs (headerTold signature))) (a : Answer) (g : a ≡ firstFail (roomTests n (length b))) where
       none : slotsRule (env (countOf listKinds cs) 0) [] (headerTold signature) ≡ 0
-      none = number-is (env (countOf listKinds cs) 0) signature ∙ ap (λ (c : Bool). pick c 0 11) (le-leb (length signature) 65535 k)
+      none = number-is (env (countOf listKinds cs) 0) signature ∙ k
 
       pub begin-refused : (a .number ≡ 0 → ⊥) → (record { answer = a; state = s } ≡ beginWith s b oem cs signature .step) × (b ≡ beginWith s b oem cs signature .buffer)
       unfolding beginWith begin
       begin-refused z = let q = ne-eqb (a .number) 0 z in (rw (e, none, sym f, sym g, q) refl, rw (e, none, sym f, sym g, q) refl)
 
       pub begin-done : a .number ≡ 0
-          → (record { answer = a; state = begun cs n } ≡ beginWith s b oem cs signature .step) × (splice b 0 (laidOut (opened oem cs (headerTold signature)) 0 0 0) ≡ beginWith s b oem cs signature .buffer)
+          → (record { answer = a; state = begun cs n } ≡ beginWith s b oem cs signature .step) × (splice b 0 (laidOut (opened oem cs (headerTold signature)) 0 0 0) ≡ beginWith s b oem cs
+          signature .buffer)
       unfolding beginWith begin
       begin-done z = let q = eq-eqb (a .number) 0 z in (rw (e, none, sym f, sym g, q) refl, rw (e, none, sym f, sym g, q) refl)
 

@@ -3,8 +3,10 @@ use front::Counts;
 use front::write_front;
 use room::room_fault;
 use steps::judging::refused;
+use table::Need;
 use table::State;
 use table::Step;
+use told::objects::fits;
 use writer::stores::copy_into;
 use writer::stores::fill_zero;
 ghost use mathlib.Core.Path.{_≡_};
@@ -72,8 +74,9 @@ pub fn begin(out: &mut [u8], s: State, oem: [u8; 26], c: Counts, signature: &[u8
     if !is_empty(s) {
         return refused(table::refuse(15, 0, 0), s);
     }
-    if signature.len() > 65535 {
-        return refused(table::refuse(11, 0, 0), s);
+    let fault = fits(Need::Optional, signature);
+    if fault != 0 {
+        return refused(table::refuse(fault, 0, 0), s);
     }
     // The heap starts where the records end, whatever will be used.
     let h = turns::records_end(begun_state(c, 0));

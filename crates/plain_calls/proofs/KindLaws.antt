@@ -1,6 +1,6 @@
 -- The objects of each kind's call. Assumes nothing.
 use mathlib.Core.Path.{_≡_, refl, sym, ap, _∙_}
-use mathlib.Core.Bool.{Bool, true, _&&_}
+use mathlib.Core.Bool.{true}
 use mathlib.Core.List.{List, [], _∷_, append-nil}
 use Prim.Native.Nat.{ℕ, _+_, _≤_}
 use native.Mathlib.Omega.{arith}
@@ -12,7 +12,7 @@ use Rattle.table.specs.declared.State.{State}
 use Rattle.table.specs.FixedLayouts.{layoutOf, host, security, discovery}
 use Rattle.table.specs.Objects.{under, sizeOf, heapOf, patched}
 use Rattle.table.specs.Reads.{needAt}
-use Rattle.table.specs.Rules.{firstFail}
+use Rattle.table.specs.Rules.{firstOf, firstFail}
 use Rattle.table.specs.Builder.{waits, toldImage, toldSlots}
 use Rattle.laws.specs.Fields.{imageIn}
 use Rattle.writer.proofs.StoreLaws.{concat}
@@ -22,18 +22,20 @@ use Rattle.told.specs.Marks.{marked}
 use Rattle.told.proofs.Laws.{image-is}
 use Rattle.steps.specs.Steps.{laid, judgeTests}
 use Rattle.steps.proofs.JudgeLaws.{judge-passed}
-use Rattle.plain_calls.specs.Plain.{securityFine}
+use Rattle.plain_calls.specs.Plain.{securityFault}
 use Rattle.filling.specs.Calls.{hostTold, tellHost, discoveryTold, tellDiscovery, securityTold, tellSecurity}
-use Rattle.filling.proofs.FillLaws.{Fine, allFine, and-true, fill-refused, fill-done, fine-short, two-true}
+use Rattle.filling.proofs.FillLaws.{slotsFault, fill-refused, fill-done, fault-short, first-none}
+use Rattle.laws.specs.RefWalk.{first-zero}
+use Rattle.told.specs.Faults.{objectFault}
 
-six-true : (c₁ c₂ c₃ c₄ c₅ c₆ : Bool) → (c₁ && (c₂ && (c₃ && (c₄ && (c₅ && c₆))))) ≡ true
-    → (c₁ ≡ true) × (c₂ ≡ true) × (c₃ ≡ true) × (c₄ ≡ true) × (c₅ ≡ true) × (c₆ ≡ true)
-six-true c₁ c₂ c₃ c₄ c₅ c₆ e =
-    let a₁ = two-true c₁ (c₂ && (c₃ && (c₄ && (c₅ && c₆)))) e in
-    let a₂ = two-true c₂ (c₃ && (c₄ && (c₅ && c₆))) (a₁ .1) in
-    let a₃ = two-true c₃ (c₄ && (c₅ && c₆)) (a₂ .1) in
-    let a₄ = two-true c₄ (c₅ && c₆) (a₃ .1) in
-    let a₅ = two-true c₅ c₆ (a₄ .1) in
+six-none : (x₁ x₂ x₃ x₄ x₅ x₆ : ℕ) → firstOf x₁ (firstOf x₂ (firstOf x₃ (firstOf x₄ (firstOf x₅ x₆)))) ≡ 0
+    → (x₁ ≡ 0) × (x₂ ≡ 0) × (x₃ ≡ 0) × (x₄ ≡ 0) × (x₅ ≡ 0) × (x₆ ≡ 0)
+six-none x₁ x₂ x₃ x₄ x₅ x₆ e =
+    let a₁ = first-none x₁ (firstOf x₂ (firstOf x₃ (firstOf x₄ (firstOf x₅ x₆)))) e in
+    let a₂ = first-none x₂ (firstOf x₃ (firstOf x₄ (firstOf x₅ x₆))) (a₁ .1) in
+    let a₃ = first-none x₃ (firstOf x₄ (firstOf x₅ x₆)) (a₂ .1) in
+    let a₄ = first-none x₄ (firstOf x₅ x₆) (a₃ .1) in
+    let a₅ = first-none x₅ x₆ (a₄ .1) in
     (a₁ .0, a₂ .0, a₃ .0, a₄ .0, a₅ .0, a₅ .1)
 
 -- ---- the host
@@ -51,24 +53,24 @@ unfolding host hostTold heapOf
 host-heap u nqn = sym (append-nil nqn)
 
 module _ (s : State) (buf x b nqn : List ℕ) (a : Answer) (eb : b ≡ marked (layoutOf 2 .shape) (s .position) x)
-    (ea : a ≡ firstFail (judgeTests (layoutOf 2) s (imageIn (layoutOf 2) b 0) (Fine Required nqn))) where
-  host-fine : Fine Required nqn ≡ allFine (toldImage (host .shape) (s .position) x) (toldSlots (s .position) (toldImage (host .shape) (s .position) x) (hostTold nqn))
+    (ea : a ≡ firstFail (judgeTests (layoutOf 2) s (imageIn (layoutOf 2) b 0) 0 (objectFault Required nqn))) where
+  host-fault : objectFault Required nqn ≡ slotsFault (toldImage (host .shape) (s .position) x) (toldSlots (s .position) (toldImage (host .shape) (s .position) x) (hostTold nqn))
   unfolding host hostTold toldSlots
-  host-fine = sym (and-true (Fine Required nqn))
+  host-fault = sym (first-zero (objectFault Required nqn))
 
   pub host-refused : (a .number ≡ 0 → ⊥) → (record { answer = a; state = s } ≡ tellHost s buf x nqn .step) × (buf ≡ tellHost s buf x nqn .buffer)
   unfolding tellHost layoutOf
-  host-refused z = fill-refused host s buf x b (hostTold nqn) (Fine Required nqn) a eb ea host-fine z
+  host-refused z = fill-refused host s buf x b (hostTold nqn) (objectFault Required nqn) a eb ea host-fault z
 
   pub host-passed : a .number ≡ 0 → (waits s 2 ≡ true) × (length nqn ≤ 65535)
   unfolding layoutOf host
   host-passed z =
-      let p = judge-passed (layoutOf 2) s (imageIn (layoutOf 2) b 0) (Fine Required nqn) a ea z in
-      (p .0, fine-short Required nqn (p .1))
+      let p = judge-passed (layoutOf 2) s (imageIn (layoutOf 2) b 0) 0 (objectFault Required nqn) a ea z in
+      (p .0, fault-short Required nqn (p .1))
 
   pub host-done : a .number ≡ 0 → laid host s buf b (hostTold nqn) ≡ tellHost s buf x nqn
   unfolding tellHost layoutOf host hostTold toldSlots
-  host-done z = fill-done host s buf x b (hostTold nqn) (Fine Required nqn) a eb ea host-fine z
+  host-done z = fill-done host s buf x b (hostTold nqn) (objectFault Required nqn) a eb ea host-fault z
 
 -- ---- a discovery record
 
@@ -86,26 +88,26 @@ unfolding discovery discoveryTold heapOf
 discovery-heap u address nqn = refl
 
 module _ (s : State) (buf x b address nqn : List ℕ) (a : Answer) (eb : b ≡ marked (layoutOf 6 .shape) (s .position) x)
-    (ea : a ≡ firstFail (judgeTests (layoutOf 6) s (imageIn (layoutOf 6) b 0) (Fine Optional address && Fine Optional nqn))) where
-  discovery-fine : (Fine Optional address && Fine Optional nqn)
-      ≡ allFine (toldImage (discovery .shape) (s .position) x) (toldSlots (s .position) (toldImage (discovery .shape) (s .position) x) (discoveryTold address nqn))
+    (ea : a ≡ firstFail (judgeTests (layoutOf 6) s (imageIn (layoutOf 6) b 0) 0 (firstOf (objectFault Optional address) (objectFault Optional nqn)))) where
+  discovery-fault : firstOf (objectFault Optional address) (objectFault Optional nqn)
+      ≡ slotsFault (toldImage (discovery .shape) (s .position) x) (toldSlots (s .position) (toldImage (discovery .shape) (s .position) x) (discoveryTold address nqn))
   unfolding discovery discoveryTold toldSlots
-  discovery-fine = ap (λ (c : Bool). Fine Optional address && c) (sym (and-true (Fine Optional nqn)))
+  discovery-fault = ap (firstOf (objectFault Optional address)) (sym (first-zero (objectFault Optional nqn)))
 
   pub discovery-refused : (a .number ≡ 0 → ⊥) → (record { answer = a; state = s } ≡ tellDiscovery s buf x address nqn .step) × (buf ≡ tellDiscovery s buf x address nqn .buffer)
   unfolding tellDiscovery layoutOf
-  discovery-refused z = fill-refused discovery s buf x b (discoveryTold address nqn) (Fine Optional address && Fine Optional nqn) a eb ea discovery-fine z
+  discovery-refused z = fill-refused discovery s buf x b (discoveryTold address nqn) (firstOf (objectFault Optional address) (objectFault Optional nqn)) a eb ea discovery-fault z
 
   pub discovery-passed : a .number ≡ 0 → (waits s 6 ≡ true) × (length address ≤ 65535) × (length nqn ≤ 65535)
   unfolding layoutOf discovery
   discovery-passed z =
-      let p = judge-passed (layoutOf 6) s (imageIn (layoutOf 6) b 0) (Fine Optional address && Fine Optional nqn) a ea z in
-      let q = two-true (Fine Optional address) (Fine Optional nqn) (p .1) in
-      (p .0, fine-short Optional address (q .0), fine-short Optional nqn (q .1))
+      let p = judge-passed (layoutOf 6) s (imageIn (layoutOf 6) b 0) 0 (firstOf (objectFault Optional address) (objectFault Optional nqn)) a ea z in
+      let q = first-none (objectFault Optional address) (objectFault Optional nqn) (p .1) in
+      (p .0, fault-short Optional address (q .0), fault-short Optional nqn (q .1))
 
   pub discovery-done : a .number ≡ 0 → laid discovery s buf b (discoveryTold address nqn) ≡ tellDiscovery s buf x address nqn
   unfolding tellDiscovery layoutOf discovery discoveryTold toldSlots
-  discovery-done z = fill-done discovery s buf x b (discoveryTold address nqn) (Fine Optional address && Fine Optional nqn) a eb ea discovery-fine z
+  discovery-done z = fill-done discovery s buf x b (discoveryTold address nqn) (firstOf (objectFault Optional address) (objectFault Optional nqn)) a eb ea discovery-fault z
 
 -- ---- a security record
 
@@ -131,7 +133,7 @@ abbrev pub needFor : List ℕ → ℕ → Need
 needFor b p = needAt p (security .refs) (imageIn security b 0)
 
 module _ (s : State) (buf x b o₁ o₂ o₃ o₄ o₅ o₆ : List ℕ) (a : Answer) (eb : b ≡ marked (layoutOf 5 .shape) (s .position) x)
-    (ea : a ≡ firstFail (judgeTests (layoutOf 5) s (imageIn (layoutOf 5) b 0) (securityFine (imageIn security b 0) o₁ o₂ o₃ o₄ o₅ o₆)))
+    (ea : a ≡ firstFail (judgeTests (layoutOf 5) s (imageIn (layoutOf 5) b 0) 0 (securityFault (imageIn security b 0) o₁ o₂ o₃ o₄ o₅ o₆)))
   where
     abbrev img₅ : List ℕ
     img₅ = toldImage (security .shape) (s .position) x
@@ -140,28 +142,29 @@ module _ (s : State) (buf x b o₁ o₂ o₃ o₄ o₅ o₆ : List ℕ) (a : Ans
     unfolding layoutOf
     told₅ = image-is security (s .position) x b eb
 
-    security-fine : securityFine (imageIn security b 0) o₁ o₂ o₃ o₄ o₅ o₆ ≡ allFine img₅ (toldSlots (s .position) img₅ (securityTold o₁ o₂ o₃ o₄ o₅ o₆))
+    security-fault : securityFault (imageIn security b 0) o₁ o₂ o₃ o₄ o₅ o₆ ≡ slotsFault img₅ (toldSlots (s .position) img₅ (securityTold o₁ o₂ o₃ o₄ o₅ o₆))
     unfolding security securityTold toldSlots
-    security-fine = ap (λ (y : List ℕ). securityFine y o₁ o₂ o₃ o₄ o₅ o₆) told₅ ∙ rw (and-true (Fine (needAt 36 (security .refs) img₅) o₆)) refl
+    security-fault = ap (λ (y : List ℕ). securityFault y o₁ o₂ o₃ o₄ o₅ o₆) told₅ ∙ rw (first-zero (objectFault (needAt 36 (security .refs) img₅) o₆)) refl
 
     pub security-refused : (a .number ≡ 0 → ⊥) → (record { answer = a; state = s } ≡ tellSecurity s buf x o₁ o₂ o₃ o₄ o₅ o₆ .step) × (buf ≡ tellSecurity s buf x o₁ o₂ o₃ o₄ o₅ o₆ .buffer)
     unfolding tellSecurity layoutOf
-    security-refused z = fill-refused security s buf x b (securityTold o₁ o₂ o₃ o₄ o₅ o₆) (securityFine (imageIn security b 0) o₁ o₂ o₃ o₄ o₅ o₆) a eb ea security-fine z
+    security-refused z = fill-refused security s buf x b (securityTold o₁ o₂ o₃ o₄ o₅ o₆) (securityFault (imageIn security b 0) o₁ o₂ o₃ o₄ o₅ o₆) a eb ea security-fault z
 
     pub security-passed : a .number ≡ 0 → (waits s 5 ≡ true) × (length (under (needFor b 6) [] o₁) ≤ 65535) × (length (under (needFor b 12) [] o₂) ≤ 65535) × (length (under (needFor b 18) [] o₃)
         ≤ 65535) × (length (under (needFor b 24) [] o₄) ≤ 65535) × (length (under (needFor b 30) [] o₅) ≤ 65535) × (length (under (needFor b 36) [] o₆) ≤ 65535)
     unfolding layoutOf security
     security-passed z =
-        let p = judge-passed (layoutOf 5) s (imageIn (layoutOf 5) b 0) (securityFine (imageIn security b 0) o₁ o₂ o₃ o₄ o₅ o₆) a ea z in
-        let q = six-true (Fine (needFor b 6) o₁) (Fine (needFor b 12) o₂) (Fine (needFor b 18) o₃) (Fine (needFor b 24) o₄) (Fine (needFor b 30) o₅) (Fine (needFor b 36) o₆) (p .1) in (
+        let p = judge-passed (layoutOf 5) s (imageIn (layoutOf 5) b 0) 0 (securityFault (imageIn security b 0) o₁ o₂ o₃ o₄ o₅ o₆) a ea z in
+        let q = six-none (objectFault (needFor b 6) o₁) (objectFault (needFor b 12) o₂) (objectFault (needFor b 18) o₃) (objectFault (needFor b 24) o₄) (objectFault (needFor b 30) o₅)
+        (objectFault (needFor b 36) o₆) (p .1) in (
           p .0,
-          fine-short (needFor b 6) o₁ (q .0),
-          fine-short (needFor b 12) o₂ (q .1),
-          fine-short (needFor b 18) o₃ (q .2),
-          fine-short (needFor b 24) o₄ (q .3),
-          fine-short (needFor b 30) o₅
+          fault-short (needFor b 6) o₁ (q .0),
+          fault-short (needFor b 12) o₂ (q .1),
+          fault-short (needFor b 18) o₃ (q .2),
+          fault-short (needFor b 24) o₄ (q .3),
+          fault-short (needFor b 30) o₅
               (q .4),
-          fine-short (needFor b 36) o₆ (q .5),
+          fault-short (needFor b 36) o₆ (q .5),
         )
 
     pub security-done : a .number ≡ 0 → (k₁ k₂ k₃ k₄ k₅ k₆ : List ℕ)
@@ -173,4 +176,4 @@ module _ (s : State) (buf x b o₁ o₂ o₃ o₄ o₅ o₆ : List ℕ) (a : Ans
         let kept : (p : ℕ) (o : List ℕ) → under (needFor b p) [] o ≡ under (needAt p (security .refs) img₅) [] o =
         λ p o. ap (λ (y : List ℕ). under (needAt p (security .refs) y) [] o) told₅ in
         rw (g₁ ∙ kept 6 o₁, g₂ ∙ kept 12 o₂, g₃ ∙ kept 18 o₃, g₄ ∙ kept 24 o₄, g₅ ∙ kept 30 o₅, g₆ ∙ kept 36 o₆)
-        (fill-done security s buf x b (securityTold o₁ o₂ o₃ o₄ o₅ o₆) (securityFine (imageIn security b 0) o₁ o₂ o₃ o₄ o₅ o₆) a eb ea security-fine z)
+        (fill-done security s buf x b (securityTold o₁ o₂ o₃ o₄ o₅ o₆) (securityFault (imageIn security b 0) o₁ o₂ o₃ o₄ o₅ o₆) a eb ea security-fault z)

@@ -16,7 +16,7 @@ use table::State;
 use table::Step;
 use told::marks::mark_32;
 use told::marks::mark_64;
-use told::objects::both;
+use told::objects::first_of;
 use told::objects::fits;
 use told::objects::kept;
 use writer::stores::copy_into;
@@ -30,7 +30,7 @@ ghost use Rattle.table.specs.Builder.{waits};
 ghost use Rattle.laws.specs.Fields.{imageIn};
 ghost use Rattle.steps.specs.Steps.{laid};
 ghost use Rattle.filling.specs.Calls.{hostTold, tellHost, securityTold, tellSecurity, discoveryTold, tellDiscovery};
-ghost use Rattle.plain_calls.specs.Plain.{securityFine};
+ghost use Rattle.plain_calls.specs.Plain.{securityFault};
 
 // The host told in `b` and its NQN, where there is room.
 fn lay_host(out: &mut [u8], s: State, b: &[u8], nqn: &[u8]) -> Step
@@ -56,7 +56,7 @@ pub fn host(out: &mut [u8], s: State, x: Host, nqn: &[u8]) -> Step
 {
     let bytes = x.bytes;
     let b = mark_32(bytes, Host::ID, s.position as usize);
-    let a = judged(s, Host::ID, &b, fits(Need::Required, nqn));
+    let a = judged(s, Host::ID, &b, 0, fits(Need::Required, nqn));
     if a.number != 0 {
         return refused(a, s);
     }
@@ -88,16 +88,16 @@ pub fn discovery(out: &mut [u8], s: State, x: Discovery, address: &[u8], nqn: &[
 {
     let bytes = x.bytes;
     let b = mark_32(bytes, Discovery::ID, s.position as usize);
-    let fine = both(fits(Need::Optional, address), fits(Need::Optional, nqn));
-    let a = judged(s, Discovery::ID, &b, fine);
+    let fault = first_of(fits(Need::Optional, address), fits(Need::Optional, nqn));
+    let a = judged(s, Discovery::ID, &b, 0, fault);
     if a.number != 0 {
         return refused(a, s);
     }
     lay_discovery(out, s, &b, address, nqn)
 }
 
-// Whether each object of the security record in `b` is as the need of its reference has it.
-fn security_fits(
+// The first fault of the objects of the security record told in `b`, by the needs of their references.
+fn security_fault(
     b: &[u8],
     algorithms: &[u8],
     protocols: &[u8],
@@ -105,17 +105,19 @@ fn security_fits(
     groups: &[u8],
     hashes: &[u8],
     keypath: &[u8],
-) -> bool
+) -> u8
     requires { ⌜ 64 ≤ length (now b) ⌝ }
-    ensures { λ r. ⌜ r ≡ securityFine (imageIn layouts.security (now (b .entry)) 0) (now (algorithms .entry)) (now (protocols .entry)) (now (ciphers .entry)) (now (groups .entry)) (now (hashes .entry)) (now (keypath .entry)) ⌝ }
+    ensures { λ r. ⌜ r ≡ securityFault (imageIn layouts.security (now (b .entry)) 0) (now (algorithms .entry)) (now (protocols .entry)) (now (ciphers .entry)) (now (groups .entry)) (now (hashes .entry)) (now (keypath .entry)) ⌝ }
 {
-    let hashed = fits(security_need(b, 0, 30), hashes);
-    let keyed = fits(security_need(b, 0, 36), keypath);
-    let last = both(fits(security_need(b, 0, 24), groups), both(hashed, keyed));
-    let rest = both(fits(security_need(b, 0, 18), ciphers), last);
-    both(
+    let last = first_of(
+        fits(security_need(b, 0, 30), hashes),
+        fits(security_need(b, 0, 36), keypath),
+    );
+    let late = first_of(fits(security_need(b, 0, 24), groups), last);
+    let rest = first_of(fits(security_need(b, 0, 18), ciphers), late);
+    first_of(
         fits(security_need(b, 0, 6), algorithms),
-        both(fits(security_need(b, 0, 12), protocols), rest),
+        first_of(fits(security_need(b, 0, 12), protocols), rest),
     )
 }
 
@@ -174,8 +176,8 @@ pub fn security(
 {
     let bytes = x.bytes;
     let b = mark_64(bytes, Security::ID, s.position as usize);
-    let fine = security_fits(&b, algorithms, protocols, ciphers, groups, hashes, keypath);
-    let a = judged(s, Security::ID, &b, fine);
+    let fault = security_fault(&b, algorithms, protocols, ciphers, groups, hashes, keypath);
+    let a = judged(s, Security::ID, &b, 0, fault);
     if a.number != 0 {
         return refused(a, s);
     }

@@ -1,6 +1,6 @@
 -- Told records: which kinds may be told, what the builder sets of them, and the image and the objects that are left. Assumes nothing.
 use mathlib.Core.Path.{_≡_, refl, sym, ap, ap₂, _∙_, subst}
-use mathlib.Core.Bool.{Bool, true, false, _&&_}
+use mathlib.Core.Bool.{Bool, true, false}
 use mathlib.Core.List.{List, [], _∷_, _++_, append-nil}
 use Prim.Native.Nat.{ℕ, _+_, _*_, _/_, _<_}
 use native.Mathlib.Omega.{arith}
@@ -9,11 +9,12 @@ use lib.Seq.{take-length, drop-length}
 use lib.Dec.{leb, eqb, lit<}
 use borrow.Author.Tests.{ne-eqb, eqb-true}
 use Rattle.table.specs.declared.Need.the-variants.{Required}
-use Rattle.table.specs.Bytes.{splice}
+use Rattle.table.specs.Bytes.{pick, splice}
 use Rattle.table.specs.Layout.{Layout, Shape, baseOf}
 use Rattle.table.specs.FixedLayouts.{layoutOf, host, hfi, ssns, security, discovery, info, extended}
-use Rattle.table.specs.Builder.{fitsNeed, isShort, toldImage}
+use Rattle.table.specs.Builder.{toldImage}
 use Rattle.laws.specs.Fields.{imageIn}
+use Rattle.told.specs.Faults.{objectFault}
 use Rattle.told.specs.Marks.{Tellable, stamped, marked}
 
 -- one more store
@@ -26,11 +27,11 @@ last-kind k t a b c d e f = eqb-true k 9 (rw (ne-eqb k 2 a, ne-eqb k 3 b, ne-eqb
 
 -- ---- objects
 
-pub required-none : (o : List ℕ) → length o ≡ 0 → false ≡ (fitsNeed Required o && isShort o)
+pub required-none : (o : List ℕ) → length o ≡ 0 → objectFault Required o ≡ 11
 required-none [] e = refl
 required-none (x ∷ o) e = absurd (omega (arith, e))
 
-pub required-some : (o : List ℕ) → (length o ≡ 0 → ⊥) → leb (length o) 65535 ≡ (fitsNeed Required o && isShort o)
+pub required-some : (o : List ℕ) → (length o ≡ 0 → ⊥) → objectFault Required o ≡ pick (leb (length o) 65535) 0 11
 required-some [] e = absurd (e refl)
 required-some (x ∷ o) e = refl
 

@@ -1,15 +1,13 @@
 use mathlib.Core.Path.{_≡_, refl, ap, _∙_}
-use mathlib.Core.Bool.{Bool, _&&_}
 use lib.Dec.{lit≤}
-use Rattle.table.specs.declared.Need.the-variants.{Optional, Required}
 use Rattle.table.specs.Rules.{firstFail}
 use Rattle.table.specs.Builder.{Outcome}
 use Rattle.laws.specs.Fields.{imageIn}
 use Rattle.steps.specs.Steps.{judgeTests}
 use Rattle.steps.proofs.LayLaws.{step-is}
-use Rattle.filling.proofs.FillLaws.{Fine}
+use Prim.Native.Nat.{ℕ}
 use Rattle.table.specs.FixedLayouts.{layoutOf, ssns, extended}
-use Rattle.nested_calls.specs.Nested.{ownNeed}
+use Rattle.nested_calls.specs.Nested.{ssnsFault}
 use Rattle.nested_calls.proofs.KindLaws.{ssns-refused, ssns-passed, ssns-done}
 use borrow.Author.Needs.{needs}
 use Rattle.nested_calls.proofs.ssns.Statement.{statement}
@@ -18,16 +16,15 @@ use Rattle.nested_calls.proofs.ssns.Tie as tie
 -- what was answered, by the objects
 judged-is : (c : tie.After-judged) → c .judged .result ≡ firstFail (judgeTests (layoutOf 4)
     (c .before .before .before .before .before .before .before .before .before .before .before .before .before .before .before .before .args .s) (imageIn (layoutOf 4)
-    (c .before .before .before .before .before .before .before .mark-128 .result) 0) (Fine Required
-    (c .before .before .before .before .before .before .before .before .before .before .before .before .before .before .before .before .args .address .now) && (Fine Required
-    (c .before .before .before .before .before .before .before .before .before .before .before .before .before .before .before .before .args .service .now) && (Fine Optional
-    (c .before .before .before .before .before .before .before .before .before .before .before .before .before .before .before .before .args .others .now) && (Fine Required
-    (c .before .before .before .before .before .before .before .before .before .before .before .before .before .before .before .before .args .nqn .now) && Fine (ownNeed (imageIn ssns
-    (c .before .before .before .before .before .before .before .mark-128 .result) 0))
-    (c .before .before .before .before .before .before .before .before .before .before .before .before .before .before .before .before .args .path .now))))))
-judged-is c = c .judged .ensures ∙ ap (λ (f : Bool). firstFail (judgeTests (layoutOf 4)
+    (c .before .before .before .before .before .before .before .mark-128 .result) 0) 0 (ssnsFault (imageIn ssns (c .before .before .before .before .before .before .before .mark-128 .result) 0)
+    (c .before .before .before .before .before .before .before .before .before .before .before .before .before .before .before .before .args .address .now)
+    (c .before .before .before .before .before .before .before .before .before .before .before .before .before .before .before .before .args .service .now)
+    (c .before .before .before .before .before .before .before .before .before .before .before .before .before .before .before .before .args .others .now)
+    (c .before .before .before .before .before .before .before .before .before .before .before .before .before .before .before .before .args .nqn .now)
+    (c .before .before .before .before .before .before .before .before .before .before .before .before .before .before .before .before .args .path .now)))
+judged-is c = c .judged .ensures ∙ ap (λ (f : ℕ). firstFail (judgeTests (layoutOf 4)
     (c .before .before .before .before .before .before .before .before .before .before .before .before .before .before .before .before .args .s) (imageIn (layoutOf 4)
-    (c .before .before .before .before .before .before .before .mark-128 .result) 0) f)) (c .before .before .ssns-fits .ensures)
+    (c .before .before .before .before .before .before .before .mark-128 .result) 0) 0 f)) (c .before .before .ssns-fault .ensures)
 
 cast-mark-128 : tie.Need-cast-mark-128
 cast-mark-128 c = search needs
@@ -43,27 +40,18 @@ mark-18-requires : tie.Need-mark-18-requires
 unfolding layoutOf extended
 mark-18-requires c κs = (refl, refl)
 
-slice-aggregate-ssns-fits : tie.Need-slice-aggregate-ssns-fits
-slice-aggregate-ssns-fits c = search needs
+slice-aggregate-ssns-fault : tie.Need-slice-aggregate-ssns-fault
+slice-aggregate-ssns-fault c = search needs
 
-ssns-fits-requires : tie.Need-ssns-fits-requires
-ssns-fits-requires c κs = search needs
+ssns-fault-requires : tie.Need-ssns-fault-requires
+ssns-fault-requires c κs = search needs
 
 slice-aggregate-judged : tie.Need-slice-aggregate-judged
 slice-aggregate-judged c = search needs
 
 judged-requires : tie.Need-judged-requires
 unfolding layoutOf ssns
-judged-requires c κs = (
-  lit≤ tt,
-  lit≤ tt,
-  (
-    c .before .before .before .before .before .before .before .before .before .before .before .before .before .before .before .args .x .bytes,
-    c .before .before .before .before .before .before .mark-128 .ensures .1,
-    c .before .before .before .before .before .before .mark-128 .ensures .2,
-    c .before .before .before .before .before .before .mark-128 .ensures .0,
-  ),
-)
+judged-requires c κs = (lit≤ tt, lit≤ tt, c .before .before .before .before .before .before .mark-128 .ensures .2)
 
 refused-requires : tie.Need-refused-requires
 refused-requires c κs = search needs
@@ -98,21 +86,18 @@ slice-aggregate-lay-ssns-2 c = search needs
 lay-ssns-requires : tie.Need-lay-ssns-requires
 unfolding ssns extended
 lay-ssns-requires c κs =
-    let p = ssns-passed
-    (c .before .before .before .before .before .before .before .before .before .before .before .before .before .before .before .before .before .before .before .before .before .args .s)
-    (c .before .before .before .before .before .before .before .before .before .before .before .before .before .before .before .before .before .before .before .before .before .args .out .now)
-    (c .before .before .before .before .before .before .before .before .before .before .before .before .before .before .before .before .before .before .before .before .before .args .x .bytes)
-    (c .before .before .before .before .before .before .before .before .before .before .before .before .mark-128 .result)
+    let p = ssns-passed (c .before .before .before .before .before .before .before .before .before .before .before .before .before .before .before .before .before .before .before .before .before
+    .args .s) (c .before .before .before .before .before .before .before .before .before .before .before .before .before .before .before .before .before .before .before .before .before .args
+    .out .now) (c .before .before .before .before .before .before .before .before .before .before .before .before .before .before .before .before .before .before .before .before .before .args .x
+    .bytes) (c .before .before .before .before .before .before .before .before .before .before .before .before .mark-128 .result)
     (c .before .before .before .before .before .before .before .before .before .before .before .before .before .before .before .before .before .before .before .before .before .args .address
     .now) (c .before .before .before .before .before .before .before .before .before .before .before .before .before .before .before .before .before .before .before .before .before .args
     .service .now) (c .before .before .before .before .before .before .before .before .before .before .before .before .before .before .before .before .before .before .before .before .before
-    .args .others .now) (c .before .before .before .before .before .before .before .before .before .before .before .before .before .before .before .before .before .before .before .before
-    .before .args .nqn .now)
-    (c .before .before .before .before .before .before .before .before .before .before .before .before .before .before .before .before .before .before .before .before .before .args .extended
-    .bytes) (c .before .before .before .before .before .before .before .before .before .mark-18 .result)
-    (c .before .before .before .before .before .before .before .before .before .before .before .before .before .before .before .before .before .before .before .before .before .args .path
-    .now) (c .before .before .before .before .before .judged .result)
-    (c .before .before .before .before .before .before .before .before .before .before .before .before .mark-128 .ensures .0)
+    .args .others .now) (c .before .before .before .before .before .before .before .before .before .before .before .before .before .before .before .before .before .before .before .before .before
+    .args .nqn .now) (c .before .before .before .before .before .before .before .before .before .before .before .before .before .before .before .before .before .before .before .before .before
+    .args .extended .bytes) (c .before .before .before .before .before .before .before .before .before .mark-18 .result)
+    (c .before .before .before .before .before .before .before .before .before .before .before .before .before .before .before .before .before .before .before .before .before .args .path .now)
+    (c .before .before .before .before .before .judged .result) (c .before .before .before .before .before .before .before .before .before .before .before .before .mark-128 .ensures .0)
     (c .before .before .before .before .before .before .before .before .before .mark-18 .ensures .0) (judged-is (c .before .before .before .before .before))
     (c .before .before .before .if1 .left) in (
       (
@@ -128,10 +113,10 @@ same-length c = search needs
 
 returns-2 : tie.Need-returns-2
 returns-2 c =
-    let d = ssns-done
+    let d = ssns-done (c .before .before .before .before .before .before .before .before .before .before .before .before .before .before .before .before .before .before .before .before .before
+    .before .before .before .args .s)
     (c .before .before .before .before .before .before .before .before .before .before .before .before .before .before .before .before .before .before .before .before .before .before .before
-    .before .args .s) (c .before .before .before .before .before .before .before .before .before .before .before .before .before .before .before .before .before .before .before .before
-    .before .before .before .before .args .out .now)
+    .before .args .out .now)
     (c .before .before .before .before .before .before .before .before .before .before .before .before .before .before .before .before .before .before .before .before .before .before .before
     .before .args .x .bytes) (c .before .before .before .before .before .before .before .before .before .before .before .before .before .before .before .mark-128 .result)
     (c .before .before .before .before .before .before .before .before .before .before .before .before .before .before .before .before .before .before .before .before .before .before .before
@@ -159,8 +144,8 @@ ssns-spec =
     mark-128-requires
     cast-mark-18
     mark-18-requires
-    slice-aggregate-ssns-fits
-    ssns-fits-requires
+    slice-aggregate-ssns-fault
+    ssns-fault-requires
     slice-aggregate-judged
     judged-requires
     refused-requires

@@ -1,5 +1,5 @@
 use Rattle.table.specs.Builder.{recordsEnd}
-use Rattle.opening.proofs.BeginLaws.{opened-length, begin-again, begin-long, begin-refused, begin-done}
+use Rattle.opening.proofs.BeginLaws.{opened-length, begin-again, begin-faulty, begin-refused, begin-done}
 use Rattle.room.proofs.RoomLaws.{room-passed}
 use mathlib.Core.List.{[], _∷_}
 use lib.ListN.{length}
@@ -9,7 +9,6 @@ use Rattle.turns.proofs.Laws.{not-true, not-false}
 use Rattle.table.specs.declared.State.{State}
 use Rattle.table.specs.declared.Answer.{Answer}
 use mathlib.Core.Path.{sym, ap, _∙_}
-use native.Mathlib.Omega.{arith}
 use borrow.Author.Needs.{needs}
 use Rattle.opening.proofs.begin.Statement.{statement}
 use Rattle.opening.proofs.begin.Tie as tie
@@ -24,7 +23,18 @@ refused-requires : tie.Need-refused-requires
 refused-requires c κs = search needs
 
 returns : tie.Need-returns
-returns c = let a = c .before .before .before .before .before .before .args in let b = a .out .now in let t = begin-again (a .s) b (a .oem) (a .c .hfi ∷ a .c .ssns ∷ a .c .security ∷ a .c .discovery ∷ []) (a .signature .now) (sym (c .before .before .before .is-empty .ensures) ∙ not-true (c .before .before .before .is-empty .result) (c .before .before .if1 .taken)) in (step-is (c .refused .result) (c .before .refuse .result) (a .s) (c .refused .ensures .0) (c .refused .ensures .1) ∙ ap (λ (x : Answer). record { answer = x; state = a .s }) (c .before .refuse .ensures) ∙ t .0, t .1)
+returns c =
+    let a = c .before .before .before .before .before .before .args in
+    let b = a .out .now in
+    let t = begin-again (a .s) b (a .oem) (a .c .hfi ∷ a .c .ssns ∷ a .c .security ∷ a .c .discovery ∷ []) (a .signature .now) (sym (c .before .before .before .is-empty .ensures) ∙ not-true
+    (c .before .before .before .is-empty .result) (c .before .before .if1 .taken)) in (
+      step-is (c .refused .result) (c .before .refuse .result) (a .s) (c .refused .ensures .0) (c .refused .ensures .1) ∙ ap (λ (x : Answer). record { answer = x; state = a .s })
+          (c .before .refuse .ensures) ∙ t .0,
+      t .1,
+    )
+
+fits-requires : tie.Need-fits-requires
+fits-requires c κs = search needs
 
 refuse-requires-2 : tie.Need-refuse-requires-2
 refuse-requires-2 c κs = search needs
@@ -33,7 +43,15 @@ refused-requires-2 : tie.Need-refused-requires-2
 refused-requires-2 c κs = search needs
 
 returns-2 : tie.Need-returns-2
-returns-2 c = let a = c .before .before .before .before .before .before .before .args in let b = a .out .now in let t = begin-long (a .s) b (a .oem) (a .c .hfi ∷ a .c .ssns ∷ a .c .security ∷ a .c .discovery ∷ []) (a .signature .now) (sym (c .before .before .before .before .is-empty .ensures) ∙ not-false (c .before .before .before .before .is-empty .result) (c .before .before .before .if1 .left)) (omega (arith, c .before .before .if2 .taken)) in (step-is (c .refused2 .result) (c .before .refuse2 .result) (a .s) (c .refused2 .ensures .0) (c .refused2 .ensures .1) ∙ ap (λ (x : Answer). record { answer = x; state = a .s }) (c .before .refuse2 .ensures) ∙ t .0, t .1)
+returns-2 c =
+    let a = c .before .before .before .before .before .before .before .before .args in
+    let t = begin-faulty (a .s) (a .out .now) (a .oem) (a .c .hfi ∷ a .c .ssns ∷ a .c .security ∷ a .c .discovery ∷ []) (a .signature .now) (sym
+    (c .before .before .before .before .before .is-empty .ensures) ∙ not-false (c .before .before .before .before .before .is-empty .result) (c .before .before .before .before .if1 .left))
+    (c .before .before .before .fits2 .result) (c .before .before .before .fits2 .ensures) (c .before .before .if2 .taken) in (
+      step-is (c .refused2 .result) (c .before .refuse2 .result) (a .s) (c .refused2 .ensures .0) (c .refused2 .ensures .1) ∙ ap (λ (x : Answer). record { answer = x; state = a .s })
+          (c .before .refuse2 .ensures) ∙ t .0,
+      t .1,
+    )
 
 begun-state-requires : tie.Need-begun-state-requires
 begun-state-requires c κs = search needs
@@ -51,10 +69,26 @@ refused-requires-3 : tie.Need-refused-requires-3
 refused-requires-3 c κs = search needs
 
 returns-3 : tie.Need-returns-3
-returns-3 c = let a = c .before .before .before .before .before .before .before .before .before .before .before .args in let b = a .out .now in let hs = c .before .before .before .before .records-end .ensures in let he = hs .0 ∙ ap recordsEnd (c .before .before .before .before .before .begun-state .ensures .0) in let n = opened-length (a .oem) (a .c) (c .before .before .before .before .before .begun-state .ensures .1) (a .signature .now) (c .before .before .before .before .records-end .result) he in let t = begin-refused (a .s) b (a .oem) (a .c .hfi ∷ a .c .ssns ∷ a .c .security ∷ a .c .discovery ∷ []) (a .signature .now) (sym (c .before .before .before .before .before .before .before .before .is-empty .ensures) ∙ not-false (c .before .before .before .before .before .before .before .before .is-empty .result) (c .before .before .before .before .before .before .before .if1 .left)) (omega (arith, c .before .before .before .before .before .before .if2 .left)) (c .before .before .before .before .records-end .result + length (a .signature .now)) n (c .before .before .before .room-fault .result) (c .before .before .before .room-fault .ensures) (c .before .if3 .taken) in (step-is (c .refused3 .result) (c .before .before .before .room-fault .result) (a .s) (c .refused3 .ensures .0) (c .refused3 .ensures .1) ∙ t .0, t .1)
+returns-3 c =
+    let a = c .before .before .before .before .before .before .before .before .before .before .before .before .args in
+    let he = c .before .before .before .before .records-end .ensures .0 ∙ ap recordsEnd (c .before .before .before .before .before .begun-state .ensures .0) in
+    let n = opened-length (a .oem) (a .c) (c .before .before .before .before .before .begun-state .ensures .1) (a .signature .now) (c .before .before .before .before .records-end .result) he in
+    let t = begin-refused (a .s) (a .out .now) (a .oem) (a .c .hfi ∷ a .c .ssns ∷ a .c .security ∷ a .c .discovery ∷ []) (a .signature .now) (sym
+    (c .before .before .before .before .before .before .before .before .before .is-empty .ensures) ∙ not-false
+    (c .before .before .before .before .before .before .before .before .before .is-empty .result) (c .before .before .before .before .before .before .before .before .if1 .left)) (sym
+    (c .before .before .before .before .before .before .before .fits2 .ensures) ∙ c .before .before .before .before .before .before .if2 .left)
+    (c .before .before .before .before .records-end .result + length (a .signature .now)) n (c .before .before .before .room-fault .result) (c .before .before .before .room-fault .ensures)
+    (c .before .if3 .taken) in
+    (step-is (c .refused3 .result) (c .before .before .before .room-fault .result) (a .s) (c .refused3 .ensures .0) (c .refused3 .ensures .1) ∙ t .0, t .1)
 
 lay-opened-requires : tie.Need-lay-opened-requires
-lay-opened-requires c κs = let a = c .before .before .before .before .before .before .before .before .before .before .before .args in let b = a .out .now in let hs = c .before .before .before .before .records-end .ensures in let he = hs .0 ∙ ap recordsEnd (c .before .before .before .before .before .begun-state .ensures .0) in let q = room-passed (c .before .before .before .before .records-end .result + length (a .signature .now)) (length b) (sym (ap (λ (x : Answer). x .number) (c .before .before .before .room-fault .ensures)) ∙ c .before .if3 .left) in (he, hs .1, q .1, c .before .before .before .before .before .begun-state .ensures .1)
+lay-opened-requires c κs =
+    let a = c .before .before .before .before .before .before .before .before .before .before .before .before .args in
+    let hs = c .before .before .before .before .records-end .ensures in
+    let he = hs .0 ∙ ap recordsEnd (c .before .before .before .before .before .begun-state .ensures .0) in
+    let q = room-passed (c .before .before .before .before .records-end .result + length (a .signature .now)) (length (a .out .now)) (sym (ap (λ (x : Answer). x .number)
+    (c .before .before .before .room-fault .ensures)) ∙ c .before .if3 .left) in
+    (he, hs .1, q .1, c .before .before .before .before .before .begun-state .ensures .1)
 
 begun-state-requires-2 : tie.Need-begun-state-requires-2
 begun-state-requires-2 c κs = search needs
@@ -63,7 +97,23 @@ same-length : tie.Need-same-length
 same-length c = search needs
 
 returns-4 : tie.Need-returns-4
-returns-4 c = let a = c .before .before .before .before .before .before .before .before .before .before .before .before .before .before .before .args in let b = a .out .now in let hs = c .before .before .before .before .before .before .before .before .records-end .ensures in let he = hs .0 ∙ ap recordsEnd (c .before .before .before .before .before .before .before .before .before .begun-state .ensures .0) in let n = opened-length (a .oem) (a .c) (c .before .before .before .before .before .before .before .before .before .begun-state .ensures .1) (a .signature .now) (c .before .before .before .before .before .before .before .before .records-end .result) he in let t = begin-done (a .s) b (a .oem) (a .c .hfi ∷ a .c .ssns ∷ a .c .security ∷ a .c .discovery ∷ []) (a .signature .now) (sym (c .before .before .before .before .before .before .before .before .before .before .before .before .is-empty .ensures) ∙ not-false (c .before .before .before .before .before .before .before .before .before .before .before .before .is-empty .result) (c .before .before .before .before .before .before .before .before .before .before .before .if1 .left)) (omega (arith, c .before .before .before .before .before .before .before .before .before .before .if2 .left)) (c .before .before .before .before .before .before .before .before .records-end .result + length (a .signature .now)) n (c .before .before .before .before .before .before .before .room-fault .result) (c .before .before .before .before .before .before .before .room-fault .ensures) (c .before .before .before .before .before .if3 .left) in (ap (λ (y : State). record { answer = c .before .before .before .before .before .before .before .room-fault .result; state = y }) (c .begun-state2 .ensures .0) ∙ t .0, c .before .before .before .lay-opened .ensures ∙ t .1)
+returns-4 c =
+    let a = c .before .before .before .before .before .before .before .before .before .before .before .before .before .before .before .before .args in
+    let he = c .before .before .before .before .before .before .before .before .records-end .ensures .0 ∙ ap recordsEnd
+    (c .before .before .before .before .before .before .before .before .before .begun-state .ensures .0) in
+    let n = opened-length (a .oem) (a .c) (c .before .before .before .before .before .before .before .before .before .begun-state .ensures .1) (a .signature .now)
+    (c .before .before .before .before .before .before .before .before .records-end .result) he in
+    let t = begin-done (a .s) (a .out .now) (a .oem) (a .c .hfi ∷ a .c .ssns ∷ a .c .security ∷ a .c .discovery ∷ []) (a .signature .now) (sym
+    (c .before .before .before .before .before .before .before .before .before .before .before .before .before .is-empty .ensures) ∙ not-false
+    (c .before .before .before .before .before .before .before .before .before .before .before .before .before .is-empty .result)
+    (c .before .before .before .before .before .before .before .before .before .before .before .before .if1 .left)) (sym
+    (c .before .before .before .before .before .before .before .before .before .before .before .fits2 .ensures) ∙
+    c .before .before .before .before .before .before .before .before .before .before .if2 .left) (c .before .before .before .before .before .before .before .before .records-end .result +
+    length (a .signature .now)) n (c .before .before .before .before .before .before .before .room-fault .result) (c .before .before .before .before .before .before .before .room-fault .ensures)
+    (c .before .before .before .before .before .if3 .left) in (
+      ap (λ (y : State). record { answer = c .before .before .before .before .before .before .before .room-fault .result; state = y }) (c .begun-state2 .ensures .0) ∙ t .0,
+      c .before .before .before .lay-opened .ensures ∙ t .1,
+    )
 
 pub begin-spec : {M : Type 1} → statement M
 begin-spec =
@@ -73,6 +123,7 @@ begin-spec =
     refuse-requires
     refused-requires
     returns
+    fits-requires
     refuse-requires-2
     refused-requires-2
     returns-2

@@ -1,14 +1,14 @@
 use mathlib.Core.Path.{_≡_, refl, ap, ap₂, _∙_}
-use mathlib.Core.Bool.{Bool, _&&_}
 use lib.Dec.{lit≤}
 use Rattle.table.specs.declared.Need.the-variants.{Optional}
 use Rattle.table.specs.FixedLayouts.{layoutOf, discovery}
-use Rattle.table.specs.Rules.{firstFail}
+use Rattle.table.specs.Rules.{firstFail, firstOf}
 use Rattle.table.specs.Builder.{Outcome}
 use Rattle.laws.specs.Fields.{imageIn}
 use Rattle.steps.specs.Steps.{judgeTests}
 use Rattle.steps.proofs.LayLaws.{step-is}
-use Rattle.filling.proofs.FillLaws.{Fine}
+use Prim.Native.Nat.{ℕ}
+use Rattle.told.specs.Faults.{objectFault}
 use Rattle.plain_calls.proofs.KindLaws.{discovery-refused, discovery-passed, discovery-done}
 use borrow.Author.Needs.{needs}
 use Rattle.plain_calls.proofs.discovery.Statement.{statement}
@@ -16,11 +16,11 @@ use Rattle.plain_calls.proofs.discovery.Tie as tie
 
 -- what was answered, by the objects
 judged-is : (c : tie.After-judged) → c .judged .result ≡ firstFail (judgeTests (layoutOf 6) (c .before .before .before .before .before .before .before .before .before .before .before .args .s)
-    (imageIn (layoutOf 6) (c .before .before .before .before .before .mark-32 .result) 0) (Fine Optional
-    (c .before .before .before .before .before .before .before .before .before .before .before .args .address .now) && Fine Optional
-    (c .before .before .before .before .before .before .before .before .before .before .before .args .nqn .now)))
-judged-is c = c .judged .ensures ∙ ap (λ (f : Bool). firstFail (judgeTests (layoutOf 6) (c .before .before .before .before .before .before .before .before .before .before .before .args .s)
-    (imageIn (layoutOf 6) (c .before .before .before .before .before .mark-32 .result) 0) f)) (c .before .before .both .ensures ∙ ap₂ (λ (c d : Bool). c && d)
+    (imageIn (layoutOf 6) (c .before .before .before .before .before .mark-32 .result) 0) 0 (firstOf (objectFault Optional
+    (c .before .before .before .before .before .before .before .before .before .before .before .args .address .now)) (objectFault Optional
+    (c .before .before .before .before .before .before .before .before .before .before .before .args .nqn .now))))
+judged-is c = c .judged .ensures ∙ ap (λ (f : ℕ). firstFail (judgeTests (layoutOf 6) (c .before .before .before .before .before .before .before .before .before .before .before .args .s) (imageIn
+    (layoutOf 6) (c .before .before .before .before .before .mark-32 .result) 0) 0 f)) (c .before .before .first-of .ensures ∙ ap₂ (λ (x y : ℕ). firstOf x y)
     (c .before .before .before .before .fits2 .ensures) (c .before .before .before .fits3 .ensures))
 
 cast-mark-32 : tie.Need-cast-mark-32
@@ -36,24 +36,15 @@ fits-requires c κs = search needs
 fits-requires-2 : tie.Need-fits-requires-2
 fits-requires-2 c κs = search needs
 
-both-requires : tie.Need-both-requires
-both-requires c κs = search needs
+first-of-requires : tie.Need-first-of-requires
+first-of-requires c κs = search needs
 
 slice-aggregate-judged : tie.Need-slice-aggregate-judged
 slice-aggregate-judged c = search needs
 
 judged-requires : tie.Need-judged-requires
 unfolding layoutOf discovery
-judged-requires c κs = (
-  lit≤ tt,
-  lit≤ tt,
-  (
-    c .before .before .before .before .before .before .before .before .before .before .args .x .bytes,
-    c .before .before .before .before .mark-32 .ensures .1,
-    c .before .before .before .before .mark-32 .ensures .2,
-    c .before .before .before .before .mark-32 .ensures .0,
-  ),
-)
+judged-requires c κs = (lit≤ tt, lit≤ tt, c .before .before .before .before .mark-32 .ensures .2)
 
 refused-requires : tie.Need-refused-requires
 refused-requires c κs = search needs
@@ -112,7 +103,7 @@ discovery-spec =
     mark-32-requires
     fits-requires
     fits-requires-2
-    both-requires
+    first-of-requires
     slice-aggregate-judged
     judged-requires
     refused-requires

@@ -1,5 +1,4 @@
 use mathlib.Core.Path.{_≡_, refl, ap, _∙_}
-use mathlib.Core.Bool.{Bool}
 use lib.Dec.{lit≤}
 use Rattle.table.specs.declared.Need.the-variants.{Required}
 use Rattle.table.specs.FixedLayouts.{layoutOf, host}
@@ -8,7 +7,8 @@ use Rattle.table.specs.Builder.{Outcome}
 use Rattle.laws.specs.Fields.{imageIn}
 use Rattle.steps.specs.Steps.{judgeTests}
 use Rattle.steps.proofs.LayLaws.{step-is}
-use Rattle.filling.proofs.FillLaws.{Fine}
+use Prim.Native.Nat.{ℕ}
+use Rattle.told.specs.Faults.{objectFault}
 use Rattle.plain_calls.proofs.KindLaws.{host-refused, host-passed, host-done}
 use borrow.Author.Needs.{needs}
 use Rattle.plain_calls.proofs.host.Statement.{statement}
@@ -16,9 +16,9 @@ use Rattle.plain_calls.proofs.host.Tie as tie
 
 -- what was answered, by the objects
 judged-is : (c : tie.After-judged) → c .judged .result ≡ firstFail (judgeTests (layoutOf 2) (c .before .before .before .before .before .before .before .before .args .s) (imageIn (layoutOf 2)
-    (c .before .before .before .mark-32 .result) 0) (Fine Required (c .before .before .before .before .before .before .before .before .args .nqn .now)))
-judged-is c = c .judged .ensures ∙ ap (λ (f : Bool). firstFail (judgeTests (layoutOf 2) (c .before .before .before .before .before .before .before .before .args .s) (imageIn (layoutOf 2)
-    (c .before .before .before .mark-32 .result) 0) f)) (c .before .fits2 .ensures)
+    (c .before .before .before .mark-32 .result) 0) 0 (objectFault Required (c .before .before .before .before .before .before .before .before .args .nqn .now)))
+judged-is c = c .judged .ensures ∙ ap (λ (f : ℕ). firstFail (judgeTests (layoutOf 2) (c .before .before .before .before .before .before .before .before .args .s) (imageIn (layoutOf 2)
+    (c .before .before .before .mark-32 .result) 0) 0 f)) (c .before .fits2 .ensures)
 
 cast-mark-32 : tie.Need-cast-mark-32
 cast-mark-32 c = search needs
@@ -35,16 +35,7 @@ fits-requires c κs = search needs
 
 judged-requires : tie.Need-judged-requires
 unfolding layoutOf host
-judged-requires c κs = (
-  lit≤ tt,
-  lit≤ tt,
-  (
-    c .before .before .before .before .before .before .before .args .x .bytes,
-    c .before .before .mark-32 .ensures .1,
-    c .before .before .mark-32 .ensures .2,
-    c .before .before .mark-32 .ensures .0,
-  ),
-)
+judged-requires c κs = (lit≤ tt, lit≤ tt, c .before .before .mark-32 .ensures .2)
 
 refused-requires : tie.Need-refused-requires
 refused-requires c κs = search needs

@@ -1,5 +1,4 @@
 use mathlib.Core.Path.{sym, _≡_, refl, ap, _∙_}
-use mathlib.Core.Bool.{Bool}
 use lib.Dec.{lit≤}
 use Rattle.table.specs.FixedLayouts.{layoutOf, security}
 use Rattle.table.specs.Rules.{firstFail}
@@ -7,12 +6,13 @@ use Rattle.table.specs.Builder.{Outcome}
 use Rattle.laws.specs.Fields.{imageIn}
 use Rattle.steps.specs.Steps.{judgeTests}
 use Rattle.steps.proofs.LayLaws.{step-is}
+use Prim.Native.Nat.{ℕ}
 use Rattle.plain_calls.proofs.KindLaws.{security-refused, security-passed, security-done, needFor}
 use mathlib.Core.List.{[]}
 use native.Mathlib.Omega.{arith}
 use Rattle.table.specs.declared.Need.{Need}
 use Rattle.table.specs.Objects.{under}
-use Rattle.plain_calls.specs.Plain.{securityFine}
+use Rattle.plain_calls.specs.Plain.{securityFault}
 use borrow.Author.Needs.{needs}
 use Rattle.plain_calls.proofs.security.Statement.{statement}
 use Rattle.plain_calls.proofs.security.Tie as tie
@@ -20,24 +20,24 @@ use Rattle.plain_calls.proofs.security.Tie as tie
 -- what was answered, by the objects
 judged-is : (c : tie.After-judged) → c .judged .result ≡ firstFail (judgeTests (layoutOf 5)
     (c .before .before .before .before .before .before .before .before .before .before .before .before .before .before .args .s) (imageIn (layoutOf 5)
-    (c .before .before .before .before .mark-64 .result) 0) (securityFine (imageIn security (c .before .before .before .before .mark-64 .result) 0)
+    (c .before .before .before .before .mark-64 .result) 0) 0 (securityFault (imageIn security (c .before .before .before .before .mark-64 .result) 0)
     (c .before .before .before .before .before .before .before .before .before .before .before .before .before .before .args .algorithms .now)
     (c .before .before .before .before .before .before .before .before .before .before .before .before .before .before .args .protocols .now)
     (c .before .before .before .before .before .before .before .before .before .before .before .before .before .before .args .ciphers .now)
     (c .before .before .before .before .before .before .before .before .before .before .before .before .before .before .args .groups .now)
     (c .before .before .before .before .before .before .before .before .before .before .before .before .before .before .args .hashes .now)
     (c .before .before .before .before .before .before .before .before .before .before .before .before .before .before .args .keypath .now)))
-judged-is c = c .judged .ensures ∙ ap (λ (f : Bool). firstFail (judgeTests (layoutOf 5)
+judged-is c = c .judged .ensures ∙ ap (λ (f : ℕ). firstFail (judgeTests (layoutOf 5)
     (c .before .before .before .before .before .before .before .before .before .before .before .before .before .before .args .s) (imageIn (layoutOf 5)
-    (c .before .before .before .before .mark-64 .result) 0) f)) (c .before .before .security-fits .ensures)
+    (c .before .before .before .before .mark-64 .result) 0) 0 f)) (c .before .before .security-fault .ensures)
 
 -- what is known of a record that was taken
 module _ (c : tie.After-kept6) where
   algorithms-kept : c .before .before .before .before .before .before .before .before .before .before .before .before .before .before .before .kept .result .now ≡ under (needFor
       (c .before .before .before .before .before .before .before .before .before .before .before .before .before .before .before .before .before .before .before .before .before .before .before
       .before .before .before .mark-64 .result) 6) []
-      (c .before .before .before .before .before .before .before .before .before .before .before .before .before .before .before .before .before .before .before .before .before .before
-      .before .before .before .before .before .before .before .before .before .before .before .before .before .before .args .algorithms .now)
+      (c .before .before .before .before .before .before .before .before .before .before .before .before .before .before .before .before .before .before .before .before .before .before .before
+      .before .before .before .before .before .before .before .before .before .before .before .before .before .args .algorithms .now)
   algorithms-kept = c .before .before .before .before .before .before .before .before .before .before .before .before .before .before .before .kept .ensures ∙ ap (λ (n : Need). under n []
       (c .before .before .before .before .before .before .before .before .before .before .before .before .before .before .before .before .before .before .before .before .before .before .before
       .before .before .before .before .before .before .before .before .before .before .before .before .before .args .algorithms .now))
@@ -46,8 +46,8 @@ module _ (c : tie.After-kept6) where
   protocols-kept : c .before .before .before .before .before .before .before .before .before .before .before .before .kept2 .result .now ≡ under (needFor
       (c .before .before .before .before .before .before .before .before .before .before .before .before .before .before .before .before .before .before .before .before .before .before .before
       .before .before .before .mark-64 .result) 12) []
-      (c .before .before .before .before .before .before .before .before .before .before .before .before .before .before .before .before .before .before .before .before .before .before
-      .before .before .before .before .before .before .before .before .before .before .before .before .before .before .args .protocols .now)
+      (c .before .before .before .before .before .before .before .before .before .before .before .before .before .before .before .before .before .before .before .before .before .before .before
+      .before .before .before .before .before .before .before .before .before .before .before .before .before .args .protocols .now)
   protocols-kept = c .before .before .before .before .before .before .before .before .before .before .before .before .kept2 .ensures ∙ ap (λ (n : Need). under n []
       (c .before .before .before .before .before .before .before .before .before .before .before .before .before .before .before .before .before .before .before .before .before .before .before
       .before .before .before .before .before .before .before .before .before .before .before .before .before .args .protocols .now))
@@ -56,8 +56,8 @@ module _ (c : tie.After-kept6) where
   ciphers-kept : c .before .before .before .before .before .before .before .before .before .kept3 .result .now ≡ under (needFor
       (c .before .before .before .before .before .before .before .before .before .before .before .before .before .before .before .before .before .before .before .before .before .before .before
       .before .before .before .mark-64 .result) 18) []
-      (c .before .before .before .before .before .before .before .before .before .before .before .before .before .before .before .before .before .before .before .before .before .before
-      .before .before .before .before .before .before .before .before .before .before .before .before .before .before .args .ciphers .now)
+      (c .before .before .before .before .before .before .before .before .before .before .before .before .before .before .before .before .before .before .before .before .before .before .before
+      .before .before .before .before .before .before .before .before .before .before .before .before .before .args .ciphers .now)
   ciphers-kept = c .before .before .before .before .before .before .before .before .before .kept3 .ensures ∙ ap (λ (n : Need). under n []
       (c .before .before .before .before .before .before .before .before .before .before .before .before .before .before .before .before .before .before .before .before .before .before .before
       .before .before .before .before .before .before .before .before .before .before .before .before .before .args .ciphers .now))
@@ -66,8 +66,8 @@ module _ (c : tie.After-kept6) where
   groups-kept : c .before .before .before .before .before .before .kept4 .result .now ≡ under (needFor
       (c .before .before .before .before .before .before .before .before .before .before .before .before .before .before .before .before .before .before .before .before .before .before .before
       .before .before .before .mark-64 .result) 24) []
-      (c .before .before .before .before .before .before .before .before .before .before .before .before .before .before .before .before .before .before .before .before .before .before
-      .before .before .before .before .before .before .before .before .before .before .before .before .before .before .args .groups .now)
+      (c .before .before .before .before .before .before .before .before .before .before .before .before .before .before .before .before .before .before .before .before .before .before .before
+      .before .before .before .before .before .before .before .before .before .before .before .before .before .args .groups .now)
   groups-kept = c .before .before .before .before .before .before .kept4 .ensures ∙ ap (λ (n : Need). under n []
       (c .before .before .before .before .before .before .before .before .before .before .before .before .before .before .before .before .before .before .before .before .before .before .before
       .before .before .before .before .before .before .before .before .before .before .before .before .before .args .groups .now))
@@ -76,8 +76,8 @@ module _ (c : tie.After-kept6) where
   hashes-kept : c .before .before .before .kept5 .result .now ≡ under (needFor
       (c .before .before .before .before .before .before .before .before .before .before .before .before .before .before .before .before .before .before .before .before .before .before .before
       .before .before .before .mark-64 .result) 30) []
-      (c .before .before .before .before .before .before .before .before .before .before .before .before .before .before .before .before .before .before .before .before .before .before
-      .before .before .before .before .before .before .before .before .before .before .before .before .before .before .args .hashes .now)
+      (c .before .before .before .before .before .before .before .before .before .before .before .before .before .before .before .before .before .before .before .before .before .before .before
+      .before .before .before .before .before .before .before .before .before .before .before .before .before .args .hashes .now)
   hashes-kept = c .before .before .before .kept5 .ensures ∙ ap (λ (n : Need). under n []
       (c .before .before .before .before .before .before .before .before .before .before .before .before .before .before .before .before .before .before .before .before .before .before .before
       .before .before .before .before .before .before .before .before .before .before .before .before .before .args .hashes .now)) (c .before .before .before .before .security-need5 .ensures)
@@ -85,8 +85,8 @@ module _ (c : tie.After-kept6) where
   keypath-kept : c .kept6 .result .now ≡ under (needFor
       (c .before .before .before .before .before .before .before .before .before .before .before .before .before .before .before .before .before .before .before .before .before .before .before
       .before .before .before .mark-64 .result) 36) []
-      (c .before .before .before .before .before .before .before .before .before .before .before .before .before .before .before .before .before .before .before .before .before .before
-      .before .before .before .before .before .before .before .before .before .before .before .before .before .before .args .keypath .now)
+      (c .before .before .before .before .before .before .before .before .before .before .before .before .before .before .before .before .before .before .before .before .before .before .before
+      .before .before .before .before .before .before .before .before .before .before .before .before .before .args .keypath .now)
   keypath-kept = c .kept6 .ensures ∙ ap (λ (n : Need). under n []
       (c .before .before .before .before .before .before .before .before .before .before .before .before .before .before .before .before .before .before .before .before .before .before .before
       .before .before .before .before .before .before .before .before .before .before .before .before .before .args .keypath .now)) (c .before .security-need6 .ensures)
@@ -98,27 +98,18 @@ mark-64-requires : tie.Need-mark-64-requires
 unfolding layoutOf security
 mark-64-requires c κs = (refl, refl)
 
-slice-aggregate-security-fits : tie.Need-slice-aggregate-security-fits
-slice-aggregate-security-fits c = search needs
+slice-aggregate-security-fault : tie.Need-slice-aggregate-security-fault
+slice-aggregate-security-fault c = search needs
 
-security-fits-requires : tie.Need-security-fits-requires
-security-fits-requires c κs = search needs
+security-fault-requires : tie.Need-security-fault-requires
+security-fault-requires c κs = search needs
 
 slice-aggregate-judged : tie.Need-slice-aggregate-judged
 slice-aggregate-judged c = search needs
 
 judged-requires : tie.Need-judged-requires
 unfolding layoutOf security
-judged-requires c κs = (
-  lit≤ tt,
-  lit≤ tt,
-  (
-    c .before .before .before .before .before .before .before .before .before .before .before .before .before .args .x .bytes,
-    c .before .before .before .mark-64 .ensures .1,
-    c .before .before .before .mark-64 .ensures .2,
-    c .before .before .before .mark-64 .ensures .0,
-  ),
-)
+judged-requires c κs = (lit≤ tt, lit≤ tt, c .before .before .before .mark-64 .ensures .2)
 
 refused-requires : tie.Need-refused-requires
 refused-requires c κs = search needs
@@ -187,7 +178,8 @@ kept-requires-4 c κs = search needs
 
 slice-aggregate-security-need-5 : tie.Need-slice-aggregate-security-need-5
 slice-aggregate-security-need-5 c = sym
-    (c .before .before .before .before .before .before .before .before .before .before .before .before .before .before .before .before .before .before .before .before .before .mark-64 .ensures .2)
+    (c .before .before .before .before .before .before .before .before .before .before .before .before .before .before .before .before .before .before .before .before .before .mark-64 .ensures
+    .2)
 
 security-need-requires-5 : tie.Need-security-need-requires-5
 security-need-requires-5 c κs = omega (
@@ -238,16 +230,24 @@ lay-security-requires c κs =
     (c .before .before .before .before .before .before .before .before .before .before .before .before .before .before .before .before .before .before .before .before .before .before .before
     .before .before .before .before .before .before .before .before .before .before .before .before .before .args .keypath .now)
     (c .before .before .before .before .before .before .before .before .before .before .before .before .before .before .before .before .before .before .before .before .before .before .judged
-    .result) (c .before .before .before .before .before .before .before .before .before .before .before .before .before .before .before .before .before .before .before .before .before
-    .before .before .before .before .before .mark-64 .ensures .0) (judged-is
+    .result) (c .before .before .before .before .before .before .before .before .before .before .before .before .before .before .before .before .before .before .before .before .before .before
+    .before .before .before .before .mark-64 .ensures .0) (judged-is
     (c .before .before .before .before .before .before .before .before .before .before .before .before .before .before .before .before .before .before .before .before .before .before))
     (c .before .before .before .before .before .before .before .before .before .before .before .before .before .before .before .before .before .before .before .before .if1 .left) in (
       (
         p .0,
-        c .before .before .before .before .before .before .before .before .before .before .before .before .before .before .before .before .before .before .before .before .before .before .before
-            .before .before .before .mark-64 .ensures .2,
+        c .before .before .before .before .before .before .before .before .before .before .before .before .before .before .before .before .before .before .before .before .before .before
+            .before .before .before .before .mark-64 .ensures .2,
       ),
-      (rw (algorithms-kept c) (p .1), rw (protocols-kept c) (p .2), rw (ciphers-kept c) (p .3), rw (groups-kept c) (p .4), rw (hashes-kept c) (p .5), rw (keypath-kept c) (p .6)),
+      (
+        rw (algorithms-kept c) (p .1),
+        rw (protocols-kept c) (p .2),
+        rw (ciphers-kept c) (p .3),
+        rw (groups-kept c) (p .4),
+        rw (hashes-kept c)
+            (p .5),
+        rw (keypath-kept c) (p .6),
+      ),
     )
 
 same-length : tie.Need-same-length
@@ -281,8 +281,8 @@ returns-2 c =
     (c .before .before .before .before .before .before .before .before .before .before .before .before .before .before .before .before .before .before .before .before .before .before .before
     .before .before .before .before .before .before .mark-64 .ensures .0) (judged-is
     (c .before .before .before .before .before .before .before .before .before .before .before .before .before .before .before .before .before .before .before .before .before .before .before
-    .before .before)) (c .before .before .before .before .before .before .before .before .before .before .before .before .before .before .before .before .before .before .before .before
-    .before .before .before .if1 .left)
+    .before .before)) (c .before .before .before .before .before .before .before .before .before .before .before .before .before .before .before .before .before .before .before .before .before
+    .before .before .if1 .left)
     (c .before .before .before .before .before .before .before .before .before .before .before .before .before .before .before .before .before .before .kept .result .now)
     (c .before .before .before .before .before .before .before .before .before .before .before .before .before .before .before .kept2 .result .now)
     (c .before .before .before .before .before .before .before .before .before .before .before .before .kept3 .result .now)
@@ -297,8 +297,8 @@ security-spec =
     (tie.spec
     cast-mark-64
     mark-64-requires
-    slice-aggregate-security-fits
-    security-fits-requires
+    slice-aggregate-security-fault
+    security-fault-requires
     slice-aggregate-judged
     judged-requires
     refused-requires

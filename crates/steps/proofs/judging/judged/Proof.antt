@@ -1,17 +1,29 @@
-use Rattle.laws.specs.RecordKinds.{kind-of}
-use Rattle.steps.proofs.JudgeLaws.{right-is, not-right, is-right, out-of-turn, wrong-pair, wrong-object, no-fault}
-use Rattle.turns.proofs.Laws.{not-true, not-false}
-use Rattle.laws.specs.Fields.{imageIn}
-use Rattle.table.specs.Builder.{waits}
-use Rattle.table.specs.Rules.{answer}
-use Rattle.table.specs.FixedLayouts.{layoutOf}
-use Rattle.table.specs.Layout.{pairsRight}
+use mathlib.Core.Path.{_≡_, sym, ap, _∙_}
+use mathlib.Core.Bool.{true}
 use Prim.Native.Nat.{ℕ}
-use mathlib.Core.Path.{sym, ap, _∙_}
 use native.Mathlib.Omega.{arith}
+use Rattle.table.specs.Layout.{pairsRight}
+use Rattle.table.specs.FixedLayouts.{layoutOf}
+use Rattle.table.specs.Rules.{answer}
+use Rattle.table.specs.Builder.{waits}
+use Rattle.laws.specs.Fields.{imageIn}
+use Rattle.laws.specs.RecordKinds.{kind-of}
+use Rattle.turns.proofs.Laws.{not-true, not-false}
+use Rattle.steps.proofs.JudgeLaws.{out-of-turn, wrong-pair, own-fault, wrong-object, no-fault}
 use borrow.Author.Needs.{needs}
 use Rattle.steps.proofs.judging.judged.Statement.{statement}
 use Rattle.steps.proofs.judging.judged.Tie as tie
+
+kind-is : (c : tie.After-waits) → layoutOf (c .before .before .before .args .kind) .kind ≡ c .before .before .before .args .kind
+kind-is c = kind-of (c .before .before .before .args .kind) (c .before .before .before .pre .0) (c .before .before .before .pre .1)
+
+in-turn : (c : tie.After-pairs-right) → waits (c .before .before .before .before .before .args .s) (layoutOf (c .before .before .before .before .before .args .kind) .kind) ≡ true
+in-turn c = ap (waits (c .before .before .before .before .before .args .s)) (kind-is (c .before .before)) ∙ sym (c .before .before .waits .ensures .0) ∙ not-false
+    (c .before .before .waits .result) (c .before .if1 .left)
+
+right : (c : tie.Else2) → pairsRight (layoutOf (c .before .before .before .before .before .before .args .kind) .shape) (imageIn (layoutOf
+    (c .before .before .before .before .before .before .args .kind)) (c .before .before .before .before .before .before .args .b .now) 0) ≡ true
+right c = sym (c .before .pairs-right .ensures) ∙ not-false (c .before .pairs-right .result) (c .if2 .left)
 
 cast-position : tie.Need-cast-position
 cast-position c = search needs
@@ -23,28 +35,55 @@ refuse-requires : tie.Need-refuse-requires
 refuse-requires c κs = search needs
 
 returns : tie.Need-returns
-returns c = let k = kind-of (c .before .before .before .before .before .args .kind) (c .before .before .before .before .before .pre .0) (c .before .before .before .before .before .pre .1) in c .refuse .ensures ∙ out-of-turn (layoutOf (c .before .before .before .before .before .args .kind)) (c .before .before .before .before .before .args .s) (imageIn (layoutOf (c .before .before .before .before .before .args .kind)) (c .before .before .before .before .before .args .b .now) 0) (c .before .before .before .before .before .args .fine) (ap (waits (c .before .before .before .before .before .args .s)) k ∙ sym (c .before .before .waits .ensures .0) ∙ not-true (c .before .before .waits .result) (c .before .if1 .taken))
+returns c = c .refuse .ensures ∙ out-of-turn (layoutOf (c .before .before .before .before .before .args .kind)) (c .before .before .before .before .before .args .s) (imageIn (layoutOf
+    (c .before .before .before .before .before .args .kind)) (c .before .before .before .before .before .args .b .now) 0) (c .before .before .before .before .before .args .own)
+    (c .before .before .before .before .before .args .objects) (ap (waits (c .before .before .before .before .before .args .s)) (kind-is (c .before .before)) ∙ sym
+    (c .before .before .waits .ensures .0) ∙ not-true (c .before .before .waits .result) (c .before .if1 .taken))
 
-right-fault-requires : tie.Need-right-fault-requires
-right-fault-requires c κs = (c .before .before .before .before .pre .0, c .before .before .before .before .pre .1, omega (arith, c .before .before .before .before .pre .2 .2))
+pairs-right-requires : tie.Need-pairs-right-requires
+pairs-right-requires c κs = (c .before .before .before .before .pre .0, c .before .before .before .before .pre .1, omega (arith, c .before .before .before .before .pre .2))
 
 refuse-requires-2 : tie.Need-refuse-requires-2
 refuse-requires-2 c κs = search needs
 
 returns-2 : tie.Need-returns-2
-returns-2 c = let k = kind-of (c .before .before .before .before .before .before .before .args .kind) (c .before .before .before .before .before .before .before .pre .0) (c .before .before .before .before .before .before .before .pre .1) in let y = sym (c .before .before .before .before .waits .ensures .0) ∙ not-false (c .before .before .before .before .waits .result) (c .before .before .before .if1 .left) in let y′ = ap (waits (c .before .before .before .before .before .before .before .args .s)) k ∙ y in let r = right-is (c .before .before .before .before .before .before .before .args .kind) (c .before .before .before .before .before .before .before .args .s) (c .before .before .before .before .before .before .before .args .b .now) (c .before .before .before .before .before .before .before .pre .0) (c .before .before .before .before .before .before .before .pre .1) (c .before .before .before .before .before .before .before .pre .2) y (c .before .before .before .before .waits .ensures .1 y) in c .refuse2 .ensures ∙ ap (λ (i : ℕ). answer 10 i (c .before .before .before .before .before .before .before .args .s .position)) (sym k) ∙ wrong-pair (layoutOf (c .before .before .before .before .before .before .before .args .kind)) (c .before .before .before .before .before .before .before .args .s) (imageIn (layoutOf (c .before .before .before .before .before .before .before .args .kind)) (c .before .before .before .before .before .before .before .args .b .now) 0) (c .before .before .before .before .before .before .before .args .fine) y′ (not-right (pairsRight ((layoutOf (c .before .before .before .before .before .before .before .args .kind)) .shape) (imageIn (layoutOf (c .before .before .before .before .before .before .before .args .kind)) (c .before .before .before .before .before .before .before .args .b .now) 0)) (c .before .before .right-fault .result) (c .before .before .right-fault .ensures ∙ r) (c .before .if2 .taken))
+returns-2 c = c .refuse2 .ensures ∙ ap (λ (i : ℕ). answer 10 i (c .before .before .before .before .before .before .before .args .s .position)) (sym (kind-is (c .before .before .before .before)))
+    ∙ wrong-pair (layoutOf (c .before .before .before .before .before .before .before .args .kind)) (c .before .before .before .before .before .before .before .args .s) (imageIn (layoutOf
+    (c .before .before .before .before .before .before .before .args .kind)) (c .before .before .before .before .before .before .before .args .b .now) 0)
+    (c .before .before .before .before .before .before .before .args .own) (c .before .before .before .before .before .before .before .args .objects) (in-turn (c .before .before)) (sym
+    (c .before .before .pairs-right .ensures) ∙ not-true (c .before .before .pairs-right .result) (c .before .if2 .taken))
 
 refuse-requires-3 : tie.Need-refuse-requires-3
 refuse-requires-3 c κs = search needs
 
 returns-3 : tie.Need-returns-3
-returns-3 c = let k = kind-of (c .before .before .before .before .before .before .before .before .args .kind) (c .before .before .before .before .before .before .before .before .pre .0) (c .before .before .before .before .before .before .before .before .pre .1) in let y = sym (c .before .before .before .before .before .waits .ensures .0) ∙ not-false (c .before .before .before .before .before .waits .result) (c .before .before .before .before .if1 .left) in let y′ = ap (waits (c .before .before .before .before .before .before .before .before .args .s)) k ∙ y in let r = right-is (c .before .before .before .before .before .before .before .before .args .kind) (c .before .before .before .before .before .before .before .before .args .s) (c .before .before .before .before .before .before .before .before .args .b .now) (c .before .before .before .before .before .before .before .before .pre .0) (c .before .before .before .before .before .before .before .before .pre .1) (c .before .before .before .before .before .before .before .before .pre .2) y (c .before .before .before .before .before .waits .ensures .1 y) in c .refuse3 .ensures ∙ ap (λ (i : ℕ). answer 11 i (c .before .before .before .before .before .before .before .before .args .s .position)) (sym k) ∙ wrong-object (layoutOf (c .before .before .before .before .before .before .before .before .args .kind)) (c .before .before .before .before .before .before .before .before .args .s) (imageIn (layoutOf (c .before .before .before .before .before .before .before .before .args .kind)) (c .before .before .before .before .before .before .before .before .args .b .now) 0) (c .before .before .before .before .before .before .before .before .args .fine) y′ (is-right (pairsRight ((layoutOf (c .before .before .before .before .before .before .before .before .args .kind)) .shape) (imageIn (layoutOf (c .before .before .before .before .before .before .before .before .args .kind)) (c .before .before .before .before .before .before .before .before .args .b .now) 0)) (c .before .before .before .right-fault .result) (c .before .before .before .right-fault .ensures ∙ r) (c .before .before .if2 .left)) (not-true (c .before .before .before .before .before .before .before .before .args .fine) (c .before .if3 .taken))
+returns-3 c = c .refuse3 .ensures ∙ ap (λ (i : ℕ). answer (c .before .before .before .before .before .before .before .before .args .own) i
+    (c .before .before .before .before .before .before .before .before .args .s .position)) (sym (kind-is (c .before .before .before .before .before))) ∙ own-fault (layoutOf
+    (c .before .before .before .before .before .before .before .before .args .kind)) (c .before .before .before .before .before .before .before .before .args .s) (imageIn (layoutOf
+    (c .before .before .before .before .before .before .before .before .args .kind)) (c .before .before .before .before .before .before .before .before .args .b .now) 0)
+    (c .before .before .before .before .before .before .before .before .args .own) (c .before .before .before .before .before .before .before .before .args .objects) (in-turn
+    (c .before .before .before)) (right (c .before .before)) (c .before .if3 .taken)
+
+refuse-requires-4 : tie.Need-refuse-requires-4
+refuse-requires-4 c κs = search needs
+
+returns-4 : tie.Need-returns-4
+returns-4 c = c .refuse4 .ensures ∙ ap (λ (i : ℕ). answer (c .before .before .before .before .before .before .before .before .before .args .objects) i
+    (c .before .before .before .before .before .before .before .before .before .args .s .position)) (sym (kind-is (c .before .before .before .before .before .before))) ∙ wrong-object (layoutOf
+    (c .before .before .before .before .before .before .before .before .before .args .kind)) (c .before .before .before .before .before .before .before .before .before .args .s) (imageIn
+    (layoutOf (c .before .before .before .before .before .before .before .before .before .args .kind)) (c .before .before .before .before .before .before .before .before .before .args .b .now)
+    0) (c .before .before .before .before .before .before .before .before .before .args .own) (c .before .before .before .before .before .before .before .before .before .args .objects) (in-turn
+    (c .before .before .before .before)) (right (c .before .before .before)) (c .before .before .if3 .left) (c .before .if4 .taken)
 
 done-requires : tie.Need-done-requires
 done-requires c κs = search needs
 
-returns-4 : tie.Need-returns-4
-returns-4 c = let k = kind-of (c .before .before .before .before .before .before .before .before .args .kind) (c .before .before .before .before .before .before .before .before .pre .0) (c .before .before .before .before .before .before .before .before .pre .1) in let y = sym (c .before .before .before .before .before .waits .ensures .0) ∙ not-false (c .before .before .before .before .before .waits .result) (c .before .before .before .before .if1 .left) in let y′ = ap (waits (c .before .before .before .before .before .before .before .before .args .s)) k ∙ y in let r = right-is (c .before .before .before .before .before .before .before .before .args .kind) (c .before .before .before .before .before .before .before .before .args .s) (c .before .before .before .before .before .before .before .before .args .b .now) (c .before .before .before .before .before .before .before .before .pre .0) (c .before .before .before .before .before .before .before .before .pre .1) (c .before .before .before .before .before .before .before .before .pre .2) y (c .before .before .before .before .before .waits .ensures .1 y) in c .done .ensures ∙ no-fault (layoutOf (c .before .before .before .before .before .before .before .before .args .kind)) (c .before .before .before .before .before .before .before .before .args .s) (imageIn (layoutOf (c .before .before .before .before .before .before .before .before .args .kind)) (c .before .before .before .before .before .before .before .before .args .b .now) 0) (c .before .before .before .before .before .before .before .before .args .fine) y′ (is-right (pairsRight ((layoutOf (c .before .before .before .before .before .before .before .before .args .kind)) .shape) (imageIn (layoutOf (c .before .before .before .before .before .before .before .before .args .kind)) (c .before .before .before .before .before .before .before .before .args .b .now) 0)) (c .before .before .before .right-fault .result) (c .before .before .before .right-fault .ensures ∙ r) (c .before .before .if2 .left)) (not-false (c .before .before .before .before .before .before .before .before .args .fine) (c .before .if3 .left))
+returns-5 : tie.Need-returns-5
+returns-5 c = c .done .ensures ∙ no-fault (layoutOf (c .before .before .before .before .before .before .before .before .before .args .kind))
+    (c .before .before .before .before .before .before .before .before .before .args .s) (imageIn (layoutOf
+    (c .before .before .before .before .before .before .before .before .before .args .kind)) (c .before .before .before .before .before .before .before .before .before .args .b .now) 0)
+    (c .before .before .before .before .before .before .before .before .before .args .own) (c .before .before .before .before .before .before .before .before .before .args .objects) (in-turn
+    (c .before .before .before .before)) (right (c .before .before .before)) (c .before .before .if3 .left) (c .before .if4 .left)
 
 pub judged-spec : {M : Type 1} → statement M
 judged-spec =
@@ -54,10 +93,12 @@ judged-spec =
     waits-requires
     refuse-requires
     returns
-    right-fault-requires
+    pairs-right-requires
     refuse-requires-2
     returns-2
     refuse-requires-3
     returns-3
+    refuse-requires-4
+    returns-4
     done-requires
-    returns-4)
+    returns-5)
