@@ -72,3 +72,31 @@ pub fn lay_entry(out: &mut [u8], d: usize, u: usize, t: &[u8], kind: u8, n: usiz
         },
     }
 }
+
+// The same of a list, by functions of its own: with two callers the walk over references stays a function by itself, of which the compiler
+// then makes a copy for each list, with that kind's constants (docs/PERFORMANCE.md).
+fn lay_listed(out: &mut [u8], d: usize, u: usize, t: &[u8], kind: u8, a: usize) -> usize
+    requires { ⌜ Accepted (now t) × Seated (now t) (layoutOf kind) a true ⌝ }
+    requires { ⌜ (d + baseOf (layoutOf kind) ≤ u) × (u + sizeOf (slotsIn (layoutOf kind) (now t) a) ≤ length (now out)) ⌝ }
+    ensures { λ r. ⌜ (r ≡ u + sizeOf (slotsIn (layoutOf kind) (now (t .entry)) a)) × (now (out .exit) ≡ laid (now (out .entry)) d (patched u (imageIn (layoutOf kind) (now (t .entry)) a) (slotsIn (layoutOf kind) (now (t .entry)) a)) u (heapOf u (slotsIn (layoutOf kind) (now (t .entry)) a))) ⌝ }
+{
+    put_record(out, d, t, kind, a);
+    lay_named(out, d, u, t, kind, a)
+}
+
+// The record at a position of a list.
+pub fn lay_position(out: &mut [u8], d: usize, u: usize, t: &[u8], kind: u8, n: usize) -> usize
+    requires { ⌜ Accepted (now t) ⌝ }
+    requires { ⌜ (d + baseOf (layoutOf kind) ≤ u) × (u + sizeEntry (toldEntry (layoutOf kind) (now t) kind n) ≤ length (now out)) ⌝ }
+    ensures { λ r. ⌜ (r ≡ u + sizeEntry (toldEntry (layoutOf kind) (now (t .entry)) kind n)) × (now (out .exit) ≡ laid (now (out .entry)) d (recEntry u (toldEntry (layoutOf kind) (now (t .entry)) kind n)) u (heapEntry u (toldEntry (layoutOf kind) (now (t .entry)) kind n))) ⌝ }
+{
+    let s = seat_of(t, kind, n);
+    match s {
+        Seat::Nowhere => lay_unused(out, d, u, kind),
+        Seat::At { at, used } => if used {
+            lay_listed(out, d, u, t, kind, at)
+        } else {
+            lay_unused(out, d, u, kind)
+        },
+    }
+}

@@ -1,6 +1,6 @@
 // The lists of an accepted table laid anew, one behind the other.
 use parts::sizes::list_span;
-use relaid::records::lay_entry;
+use relaid::records::lay_position;
 use seat_reads::counts::count_of;
 use table::Discovery;
 use table::Hfi;
@@ -31,7 +31,7 @@ pub fn lay_list(out: &mut [u8], d: usize, u: usize, t: &[u8], kind: u8) -> usize
     let mut i: usize = 0;
     while i < n {
         i += 1;
-        h = lay_entry(out, at, h, t, kind, i);
+        h = lay_position(out, at, h, t, kind, i);
         at += base;
     }
     h

@@ -33,8 +33,8 @@ loop-holds c = let s = c .before .before .before .before in let a = s .args in l
 add-i : tie.Need-add-i Inv-loop μ-loop
 add-i c = search picks
 
-lay-entry-requires : tie.Need-lay-entry-requires Inv-loop μ-loop
-lay-entry-requires c κs = let s = c .before .before .before .before .before .before .before in let a = s .args in let t = a .t .now in let k = a .kind in let ok = s .pre .0 in let l = c .before .before .loop in let n = c .before .before .before .before .count-of .result in let h = c .before .loop-test .taken in let m = size-more t k (l .i) n h in let q = one-less n (l .i) (baseOf (layoutOf k)) h in (ok, (omega (arith, q, l .inv .1), omega (arith, m, l .inv .2, l .inv .3, s .pre .1)))
+lay-position-requires : tie.Need-lay-position-requires Inv-loop μ-loop
+lay-position-requires c κs = let s = c .before .before .before .before .before .before .before in let a = s .args in let t = a .t .now in let k = a .kind in let ok = s .pre .0 in let l = c .before .before .loop in let n = c .before .before .before .before .count-of .result in let h = c .before .loop-test .taken in let m = size-more t k (l .i) n h in let q = one-less n (l .i) (baseOf (layoutOf k)) h in (ok, (omega (arith, q, l .inv .1), omega (arith, m, l .inv .2, l .inv .3, s .pre .1)))
 
 add-at : tie.Need-add-at Inv-loop μ-loop
 add-at c = let s = c .before .before .before .before .before .before .before .before .before .before in let a = s .args in let t = a .t .now in let k = a .kind in let ok = s .pre .0 in let l = c .before .before .before .before .before .loop in let n = c .before .before .before .before .before .before .before .count-of .result in omega (arith, one-less n (l .i) (baseOf (layoutOf k)) (c .before .before .before .before .loop-test .taken), l .inv .1, l .inv .2, c .before .before .before .before .before .before .base-size .ensures, s .pre .1, s .good .0 .0)
@@ -43,7 +43,7 @@ loop-less : tie.Need-loop-less Inv-loop μ-loop
 loop-less c = omega (arith, c .before .before .before .before .loop-test .taken)
 
 loop-again : tie.Need-loop-again Inv-loop μ-loop
-loop-again c = let s = c .before .before .before .before .before .before .before .before .before .before in let a = s .args in let t = a .t .now in let k = a .kind in let ok = s .pre .0 in let l = c .before .before .before .before .before .loop in let n = c .before .before .before .before .before .before .before .count-of .result in let h = c .before .before .before .before .loop-test .taken in let p = c .before .before .lay-entry in let b = c .before .before .before .before .before .before .base-size .ensures in
+loop-again c = let s = c .before .before .before .before .before .before .before .before .before .before in let a = s .args in let t = a .t .now in let k = a .kind in let ok = s .pre .0 in let l = c .before .before .before .before .before .loop in let n = c .before .before .before .before .before .before .before .count-of .result in let h = c .before .before .before .before .loop-test .taken in let p = c .before .before .lay-position in let b = c .before .before .before .before .before .before .base-size .ensures in
     let m = size-more t k (l .i) n h in
     let q = one-less n (l .i) (baseOf (layoutOf k)) h in (
       omega (arith, h),
@@ -69,7 +69,7 @@ lay-list-spec =
     base-size-requires
     loop-holds
     add-i
-    lay-entry-requires
+    lay-position-requires
     add-at
     loop-less
     loop-again
