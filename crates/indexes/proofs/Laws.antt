@@ -14,7 +14,7 @@ use Rattle.table.specs.declared.Region.{Region}
 use Rattle.table.specs.declared.Need.the-variants.{Optional}
 use Rattle.table.specs.Bytes.{pick, part, num, every}
 use Rattle.table.specs.declared.Need.{Need}
-use Rattle.table.specs.Layout.{Content, Env, Layout, Refs, image, plain, referenceAt, region, slotAt}
+use Rattle.table.specs.Layout.{Content, Env, Layout, Refs, image, namedAt, plain, referenceAt, region, slotAt}
 use Rattle.table.specs.FixedLayouts.{layoutOf, header, control, host, hfi, ssns, security, discovery, info, extended, noKind, zeroOr}
 use Rattle.table.specs.Objects.{readSlots, readBody, usedIn, under}
 use Rattle.table.specs.Rules.{firstOf, refRule, plainRule, refsRule, reaches, ruled}
@@ -106,7 +106,7 @@ security-thirteen t a z = go (eqb (num (imageIn ssns t a) 3 2 / 4 % 2) 0 || vali
 
 -- ---- the secondary list
 
-slot-48 : (t : List ℕ) (a : ℕ) (img : List ℕ) → slotAt 48 (readSlots t a img (ssns .refs)) ≡ part t (num t (a + 48) 4) (num t (a + 48 + 4) 2)
+slot-48 : (t : List ℕ) (a : ℕ) (img : List ℕ) → slotAt 48 (readSlots t a img (ssns .refs)) ≡ namedAt t (a + 48)
 unfolding slotAt readSlots ssns
 slot-48 t a img = refl
 
@@ -123,7 +123,7 @@ ssns-names t a b =
     let e8 : getD (imageIn ssns t a) 8 0 ≡ getD t (a + 8) 0 = unfold imageIn ssns in (whole (ssns .shape .keep) t a 8 tt refl (b (a + 8))) in
     let e46 : getD (imageIn ssns t a) 46 0 ≡ getD t (a + 46) 0 = unfold imageIn ssns in (whole (ssns .shape .keep) t a 46 tt refl (b (a + 46))) in
     let s = slot-48 t a (imageIn ssns t a) in
-    four (zeroOr (validIn t 6) (getD t (a + 8) 0)) (eqb (num (imageIn ssns t a) 3 2 / 4 % 2) 0 || validIn t 5 (getD (imageIn ssns t a) 45 0)) (validIn t 3 (getD t (a + 46) 0)) (every (validIn t 3) (part t (num t (a + 48) 4) (num t (a + 48 + 4) 2)))
+    four (zeroOr (validIn t 6) (getD t (a + 8) 0)) (eqb (num (imageIn ssns t a) 3 2 / 4 % 2) 0 || validIn t 5 (getD (imageIn ssns t a) 45 0)) (validIn t 3 (getD t (a + 46) 0)) (every (validIn t 3) (namedAt t (a + 48)))
     ∙ ssns-rule t a _ _ _ e8 e46 s
   where
     four : (x y z w : Bool) → firstOf (pick x 0 13) (firstOf (pick y 0 13) (firstOf (pick z 0 13) (pick w 0 13))) ≡ pick (x && (y && (z && w))) 0 13
@@ -143,13 +143,13 @@ module _ (f : ℕ → Bool) (x : List ℕ) (i : ℕ) where
 
 -- its reference, as the record's references have passed
 plain-passes : (heap : Region) (e : Env) (t : List ℕ) (a : ℕ) (img : List ℕ) (p : ℕ) (need : List ℕ → Need) (content : Content) (rest : Refs) → refsRule heap e t a img (plain p need content rest) ≡ 0
-    → (refRule heap (need img) (num t (a + p) 4) (num t (a + p + 4) 2) ≡ 0) × (refsRule heap e t a img rest ≡ 0)
+    → (refRule heap (need img) (referenceAt t (a + p) .at) (referenceAt t (a + p) .len) ≡ 0) × (refsRule heap e t a img rest ≡ 0)
 unfolding refsRule
 plain-passes heap e t a img p need content rest z =
     let u = first-of (plainRule heap (need img) content e t (a + p)) (refsRule heap e t a img rest) z in
-    (first-of (refRule heap (need img) (num t (a + p) 4) (num t (a + p + 4) 2)) (under (need img) 0 (ruled content e (part t (num t (a + p) 4) (num t (a + p + 4) 2)))) (u .0) .0, u .1)
+    (first-of (refRule heap (need img) (referenceAt t (a + p) .at) (referenceAt t (a + p) .len)) (under (need img) 0 (ruled content e (namedAt t (a + p)))) (u .0) .0, u .1)
 
-secondary-passed : (heap : Region) (t : List ℕ) (a pos : ℕ) → RefsPass 4 heap t a pos → refRule heap Optional (num t (a + 48) 4) (num t (a + 48 + 4) 2) ≡ 0
+secondary-passed : (heap : Region) (t : List ℕ) (a pos : ℕ) → RefsPass 4 heap t a pos → refRule heap Optional (referenceAt t (a + 48) .at) (referenceAt t (a + 48) .len) ≡ 0
 unfolding refsFault layoutOf ssns
 secondary-passed heap t a pos p =
     let e = envIn t pos in

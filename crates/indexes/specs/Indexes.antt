@@ -6,7 +6,8 @@ use Prim.Native.Nat.{ℕ, _+_, _/_, _%_}
 use lib.ListN.{getD}
 use lib.Dec.{eqb}
 use Rattle.table.specs.declared.Region.{Region}
-use Rattle.table.specs.Bytes.{pick, part, num, every}
+use Rattle.table.specs.Bytes.{pick, num, every}
+use Rattle.table.specs.Layout.{namedAt}
 use Rattle.table.specs.FixedLayouts.{layoutOf, ssns}
 use Rattle.table.specs.Objects.{readSlots}
 use Rattle.table.specs.Rules.{refsRule}
@@ -30,4 +31,4 @@ securityIndex t a = pick (eqb (num (imageIn ssns t a) 3 2 / 4 % 2) 0 || validIn 
 
 -- the bytes of the secondary list at 48
 unfoldable pub secondaryRule : List ℕ → ℕ → ℕ
-secondaryRule t a = pick (every (validIn t 3) (part t (num t (a + 48) 4) (num t (a + 48 + 4) 2))) 0 13
+secondaryRule t a = pick (every (validIn t 3) (namedAt t (a + 48))) 0 13

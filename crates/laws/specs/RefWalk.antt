@@ -28,7 +28,7 @@ ruleAt heap e t a img none q = 0
 ruleAt heap e t a img (plain p need content rest) q = pick (eqb q p) (plainRule heap (need img) content e t (a + q)) (ruleAt heap e t a img rest q)
 ruleAt heap e t a img (nest p need shape own rest) q =
     pick (eqb q p)
-    (nestRule heap (need img) shape e t (a + q) (refsRule heap e t (num t (a + q) 4) (image (shape .keep) (drop (num t (a + q) 4) t)) own))
+    (nestRule heap (need img) shape e t (a + q) (refsRule heap e t (referenceAt t (a + q) .at) (image (shape .keep) (drop (referenceAt t (a + q) .at) t)) own))
     (ruleAt heap e t a img rest q)
 
 -- the first fault of f over a list
@@ -71,7 +71,7 @@ refs-over heap e t a img (plain p need content rest) d =
     ∙ sym (skip p (λ (q : ℕ). plainRule heap (need img) content e t (a + q)) (ruleAt heap e t a img rest) (offsets rest) (u .0)))
 refs-over heap e t a img (nest p need shape own rest) d =
     let u = and-yes (notIn p (offsets rest)) (distinctRefs rest) d in
-    let rule : ℕ → ℕ = λ q. nestRule heap (need img) shape e t (a + q) (refsRule heap e t (num t (a + q) 4) (image (shape .keep) (drop (num t (a + q) 4) t)) own) in
+    let rule : ℕ → ℕ = λ q. nestRule heap (need img) shape e t (a + q) (refsRule heap e t (referenceAt t (a + q) .at) (image (shape .keep) (drop (referenceAt t (a + q) .at) t)) own) in
     ap₂ firstOf
     (sym (ap (λ (c : Bool). pick c (rule p) (ruleAt heap e t a img rest p)) (eqb-same p)))
     (refs-over heap e t a img rest (u .1) ∙ sym (skip p rule (ruleAt heap e t a img rest) (offsets rest) (u .0)))
@@ -85,9 +85,9 @@ first-zero v = step (eqb v 0) refl where
   step false e = refl
 
 plain-free : (heap : Region) (n : Need) (content : Content) (e : Env) (t : List ℕ) (r : ℕ)
-    → plainRule heap n content e t r ≡ refRule heap n (num t r 4) (num t (r + 4) 2)
-plain-free heap n content e t r = go n (refRule heap n (num t r 4) (num t (r + 4) 2)) where
-  go : (n : Need) (v : ℕ) → firstOf v (under n 0 (ruled content e (part t (num t r 4) (num t (r + 4) 2)))) ≡ v
+    → plainRule heap n content e t r ≡ refRule heap n (referenceAt t r .at) (referenceAt t r .len)
+plain-free heap n content e t r = go n (refRule heap n (referenceAt t r .at) (referenceAt t r .len)) where
+  go : (n : Need) (v : ℕ) → firstOf v (under n 0 (ruled content e (namedAt t r))) ≡ v
   go Ignored v = first-zero v
   go Optional v = ap (firstOf v) (asks-none content e (namedAt t r)) ∙ first-zero v
   go Required v = ap (firstOf v) (asks-none content e (namedAt t r)) ∙ first-zero v
@@ -99,20 +99,20 @@ nestAt q (nest p need shape own rest) = eqb q p || nestAt q rest
 
 -- a plain reference's rule: by its need and its two halves
 pub plain-at : (heap : Region) (e : Env) (t : List ℕ) (a : ℕ) (img : List ℕ) (rs : Refs) (q : ℕ) → T (not (nestAt q rs))
-    → ruleAt heap e t a img rs q ≡ refRule heap (needAt q rs img) (num t (a + q) 4) (num t (a + q + 4) 2)
+    → ruleAt heap e t a img rs q ≡ refRule heap (needAt q rs img) (referenceAt t (a + q) .at) (referenceAt t (a + q) .len)
 unfolding ruleAt
 plain-at heap e t a img none q n = refl
 plain-at heap e t a img (plain p need content rest) q n = go (eqb q p) (plain-at heap e t a img rest q n) where
-  go : (c : Bool) → ruleAt heap e t a img rest q ≡ refRule heap (needAt q rest img) (num t (a + q) 4) (num t (a + q + 4) 2)
+  go : (c : Bool) → ruleAt heap e t a img rest q ≡ refRule heap (needAt q rest img) (referenceAt t (a + q) .at) (referenceAt t (a + q) .len)
       → pick c (plainRule heap (need img) content e t (a + q)) (ruleAt heap e t a img rest q)
-      ≡ refRule heap (pick c (need img) (needAt q rest img)) (num t (a + q) 4) (num t (a + q + 4) 2)
+      ≡ refRule heap (pick c (need img) (needAt q rest img)) (referenceAt t (a + q) .at) (referenceAt t (a + q) .len)
   go true z = plain-free heap (need img) content e t (a + q)
   go false z = z
 plain-at heap e t a img (nest p need shape own rest) q n = go (eqb q p) n (λ m. plain-at heap e t a img rest q m) where
   go : (c : Bool) → T (not (c || nestAt q rest))
-      → (T (not (nestAt q rest)) → ruleAt heap e t a img rest q ≡ refRule heap (needAt q rest img) (num t (a + q) 4) (num t (a + q + 4) 2))
-      → pick c (nestRule heap (need img) shape e t (a + q) (refsRule heap e t (num t (a + q) 4) (image (shape .keep) (drop (num t (a + q) 4) t)) own)) (ruleAt heap e t a img rest q)
-      ≡ refRule heap (pick c (need img) (needAt q rest img)) (num t (a + q) 4) (num t (a + q + 4) 2)
+      → (T (not (nestAt q rest)) → ruleAt heap e t a img rest q ≡ refRule heap (needAt q rest img) (referenceAt t (a + q) .at) (referenceAt t (a + q) .len))
+      → pick c (nestRule heap (need img) shape e t (a + q) (refsRule heap e t (referenceAt t (a + q) .at) (image (shape .keep) (drop (referenceAt t (a + q) .at) t)) own)) (ruleAt heap e t a img rest q)
+      ≡ refRule heap (pick c (need img) (needAt q rest img)) (referenceAt t (a + q) .at) (referenceAt t (a + q) .len)
   go true n z = absurd n
   go false n z = z n
 

@@ -110,35 +110,35 @@ unfolding refFault layoutOf ruleAt hfi
 hfi-other heap t a pos q e = rw e
 
 pub ssns-plain : (heap : Region) (t : List ℕ) (a pos q : ℕ) → eqb q 60 ≡ false
-    → refRule heap (ssnsNeed (num (imageIn ssns t a) 3 2) q) (num t (a + q) 4) (num t (a + q + 4) 2) ≡ refFault 4 heap t a pos q
+    → refRule heap (ssnsNeed (num (imageIn ssns t a) 3 2) q) (referenceAt t (a + q) .at) (referenceAt t (a + q) .len) ≡ refFault 4 heap t a pos q
 unfolding refFault layoutOf ssns
 ssns-plain heap t a pos q e =
-    ap (λ (n : Need). refRule heap n (num t (a + q) 4) (num t (a + q + 4) 2)) (ssns-need (imageIn ssns t a) q)
+    ap (λ (n : Need). refRule heap n (referenceAt t (a + q) .at) (referenceAt t (a + q) .len)) (ssns-need (imageIn ssns t a) q)
     ∙ sym (plain-at heap (envIn t pos) t a (imageIn ssns t a) (ssns .refs) q (rw e tt))
 
-pub security-plain : (heap : Region) (t : List ℕ) (a pos q : ℕ) → refRule heap (needAt q (security .refs) (imageIn security t a)) (num t (a + q) 4) (num t (a + q + 4) 2) ≡ refFault 5 heap t a pos q
+pub security-plain : (heap : Region) (t : List ℕ) (a pos q : ℕ) → refRule heap (needAt q (security .refs) (imageIn security t a)) (referenceAt t (a + q) .at) (referenceAt t (a + q) .len) ≡ refFault 5 heap t a pos q
 unfolding refFault layoutOf security
 security-plain heap t a pos q = sym (plain-at heap (envIn t pos) t a (imageIn security t a) (security .refs) q tt)
 
-header-plain : (heap : Region) (t : List ℕ) (a pos q : ℕ) → refRule heap (plainNeed 0 q) (num t (a + q) 4) (num t (a + q + 4) 2) ≡ refFault 0 heap t a pos q
+header-plain : (heap : Region) (t : List ℕ) (a pos q : ℕ) → refRule heap (plainNeed 0 q) (referenceAt t (a + q) .at) (referenceAt t (a + q) .len) ≡ refFault 0 heap t a pos q
 unfolding refFault layoutOf plainNeed header
 header-plain heap t a pos q = sym (plain-at heap (envIn t pos) t a (imageIn header t a) (header .refs) q tt)
 
-control-plain : (heap : Region) (t : List ℕ) (a pos q : ℕ) → refRule heap (plainNeed 1 q) (num t (a + q) 4) (num t (a + q + 4) 2) ≡ refFault 1 heap t a pos q
+control-plain : (heap : Region) (t : List ℕ) (a pos q : ℕ) → refRule heap (plainNeed 1 q) (referenceAt t (a + q) .at) (referenceAt t (a + q) .len) ≡ refFault 1 heap t a pos q
 unfolding refFault layoutOf plainNeed control ruleAt
 control-plain heap t a pos q = refl
 
-host-plain : (heap : Region) (t : List ℕ) (a pos q : ℕ) → refRule heap (plainNeed 2 q) (num t (a + q) 4) (num t (a + q + 4) 2) ≡ refFault 2 heap t a pos q
+host-plain : (heap : Region) (t : List ℕ) (a pos q : ℕ) → refRule heap (plainNeed 2 q) (referenceAt t (a + q) .at) (referenceAt t (a + q) .len) ≡ refFault 2 heap t a pos q
 unfolding refFault layoutOf plainNeed host
 host-plain heap t a pos q = sym (plain-at heap (envIn t pos) t a (imageIn host t a) (host .refs) q tt)
 
-discovery-plain : (heap : Region) (t : List ℕ) (a pos q : ℕ) → refRule heap (plainNeed 6 q) (num t (a + q) 4) (num t (a + q + 4) 2) ≡ refFault 6 heap t a pos q
+discovery-plain : (heap : Region) (t : List ℕ) (a pos q : ℕ) → refRule heap (plainNeed 6 q) (referenceAt t (a + q) .at) (referenceAt t (a + q) .len) ≡ refFault 6 heap t a pos q
 unfolding refFault layoutOf plainNeed discovery
 discovery-plain heap t a pos q = sym (plain-at heap (envIn t pos) t a (imageIn discovery t a) (discovery .refs) q tt)
 
 -- the kinds that are left
 pub plain-left : (heap : Region) (t : List ℕ) (a pos q k : ℕ) → k ≤ 6 → (k ≡ 3 → ⊥) → (k ≡ 4 → ⊥) → (k ≡ 5 → ⊥)
-    → refRule heap (plainNeed k q) (num t (a + q) 4) (num t (a + q + 4) 2) ≡ refFault k heap t a pos q
+    → refRule heap (plainNeed k q) (referenceAt t (a + q) .at) (referenceAt t (a + q) .len) ≡ refFault k heap t a pos q
 plain-left heap t a pos q zero l x y z = header-plain heap t a pos q
 plain-left heap t a pos q (suc zero) l x y z = control-plain heap t a pos q
 plain-left heap t a pos q (suc (suc zero)) l x y z = host-plain heap t a pos q
