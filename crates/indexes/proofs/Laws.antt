@@ -123,7 +123,8 @@ ssns-names t a b =
     let e8 : getD (imageIn ssns t a) 8 0 ≡ getD t (a + 8) 0 = unfold imageIn ssns in (whole (ssns .shape .keep) t a 8 tt refl (b (a + 8))) in
     let e46 : getD (imageIn ssns t a) 46 0 ≡ getD t (a + 46) 0 = unfold imageIn ssns in (whole (ssns .shape .keep) t a 46 tt refl (b (a + 46))) in
     let s = slot-48 t a (imageIn ssns t a) in
-    four (zeroOr (validIn t 6) (getD t (a + 8) 0)) (eqb (num (imageIn ssns t a) 3 2 / 4 % 2) 0 || validIn t 5 (getD (imageIn ssns t a) 45 0)) (validIn t 3 (getD t (a + 46) 0)) (every (validIn t 3) (namedAt t (a + 48)))
+    four (zeroOr (validIn t 6) (getD t (a + 8) 0)) (eqb (num (imageIn ssns t a) 3 2 / 4 % 2) 0 || validIn t 5 (getD (imageIn ssns t a) 45 0))
+    (validIn t 3 (getD t (a + 46) 0)) (every (validIn t 3) (namedAt t (a + 48)))
     ∙ ssns-rule t a _ _ _ e8 e46 s
   where
     four : (x y z w : Bool) → firstOf (pick x 0 13) (firstOf (pick y 0 13) (firstOf (pick z 0 13) (pick w 0 13))) ≡ pick (x && (y && (z && w))) 0 13

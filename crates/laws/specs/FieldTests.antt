@@ -38,6 +38,7 @@ fixed-chain (e ∷ es) x r t =
     ∙ ap₂ (λ (c d : Bool). c && d) (fixed-at x (e .at) (e .put) (leb→le (e .at + length (e .put)) (length x) (u .0))) (fixed-chain es x r (u .1))
     ∙ same-then x (e .at) (e .put) (chain es x r)
 
-pub right-chain : (s : Shape) (e : Env) (x : List ℕ) → T (fixedIn (s .fixed) (length x)) → isRight s e x ≡ chain (s .fixed) x (eqb (num x (s .index .at) (s .index .len)) (e .position) && pairsRight s x)
+pub right-chain : (s : Shape) (e : Env) (x : List ℕ) → T (fixedIn (s .fixed) (length x)) → isRight s e x ≡ chain (s .fixed) x
+    (eqb (num x (s .index .at) (s .index .len)) (e .position) && pairsRight s x)
 unfolding isRight
 right-chain s e x t = fixed-chain (s .fixed) x _ t

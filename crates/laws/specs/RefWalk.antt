@@ -111,7 +111,8 @@ plain-at heap e t a img (plain p need content rest) q n = go (eqb q p) (plain-at
 plain-at heap e t a img (nest p need shape own rest) q n = go (eqb q p) n (λ m. plain-at heap e t a img rest q m) where
   go : (c : Bool) → T (not (c || nestAt q rest))
       → (T (not (nestAt q rest)) → ruleAt heap e t a img rest q ≡ refRule heap (needAt q rest img) (referenceAt t (a + q) .at) (referenceAt t (a + q) .len))
-      → pick c (nestRule heap (need img) shape e t (a + q) (refsRule heap e t (referenceAt t (a + q) .at) (image (shape .keep) (drop (referenceAt t (a + q) .at) t)) own)) (ruleAt heap e t a img rest q)
+      → pick c (nestRule heap (need img) shape e t (a + q) (refsRule heap e t (referenceAt t (a + q) .at) (image (shape .keep) (drop (referenceAt t (a + q) .at) t)) own))
+      (ruleAt heap e t a img rest q)
       ≡ refRule heap (pick c (need img) (needAt q rest img)) (referenceAt t (a + q) .at) (referenceAt t (a + q) .len)
   go true n z = absurd n
   go false n z = z n

@@ -149,7 +149,8 @@ record-in t c b i p h =
     let l = p .long (omega arith) in
     omega arith
 
-pub used-passes : (k : ℕ) (heap : Region) (t : List ℕ) (a pos : ℕ) → 2 ≤ k → k ≤ 6 → odd (getD t (a + layoutOf k .shape .flags .at) 0) ≡ true → recordFault k heap t a pos ≡ 0 → usedFault k heap t a pos ≡ 0
+pub used-passes : (k : ℕ) (heap : Region) (t : List ℕ) (a pos : ℕ) → 2 ≤ k → k ≤ 6 → odd (getD t (a + layoutOf k .shape .flags .at) 0) ≡ true → recordFault k heap t a pos
+    ≡ 0 → usedFault k heap t a pos ≡ 0
 used-passes k heap t a pos x y o e =
     sym (ap (λ (c : Bool). pick c (usedFault k heap t a pos) 0) o) ∙ record-by k heap t a pos x y ∙ e
 
@@ -217,6 +218,8 @@ module _ (t heap : List ℕ) (from a pos : ℕ) (h : IsHeap t heap from) where
         → Inside from (length heap) (num t (a + 60) 4) (num t (a + 60 + 4) 2) × (18 ≤ num t (a + 60 + 4) 2)
     go true f =
         let i = reached from (length heap) (num t (a + 60) 4) (num t (a + 60 + 4) 2) f in
-        let l = part-long (region from (length heap)) (spot pos) (extended .shape) (extended .refs) (part heap (num t (a + 60) 4 - from) (num t (a + 60 + 4) 2)) (extended-yes t heap from a pos h s f ∙ e) in
+        let l =
+        part-long (region from (length heap)) (spot pos) (extended .shape) (extended .refs) (part heap (num t (a + 60) 4 - from) (num t (a + 60 + 4) 2))
+        (extended-yes t heap from a pos h s f ∙ e) in
         (i, rw (part-length heap from (num t (a + 60) 4) (num t (a + 60 + 4) 2) i) at l)
     go false f = absurd (omega (arith, extended-no t heap from a pos h s f ∙ e))

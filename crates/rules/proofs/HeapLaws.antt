@@ -80,7 +80,8 @@ module _ (t heap : List ℕ) (from a pos : ℕ) (h : IsHeap t heap from) where
   info-no e = nested-no t heap from pos h (info .shape) (info .refs) tt (a + 16) e
 
   pub info-yes : reaches (region from (length heap)) (referenceAt t (a + 16) .at) (referenceAt t (a + 16) .len) ≡ true
-      → partRule (region from (length heap)) (spot pos) (info .shape) (info .refs) (part heap (referenceAt t (a + 16) .at - from) (referenceAt t (a + 16) .len)) ≡ refFault 3 (region from (length heap)) t a pos 16
+      → partRule (region from (length heap)) (spot pos) (info .shape) (info .refs) (part heap (referenceAt t (a + 16) .at - from) (referenceAt t (a + 16) .len))
+      ≡ refFault 3 (region from (length heap)) t a pos 16
   unfolding refFault layoutOf ruleAt hfi info
   info-yes e = nested-yes t heap from pos h (info .shape) (info .refs) tt (a + 16) e
 
@@ -99,7 +100,8 @@ module _ (t heap : List ℕ) (from a pos : ℕ) (h : IsHeap t heap from) where
   extended-no f e = rw f (nested-no t heap from pos h (extended .shape) (extended .refs) tt (a + 60) e)
 
   pub extended-yes : eqb (flags / 16 % 2) 0 ≡ false → reaches (region from (length heap)) (referenceAt t (a + 60) .at) (referenceAt t (a + 60) .len) ≡ true
-      → partRule (region from (length heap)) (spot pos) (extended .shape) (extended .refs) (part heap (referenceAt t (a + 60) .at - from) (referenceAt t (a + 60) .len)) ≡ refFault 4 (region from (length heap)) t a pos 60
+      → partRule (region from (length heap)) (spot pos) (extended .shape) (extended .refs) (part heap (referenceAt t (a + 60) .at - from) (referenceAt t (a + 60) .len))
+      ≡ refFault 4 (region from (length heap)) t a pos 60
   unfolding refFault layoutOf ruleAt ssns extended
   extended-yes f e = rw f (nested-yes t heap from pos h (extended .shape) (extended .refs) tt (a + 60) e)
 
@@ -116,7 +118,8 @@ ssns-plain heap t a pos q e =
     ap (λ (n : Need). refRule heap n (referenceAt t (a + q) .at) (referenceAt t (a + q) .len)) (ssns-need (imageIn ssns t a) q)
     ∙ sym (plain-at heap (envIn t pos) t a (imageIn ssns t a) (ssns .refs) q (rw e tt))
 
-pub security-plain : (heap : Region) (t : List ℕ) (a pos q : ℕ) → refRule heap (needAt q (security .refs) (imageIn security t a)) (referenceAt t (a + q) .at) (referenceAt t (a + q) .len) ≡ refFault 5 heap t a pos q
+pub security-plain : (heap : Region) (t : List ℕ) (a pos q : ℕ) → refRule heap (needAt q (security .refs) (imageIn security t a)) (referenceAt t (a + q) .at)
+    (referenceAt t (a + q) .len) ≡ refFault 5 heap t a pos q
 unfolding refFault layoutOf security
 security-plain heap t a pos q = sym (plain-at heap (envIn t pos) t a (imageIn security t a) (security .refs) q tt)
 

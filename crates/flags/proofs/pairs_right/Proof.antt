@@ -44,7 +44,9 @@ returns-3 : tie.Need-returns-3
 returns-3 c = rw (c .before .before .match .keys3, ← security-pairs (c .before .before .before .before .args .t .now) (c .before .before .before .before .args .a)) (cc)
 
 returns-4 : tie.Need-returns-4
-returns-4 c = pairs-none (c .before .before .args .kind) (imageIn (layoutOf (c .before .before .args .kind)) (c .before .before .args .t .now) (c .before .before .args .a)) (search picks) (search picks) (search picks)
+returns-4 c =
+    pairs-none (c .before .before .args .kind) (imageIn (layoutOf (c .before .before .args .kind)) (c .before .before .args .t .now) (c .before .before .args .a))
+    (search picks) (search picks) (search picks)
 
 pub pairs-right-spec : {M : Type 1} → statement M
 pairs-right-spec =

@@ -58,7 +58,8 @@ returns : tie.Need-returns Inv-loop μ-loop
 unfolding ownFaults
 returns c =
     let o = c .before .before .before .before .before .before .reference-offsets in
-    over-stop (F (c .before)) (o .result .count) (o .result .at) (o .ensures .0) (o .ensures .1) (c .before .before .before .before .loop-test .taken) (turn (c .before)) (c .if1 .taken) ∙ c .before .before .before .before .before .loop .inv .1
+    over-stop (F (c .before)) (o .result .count) (o .result .at) (o .ensures .0) (o .ensures .1) (c .before .before .before .before .loop-test .taken) (turn (c .before))
+    (c .if1 .taken) ∙ c .before .before .before .before .before .loop .inv .1
 
 add-i : tie.Need-add-i Inv-loop μ-loop
 add-i c = search picks
@@ -68,14 +69,18 @@ loop-less c = search picks
 
 loop-again : tie.Need-loop-again Inv-loop μ-loop
 loop-again c =
-    let o = c .before .before .before .before .before .before .reference-offsets in
-    (search picks, over-more (F (c .before)) (o .result .count) (o .result .at) (o .ensures .0) (o .ensures .1) (c .before .before .before .before .loop-test .taken) (turn (c .before)) (c .if1 .left) ∙ c .before .before .before .before .before .loop .inv .1)
+    let o = c .before .before .before .before .before .before .reference-offsets in (
+      search picks,
+      over-more (F (c .before)) (o .result .count) (o .result .at) (o .ensures .0) (o .ensures .1) (c .before .before .before .before .loop-test .taken)
+          (turn (c .before)) (c .if1 .left) ∙ c .before .before .before .before .before .loop .inv .1,
+    )
 
 returns-2 : tie.Need-returns-2 Inv-loop μ-loop
 unfolding ownFaults
 returns-2 c =
     let s = c .before .before .before .before .args in
-    over-none (ownFault (s .kind) (region (s .from) (s .n)) (s .x .now)) (offsets (layoutOf (s .kind) .refs)) (c .before .loop .i) (omega (arith, c .before .before .reference-offsets .ensures .1)) ∙ c .before .loop .inv .1
+    over-none (ownFault (s .kind) (region (s .from) (s .n)) (s .x .now)) (offsets (layoutOf (s .kind) .refs)) (c .before .loop .i)
+    (omega (arith, c .before .before .reference-offsets .ensures .1)) ∙ c .before .loop .inv .1
 
 pub own-fault-spec : {M : Type 1} → statement M
 own-fault-spec =

@@ -14,7 +14,10 @@ secondaries-fault-requires : tie.Need-secondaries-fault-requires
 secondaries-fault-requires c κs = search needs
 
 returns : tie.Need-returns
-returns c = let s = c .before .before .before .before in (rw (c .before .part-at .ensures) at (c .secondaries-fault .ensures)) ∙ secondary-part (s .args .t .now) (s .args .heap .now) (s .args .from) (s .args .a) (s .args .position) (s .pre .2) (s .pre .3)
+returns c =
+    let s = c .before .before .before .before in
+    (rw (c .before .part-at .ensures) at (c .secondaries-fault .ensures)) ∙ secondary-part (s .args .t .now) (s .args .heap .now) (s .args .from) (s .args .a)
+    (s .args .position) (s .pre .2) (s .pre .3)
 
 pub secondary-names-spec : {M : Type 1} → statement M
 secondary-names-spec =

@@ -11,7 +11,8 @@ use borrow.Author.Needs.{needs}
 use Rattle.names.proofs.discovery_names.Statement.{statement}
 use Rattle.names.proofs.discovery_names.Tie as tie
 
-interface : (c : tie.After-index-fault) → let t = c .before .before .before .before .args .t .now in c .index-fault .result ≡ pick (validIn t 3 (getD t (c .before .before .before .before .args .a + 3) 0)) 0 13
+interface : (c : tie.After-index-fault) → let t = c .before .before .before .before .args .t .now in c .index-fault .result ≡ pick
+    (validIn t 3 (getD t (c .before .before .before .before .args .a + 3) 0)) 0 13
 interface c = cc
 
 add-wide : tie.Need-add-wide
@@ -27,7 +28,9 @@ index-fault-requires : tie.Need-index-fault-requires
 index-fault-requires c κs = search needs
 
 returns : tie.Need-returns
-returns c = stop _ (interface (c .before)) (c .if1 .taken) ∙ discovery-names (c .before .before .before .before .before .args .t .now) (c .before .before .before .before .before .args .a) (λ i. omega (arith, c .before .before .before .before .shared-slice-known .given i))
+returns c =
+    stop _ (interface (c .before)) (c .if1 .taken) ∙ discovery-names (c .before .before .before .before .before .args .t .now)
+    (c .before .before .before .before .before .args .a) (λ i. omega (arith, c .before .before .before .before .shared-slice-known .given i))
 
 add-wide-2 : tie.Need-add-wide-2
 add-wide-2 c = search needs
@@ -42,7 +45,13 @@ optional-index-requires : tie.Need-optional-index-requires
 optional-index-requires c κs = search needs
 
 returns-2 : tie.Need-returns-2
-returns-2 c = let t = c .before .before .before .before .before .before .before .before .args .t .now in let e : c .optional-index .result ≡ pick (zeroOr (validIn t 5) (getD t (c .before .before .before .before .before .before .before .before .args .a + 4) 0)) 0 13 = cc in more (interface (c .before .before .before .before)) (c .before .before .before .if1 .left) e ∙ discovery-names (c .before .before .before .before .before .before .before .before .args .t .now) (c .before .before .before .before .before .before .before .before .args .a) (λ i. omega (arith, c .before .before .before .before .before .before .before .shared-slice-known .given i))
+returns-2 c =
+    let t = c .before .before .before .before .before .before .before .before .args .t .now in
+    let e : c .optional-index .result ≡ pick (zeroOr (validIn t 5)
+    (getD t (c .before .before .before .before .before .before .before .before .args .a + 4) 0)) 0 13 = cc in
+    more (interface (c .before .before .before .before)) (c .before .before .before .if1 .left) e ∙ discovery-names
+    (c .before .before .before .before .before .before .before .before .args .t .now) (c .before .before .before .before .before .before .before .before .args .a)
+    (λ i. omega (arith, c .before .before .before .before .before .before .before .shared-slice-known .given i))
 
 pub discovery-names-spec : {M : Type 1} → statement M
 discovery-names-spec =

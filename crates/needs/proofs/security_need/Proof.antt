@@ -22,7 +22,13 @@ security-judge-requires : tie.Need-security-judge-requires
 security-judge-requires c κs = search needs
 
 returns : tie.Need-returns
-returns c = rw (← security-need (imageIn security (c .before .before .before .before .before .args .t .now) (c .before .before .before .before .before .args .a)) (c .before .before .before .before .before .args .off), security-secret (c .before .before .before .before .before .args .t .now) (c .before .before .before .before .before .args .a)) (cc)
+returns c =
+    rw (
+      ← security-need (imageIn security (c .before .before .before .before .before .args .t .now) (c .before .before .before .before .before .args .a))
+          (c .before .before .before .before .before .args .off),
+      security-secret (c .before .before .before .before .before .args .t .now)
+          (c .before .before .before .before .before .args .a),
+    ) (cc)
 
 pub security-need-spec : {M : Type 1} → statement M
 security-need-spec =

@@ -18,7 +18,8 @@ there c =
     let x = referenceAt (s .t .now) (s .r) in
     ref-part (region (s .from) (length (s .heap .now))) (x .at) (x .len) _ _ (sym (c .before .before .before .ref-at .ensures) ∙ c .before .x .given .1)
 
-inside : (c : tie.After-known-told) → let s = c .before .before .before .before .before .before .args in Inside (s .from) (length (s .heap .now)) (c .before .x .given .0 .0) (c .before .x .given .0 .1 .0)
+inside : (c : tie.After-known-told) → let s = c .before .before .before .before .before .before .args in Inside (s .from) (length (s .heap .now))
+    (c .before .x .given .0 .0) (c .before .x .given .0 .1 .0)
 inside c =
     let s = c .before .before .before .before .before .before .args in
     let x = referenceAt (s .t .now) (s .r) in
@@ -58,13 +59,26 @@ part-result-end : tie.Need-part-result-end
 part-result-end c = omega (arith, inside c)
 
 returns : tie.Need-returns
-returns c = let s = c .before .before .before .before .before .before .args in let x = referenceAt (s .t .now) (s .r) in part-no (s .heap .now) (s .from) (x .at) (x .len) (ref-absent (region (s .from) (length (s .heap .now))) (x .at) (x .len) (sym (c .before .before .before .ref-at .ensures) ∙ c .before .enum-told .given .1))
+returns c =
+    let s = c .before .before .before .before .before .before .args in
+    let x = referenceAt (s .t .now) (s .r) in
+    part-no (s .heap .now) (s .from) (x .at) (x .len)
+    (ref-absent (region (s .from) (length (s .heap .now))) (x .at) (x .len) (sym (c .before .before .before .ref-at .ensures) ∙ c .before .enum-told .given .1))
 
 returns-2 : tie.Need-returns-2
-returns-2 c = let s = c .before .before .before .before .before .before .args in let x = referenceAt (s .t .now) (s .r) in part-no (s .heap .now) (s .from) (x .at) (x .len) (ref-wrong (region (s .from) (length (s .heap .now))) (x .at) (x .len) (sym (c .before .before .before .ref-at .ensures) ∙ c .before .enum-told2 .given .1))
+returns-2 c =
+    let s = c .before .before .before .before .before .before .args in
+    let x = referenceAt (s .t .now) (s .r) in
+    part-no (s .heap .now) (s .from) (x .at) (x .len)
+    (ref-wrong (region (s .from) (length (s .heap .now))) (x .at) (x .len) (sym (c .before .before .before .ref-at .ensures) ∙ c .before .enum-told2 .given .1))
 
 returns-3 : tie.Need-returns-3
-returns-3 c = let s = c .before .before .before .before .before .before .before .args in let x = referenceAt (s .t .now) (s .r) in let f = there (c .before) in rw (add-sub-cancel-left (c .before .before .x .given .0 .0 - s .from) (c .before .before .x .given .0 .1 .0), f .1, f .2) (part-yes (s .heap .now) (s .from) (x .at) (x .len) (f .0))
+returns-3 c =
+    let s = c .before .before .before .before .before .before .before .args in
+    let x = referenceAt (s .t .now) (s .r) in
+    let f = there (c .before) in
+    rw (add-sub-cancel-left (c .before .before .x .given .0 .0 - s .from) (c .before .before .x .given .0 .1 .0), f .1, f .2)
+    (part-yes (s .heap .now) (s .from) (x .at) (x .len) (f .0))
 
 pub part-at-spec : {M : Type 1} → statement M
 part-at-spec =
