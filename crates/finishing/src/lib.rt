@@ -1,6 +1,7 @@
 // The end of a build. The reader judges the bytes as they would be: they are stored, judged, and put back where it refuses them (D82).
 use steps::judging::refused;
 use table::Answer;
+use table::SHORTEST;
 use table::State;
 use table::Step;
 use writer::checksum::seal;
@@ -22,9 +23,9 @@ fn judge_finished(out: &mut [u8], s: State) -> Answer
     ensures { λ r. ⌜ (r ≡ check (take (s .used) (sealed s (now (out .entry))))) × (now (out .exit) ≡ pick (eqb (r .number) 0) (sealed s (now (out .entry))) (now (out .entry))) ⌝ }
 {
     let used = s.used;
-    let heap = wire::u32_at(&out[0..160], 40);
+    let heap = wire::u32_at(&out[0..SHORTEST], 40);
     put_u32(out, 40, used - turns::records_end(s));
-    let length = wire::u32_at(&out[0..160], 4);
+    let length = wire::u32_at(&out[0..SHORTEST], 4);
     put_u32(out, 4, used);
     let sum = out[9];
     put_u8(out, 9, 0);
@@ -41,7 +42,7 @@ fn judge_finished(out: &mut [u8], s: State) -> Answer
 pub fn finish(out: &mut [u8], s: State) -> Step
     ensures { λ r. ⌜ (r ≡ definition.finish s (now (out .entry)) .step) × (now (out .exit) ≡ definition.finish s (now (out .entry)) .buffer) ⌝ }
 {
-    if !turns::waits(s, 7) {
+    if !turns::waits(s, turns::FINISHING) {
         return refused(table::refuse(15, 0, 0), s);
     }
     if s.used > out.len() {

@@ -1,4 +1,6 @@
 // Header and control record, each into its own part.
+use table::Control;
+use table::Header;
 use writer::records::put_slot;
 use writer::stores::copy_into;
 use writer::stores::fill_zero;
@@ -11,6 +13,30 @@ ghost use Prim.Native.Nat.{_+_, _≤_};
 ghost use lib.ListN.{length};
 ghost use Rattle.table.specs.Bytes.{le, splice};
 ghost use Rattle.front.specs.Front.{headerFor, entryFor, controlFor};
+
+// The header's bytes behind the reference to the driver signature are reserved.
+const HEADER_REST: usize = 50;
+
+const HEADER_RESERVED: usize = Header::SIZE - HEADER_REST;
+
+// The low byte of the control record's own length; the other is 0.
+const CONTROL_LENGTH: u8 = Control::SIZE as u8;
+
+// Where the entries stand in the control record's own part; its offsets are the table's.
+const HOST: usize = Control::HOST - Header::SIZE;
+
+const HFI_LIST: usize = Control::HFI_LIST - Header::SIZE;
+
+const SSNS_LIST: usize = Control::SSNS_LIST - Header::SIZE;
+
+const SECURITY_LIST: usize = Control::SECURITY_LIST - Header::SIZE;
+
+const DISCOVERY_LIST: usize = Control::DISCOVERY_LIST - Header::SIZE;
+
+// The bytes behind the last entry are reserved.
+const CONTROL_REST: usize = DISCOVERY_LIST + 8;
+
+const CONTROL_RESERVED: usize = Control::SIZE - CONTROL_REST;
 
 // How many records each list has.
 pub struct Counts {
@@ -27,8 +53,7 @@ pub fn write_header(part: &mut [u8], oem: &[u8], n: usize, h: usize, k: usize, d
     requires { ⌜ length (now oem) ≡ 26 ⌝ }
     ensures { λ r. ⌜ now (part .exit) ≡ headerFor n (now (oem .entry)) h k d ⌝ }
 {
-    let signature = [0x4Eu8, 0x42, 0x46, 0x54];
-    copy_into(part, 0, &signature);
+    put_u32(part, 0, table::SIGNATURE);
     put_u32(part, 4, n);
     put_u8(part, 8, 1);
     put_u8(part, 9, 0);
@@ -36,7 +61,7 @@ pub fn write_header(part: &mut [u8], oem: &[u8], n: usize, h: usize, k: usize, d
     put_u32(part, 36, h);
     put_u32(part, 40, k);
     put_slot(part, 44, h, d);
-    fill_zero(part, 50, 14);
+    fill_zero(part, HEADER_REST, HEADER_RESERVED);
 }
 
 // Place, record size, version 1 and last byte: a list's entry has its count there, the host's a reserved byte.
@@ -68,19 +93,31 @@ pub fn write_control(part: &mut [u8], c: Counts)
     ensures { λ r. ⌜ now (part .exit) ≡ controlFor (c .hfi ∷ c .ssns ∷ c .security ∷ c .discovery ∷ []) ⌝ }
 {
     // ID, revision 1.0, a reserved byte, the record's own length, flags: valid, a reserved byte.
-    let lead = [table::Control::ID, 1, 0, 0, 64, 0, 1, 0];
+    let lead = [Control::ID, 1, 0, 0, CONTROL_LENGTH, 0, 1, 0];
     let host = table::FRONT;
     let hfi = table::SHORTEST;
     let ssns = hfi + (c.hfi as usize) * table::Hfi::SIZE;
     let security = ssns + (c.ssns as usize) * table::Ssns::SIZE;
     let discovery = security + (c.security as usize) * table::Security::SIZE;
     copy_into(part, 0, &lead);
-    put_place(part, 8, host, table::Host::SIZE, 0);
-    put_entry(part, 16, hfi, table::Hfi::SIZE, c.hfi);
-    put_entry(part, 24, ssns, table::Ssns::SIZE, c.ssns);
-    put_entry(part, 32, security, table::Security::SIZE, c.security);
-    put_entry(part, 40, discovery, table::Discovery::SIZE, c.discovery);
-    fill_zero(part, 48, 16);
+    put_place(part, HOST, host, table::Host::SIZE, 0);
+    put_entry(part, HFI_LIST, hfi, table::Hfi::SIZE, c.hfi);
+    put_entry(part, SSNS_LIST, ssns, table::Ssns::SIZE, c.ssns);
+    put_entry(
+        part,
+        SECURITY_LIST,
+        security,
+        table::Security::SIZE,
+        c.security,
+    );
+    put_entry(
+        part,
+        DISCOVERY_LIST,
+        discovery,
+        table::Discovery::SIZE,
+        c.discovery,
+    );
+    fill_zero(part, CONTROL_REST, CONTROL_RESERVED);
 }
 
 // Both, into the first bytes of `out`.
@@ -88,6 +125,6 @@ pub fn write_front(out: &mut [u8], oem: &[u8], c: Counts, n: usize, h: usize, k:
     requires { ⌜ (128 ≤ length (now out)) × (length (now oem) ≡ 26) ⌝ }
     ensures { λ r. ⌜ now (out .exit) ≡ splice (splice (now (out .entry)) 0 (headerFor n (now (oem .entry)) h k d)) 64 (controlFor (c .hfi ∷ c .ssns ∷ c .security ∷ c .discovery ∷ [])) ⌝ }
 {
-    write_header(&mut out[0..64], oem, n, h, k, d);
-    write_control(&mut out[64..128], c);
+    write_header(&mut out[0..Header::SIZE], oem, n, h, k, d);
+    write_control(&mut out[Header::SIZE..table::FRONT], c);
 }

@@ -33,6 +33,7 @@ ghost use Rattle.table.specs.Bytes.{splice};
 ghost use Rattle.table.specs.Layout.{baseOf};
 ghost use Rattle.table.specs.FixedLayouts as layouts;
 ghost use Rattle.table.specs.Objects.{under};
+ghost use Rattle.table.specs.Meaning.{limit};
 ghost use Rattle.table.specs.Builder.{waits};
 ghost use Rattle.laws.specs.Fields.{imageIn};
 ghost use Rattle.steps.specs.Steps.{laid};
@@ -118,7 +119,7 @@ fn ssns_fault(
 
 // The extended info told in `e` at `at`, and behind it its root path; nothing where it is to have no bytes.
 fn lay_extended(out: &mut [u8], at: usize, size: usize, e: &[u8], path: &[u8])
-    requires { ⌜ (length (now e) ≡ baseOf layouts.extended) × (length (now path) ≤ 65535) × (at ≤ 65536) × (at + extendedSize size (now path) ≤ length (now out)) ⌝ }
+    requires { ⌜ (length (now e) ≡ baseOf layouts.extended) × (length (now path) ≤ 65535) × (at ≤ limit) × (at + extendedSize size (now path) ≤ length (now out)) ⌝ }
     ensures { λ r. ⌜ now (out .exit) ≡ splice (now (out .entry)) at (extendedPart (now (e .entry)) at size (now (path .entry))) ⌝ }
 {
     if size == 0 {
@@ -142,7 +143,7 @@ fn lay_named(
     path: &[u8],
 )
     requires { ⌜ (length (now e) ≡ baseOf layouts.extended) × (length (now path) ≤ 65535) ⌝ }
-    requires { ⌜ (u + (length (now address) + length (now service) + length (now others) + length (now nqn) + extendedSize size (now path)) ≤ 65536) × (u + (length (now address) + length (now service) + length (now others) + length (now nqn) + extendedSize size (now path)) ≤ length (now out)) ⌝ }
+    requires { ⌜ (u + (length (now address) + length (now service) + length (now others) + length (now nqn) + extendedSize size (now path)) ≤ limit) × (u + (length (now address) + length (now service) + length (now others) + length (now nqn) + extendedSize size (now path)) ≤ length (now out)) ⌝ }
     ensures { λ r. ⌜ now (out .exit) ≡ splice (now (out .entry)) u (namedPart u (now (address .entry)) (now (service .entry)) (now (others .entry)) (now (nqn .entry)) size (now (e .entry)) (now (path .entry))) ⌝ }
 {
     let none = &nqn[0..0];

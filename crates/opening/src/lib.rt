@@ -3,6 +3,8 @@ use front::Counts;
 use front::write_front;
 use room::room_fault;
 use steps::judging::refused;
+use table::FRONT;
+use table::Host;
 use table::Need;
 use table::State;
 use table::Step;
@@ -49,7 +51,7 @@ fn lay_opened(out: &mut [u8], oem: [u8; 26], c: Counts, h: usize, signature: &[u
     ensures { λ r. ⌜ now (out .exit) ≡ splice (now (out .entry)) 0 (laidOut (opened oem (c .hfi ∷ c .ssns ∷ c .security ∷ c .discovery ∷ []) (headerTold (now (signature .entry)))) 0 0 0) ⌝ }
 {
     write_front(out, &oem, c, 0, h, 0, signature.len());
-    fill_zero(out, 128, h - 128);
+    fill_zero(out, FRONT, h - FRONT);
     copy_into(out, h, signature);
 }
 
@@ -57,7 +59,7 @@ fn begun_state(c: Counts, used: usize) -> State
     ensures { λ r. ⌜ (r ≡ begun (c .hfi ∷ c .ssns ∷ c .security ∷ c .discovery ∷ []) used) × SmallCounts c ⌝ }
 {
     State {
-        turn: 2,
+        turn: Host::ID as u16,
         position: 0,
         hfi: c.hfi,
         ssns: c.ssns,

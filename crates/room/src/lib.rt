@@ -10,7 +10,7 @@ ghost use Rattle.table.specs.Meaning.{limit};
 pub fn room_fault(n: usize, room: usize) -> Answer
     ensures { λ r. ⌜ r ≡ firstFail (test (leb n limit) 17 0 0 ∷ test (leb n room) 14 0 0 ∷ []) ⌝ }
 {
-    if n > 65536 {
+    if n > table::LIMIT {
         return table::refuse(17, 0, 0);
     }
     if n > room {

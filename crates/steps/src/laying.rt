@@ -8,6 +8,7 @@ ghost use mathlib.Core.List.{[], _∷_};
 ghost use Prim.Native.Nat.{_+_, _≤_};
 ghost use lib.ListN.{length};
 ghost use Rattle.table.specs.Bytes.{splice};
+ghost use Rattle.table.specs.Meaning.{limit};
 ghost use Rattle.table.specs.Builder as definition;
 ghost use Rattle.writer.proofs.StoreLaws.{concat};
 
@@ -39,7 +40,7 @@ pub fn lay_pieces(
 
 // A done call hands back the next state: `n` bytes of objects and heap records were written.
 pub fn stepped(a: Answer, s: State, n: usize) -> Step
-    requires { ⌜ s .used + n ≤ 65536 ⌝ }
+    requires { ⌜ s .used + n ≤ limit ⌝ }
     ensures { λ r. ⌜ (r .answer ≡ a) × (r .state ≡ definition.next s n) ⌝ }
 {
     let state = turns::next(s, n);

@@ -77,41 +77,41 @@ fn mark(b: &mut [u8], kind: u8, n: usize)
 }
 
 // Host, HFI and discovery records by value.
-pub fn mark_32(x: [u8; 32], kind: u8, n: usize) -> [u8; 32]
+pub fn mark_32(x: [u8; Host::SIZE], kind: u8, n: usize) -> [u8; Host::SIZE]
     requires { ⌜ Tellable kind × (baseOf (layoutOf kind) ≡ 32) ⌝ }
     ensures { λ r. ⌜ (r ≡ marked (layoutOf kind .shape) n x) × (length x ≡ 32) × (length r ≡ 32) ⌝ }
 {
     let mut b = x;
-    mark(&mut b[0..32], kind, n);
+    mark(&mut b[0..Host::SIZE], kind, n);
     b
 }
 
 // Security records by value.
-pub fn mark_64(x: [u8; 64], kind: u8, n: usize) -> [u8; 64]
+pub fn mark_64(x: [u8; Security::SIZE], kind: u8, n: usize) -> [u8; Security::SIZE]
     requires { ⌜ Tellable kind × (baseOf (layoutOf kind) ≡ 64) ⌝ }
     ensures { λ r. ⌜ (r ≡ marked (layoutOf kind .shape) n x) × (length x ≡ 64) × (length r ≡ 64) ⌝ }
 {
     let mut b = x;
-    mark(&mut b[0..64], kind, n);
+    mark(&mut b[0..Security::SIZE], kind, n);
     b
 }
 
 // SSNS records and transport info by value.
-pub fn mark_128(x: [u8; 128], kind: u8, n: usize) -> [u8; 128]
+pub fn mark_128(x: [u8; Ssns::SIZE], kind: u8, n: usize) -> [u8; Ssns::SIZE]
     requires { ⌜ Tellable kind × (baseOf (layoutOf kind) ≡ 128) ⌝ }
     ensures { λ r. ⌜ (r ≡ marked (layoutOf kind .shape) n x) × (length x ≡ 128) × (length r ≡ 128) ⌝ }
 {
     let mut b = x;
-    mark(&mut b[0..128], kind, n);
+    mark(&mut b[0..Ssns::SIZE], kind, n);
     b
 }
 
 // Extended info by value.
-pub fn mark_18(x: [u8; 18], kind: u8, n: usize) -> [u8; 18]
+pub fn mark_18(x: [u8; Extended::SIZE], kind: u8, n: usize) -> [u8; Extended::SIZE]
     requires { ⌜ Tellable kind × (baseOf (layoutOf kind) ≡ 18) ⌝ }
     ensures { λ r. ⌜ (r ≡ marked (layoutOf kind .shape) n x) × (length x ≡ 18) × (length r ≡ 18) ⌝ }
 {
     let mut b = x;
-    mark(&mut b[0..18], kind, n);
+    mark(&mut b[0..Extended::SIZE], kind, n);
     b
 }

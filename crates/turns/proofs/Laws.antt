@@ -157,6 +157,11 @@ pub list-kind : (k : ℕ) → k ≤ 6 → (k ≡ 2 → ⊥) → (eqb k 2 || eqb 
 list-kind k l n = rw (ne-eqb k 2 n, ne-eqb k 7 (λ e. omega arith)) refl
 
 -- the bytes used of a state that waits
+-- the limit's number
+pub in-limit : (n : ℕ) → n ≤ 65536 → n ≤ limit
+unfolding limit
+in-limit n h = h
+
 pub used-bounds : (s : State) (k : ℕ) → waits s k ≡ true → (recordsEnd s ≤ s .used) × (s .used ≤ 65536)
 unfolding waits limit
 used-bounds s k w =

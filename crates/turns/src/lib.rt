@@ -2,6 +2,7 @@
 use table::Discovery;
 use table::FRONT;
 use table::Hfi;
+use table::Host;
 use table::LIMIT;
 use table::SHORTEST;
 use table::Security;
@@ -15,19 +16,35 @@ ghost use lib.Dec.{eqb};
 ghost use Rattle.table.specs.Bytes.{pick};
 ghost use Rattle.table.specs.Layout.{baseOf};
 ghost use Rattle.table.specs.FixedLayouts.{layoutOf, listKinds};
+ghost use Rattle.table.specs.Meaning.{limit};
 ghost use Rattle.table.specs.Builder.{counts, countOf, recordsEnd, startOf, turn, firstTurn, moved, inList};
 ghost use Rattle.table.specs.Builder as definition;
 ghost use Rattle.turns.specs.Turns.{inPlace, laterTurn};
+
+// A state's turn is the kind of the record that it waits for, or one of two more.
+const HOST: u16 = Host::ID as u16;
+
+const HFI: u16 = Hfi::ID as u16;
+
+const SSNS: u16 = Ssns::ID as u16;
+
+const SECURITY: u16 = Security::ID as u16;
+
+const DISCOVERY: u16 = Discovery::ID as u16;
+
+pub const FINISHING: u16 = 7;
+
+const FINISHED: u16 = 8;
 
 // How many records there are to be of a kind.
 pub fn count_of(s: State, kind: u16) -> usize
     ensures { λ r. ⌜ (r ≡ countOf listKinds (counts s) kind) × (r ≤ 255) ⌝ }
 {
     match kind {
-        3 => s.hfi as usize,
-        4 => s.ssns as usize,
-        5 => s.security as usize,
-        6 => s.discovery as usize,
+        HFI => s.hfi as usize,
+        SSNS => s.ssns as usize,
+        SECURITY => s.security as usize,
+        DISCOVERY => s.discovery as usize,
         _ => 0,
     }
 }
@@ -45,7 +62,7 @@ pub fn records_end(s: State) -> usize
 
 // The position is one of the list whose turn it is.
 fn in_list(s: State) -> bool
-    ensures { λ r. ⌜ (r ≡ inList s) × (inList s ≡ true → s .position ≤ 255) ⌝ }
+    ensures { λ r. ⌜ r ≡ inList s ⌝ }
 {
     let p = s.position as usize;
     if p < 1 {
@@ -56,12 +73,12 @@ fn in_list(s: State) -> bool
 
 // Host and finish have no position.
 fn in_place(s: State, kind: u16) -> bool
-    ensures { λ r. ⌜ (r ≡ inPlace s kind) × (inPlace s kind ≡ true → s .position ≤ 255) ⌝ }
+    ensures { λ r. ⌜ r ≡ inPlace s kind ⌝ }
 {
-    if kind == 2 {
+    if kind == HOST {
         return s.position == 0;
     }
-    if kind == 7 {
+    if kind == FINISHING {
         return s.position == 0;
     }
     in_list(s)
@@ -69,7 +86,7 @@ fn in_place(s: State, kind: u16) -> bool
 
 // Whether this is a possible begun state that waits for a record of a kind, or (7) for finish.
 pub fn waits(s: State, kind: u16) -> bool
-    ensures { λ r. ⌜ (r ≡ definition.waits s kind) × (definition.waits s kind ≡ true → s .position ≤ 255) ⌝ }
+    ensures { λ r. ⌜ r ≡ definition.waits s kind ⌝ }
 {
     if s.turn != kind {
         return false;
@@ -88,18 +105,18 @@ fn first_list(hfi: u8, ssns: u8, security: u8, discovery: u8) -> u16
     ensures { λ r. ⌜ turn r (pick (eqb r 7) 0 1) ≡ firstTurn listKinds (hfi ∷ ssns ∷ security ∷ discovery ∷ []) ⌝ }
 {
     if hfi != 0 {
-        return 3;
+        return HFI;
     }
     if ssns != 0 {
-        return 4;
+        return SSNS;
     }
     if security != 0 {
-        return 5;
+        return SECURITY;
     }
     if discovery != 0 {
-        return 6;
+        return DISCOVERY;
     }
-    7
+    FINISHING
 }
 
 // The same of the lists behind the one whose turn it is.
@@ -108,11 +125,11 @@ fn later_list(s: State) -> u16
 {
     let turn = s.turn;
     match turn {
-        2 => first_list(s.hfi, s.ssns, s.security, s.discovery),
-        3 => first_list(0, s.ssns, s.security, s.discovery),
-        4 => first_list(0, 0, s.security, s.discovery),
-        5 => first_list(0, 0, 0, s.discovery),
-        _ => 7,
+        HOST => first_list(s.hfi, s.ssns, s.security, s.discovery),
+        HFI => first_list(0, s.ssns, s.security, s.discovery),
+        SSNS => first_list(0, 0, s.security, s.discovery),
+        SECURITY => first_list(0, 0, 0, s.discovery),
+        _ => FINISHING,
     }
 }
 
@@ -132,7 +149,7 @@ fn moved_to(s: State, kind: u16, position: u16, used: usize) -> State
 
 // The state behind a done call that wrote `n` bytes of objects and heap records.
 pub fn next(s: State, n: usize) -> State
-    requires { ⌜ s .used + n ≤ 65536 ⌝ }
+    requires { ⌜ s .used + n ≤ limit ⌝ }
     ensures { λ r. ⌜ r ≡ definition.next s n ⌝ }
 {
     let used = s.used + n;
@@ -140,8 +157,8 @@ pub fn next(s: State, n: usize) -> State
         return moved_to(s, s.turn, s.position + 1, used);
     }
     let kind = later_list(s);
-    if kind == 7 {
-        return moved_to(s, 7, 0, used);
+    if kind == FINISHING {
+        return moved_to(s, FINISHING, 0, used);
     }
     moved_to(s, kind, 1, used)
 }
@@ -150,7 +167,7 @@ pub fn next(s: State, n: usize) -> State
 pub fn finished(s: State) -> State
     ensures { λ r. ⌜ r ≡ moved s (turn definition.finished 0) (s .used) ⌝ }
 {
-    moved_to(s, 8, 0, s.used)
+    moved_to(s, FINISHED, 0, s.used)
 }
 
 // Where the first record of a list stands.
@@ -162,10 +179,10 @@ fn list_start(s: State, kind: u8) -> usize
     let security = ssns + (s.ssns as usize) * Ssns::SIZE;
     let discovery = security + (s.security as usize) * Security::SIZE;
     match kind {
-        3 => hfi,
-        4 => ssns,
-        5 => security,
-        6 => discovery,
+        Hfi::ID => hfi,
+        Ssns::ID => ssns,
+        Security::ID => security,
+        Discovery::ID => discovery,
         _ => discovery + (s.discovery as usize) * Discovery::SIZE,
     }
 }
@@ -175,15 +192,15 @@ pub fn place_of(s: State, kind: u8) -> usize
     requires { ⌜ (2 ≤ kind) × (kind ≤ 6) × (definition.waits s kind ≡ true) ⌝ }
     ensures { λ r. ⌜ (r ≡ definition.placeOf s (layoutOf kind)) × (r + baseOf (layoutOf kind) ≤ recordsEnd s) ⌝ }
 {
-    if kind == 2 {
+    if kind == Host::ID {
         return FRONT;
     }
     let i = (s.position as usize) - 1;
     let start = list_start(s, kind);
     match kind {
-        3 => start + i * Hfi::SIZE,
-        4 => start + i * Ssns::SIZE,
-        5 => start + i * Security::SIZE,
+        Hfi::ID => start + i * Hfi::SIZE,
+        Ssns::ID => start + i * Ssns::SIZE,
+        Security::ID => start + i * Security::SIZE,
         _ => start + i * Discovery::SIZE,
     }
 }

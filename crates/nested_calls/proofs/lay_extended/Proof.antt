@@ -1,3 +1,4 @@
+use Rattle.table.specs.Meaning.{limit}
 use mathlib.Core.Path.{_≡_, refl, sym, ap, _∙_}
 use mathlib.Core.List.{[], _∷_}
 use Prim.Native.Nat.{ℕ, _+_, _≤_}
@@ -18,6 +19,7 @@ returns c =
     splice-none (a .out .now) (a .at) ∙ ap (splice (a .out .now) (a .at)) (sym (extended-none (a .e .now) (a .at) (a .size) (a .path .now) (c .if1 .taken)))
 
 add-end : tie.Need-add-end
+unfolding limit
 add-end c = search needs
 
 sub-write-extended : tie.Need-sub-write-extended
@@ -30,7 +32,7 @@ part-write-extended-end : tie.Need-part-write-extended-end
 part-write-extended-end c = let s = c .before .before .before .before in omega (arith, s .pre .3, extended-long (s .args .size) (s .args .path .now) (c .if1 .left))
 
 write-extended-requires : tie.Need-write-extended-requires
-unfolding extended
+unfolding extended limit
 write-extended-requires c κs =
     let s = c .before .before .before .before .before in
     let a = s .args in

@@ -1,3 +1,4 @@
+use Rattle.table.specs.Meaning.{limit}
 use mathlib.Core.Path.{_≡_, ap, _∙_}
 use mathlib.Core.List.{List, [], _∷_}
 use Prim.Native.Nat.{ℕ, _+_}
@@ -28,18 +29,23 @@ lay-pieces-requires c κs =
     omega (arith, s .pre .1, six-long (a .address .now) (a .service .now) (a .others .now) (a .nqn .now) [] [])
 
 add-at : tie.Need-add-at
+unfolding limit
 add-at c = omega (arith, c .before .before .before .before .before .before .before .before .before .before .before .before .pre .1)
 
 add-at-2 : tie.Need-add-at-2
+unfolding limit
 add-at-2 c = omega (arith, c .before .before .before .before .before .before .before .before .before .before .before .before .pre .1)
 
 add-at-3 : tie.Need-add-at-3
+unfolding limit
 add-at-3 c = omega (arith, c .before .before .before .before .before .before .before .before .before .before .before .before .pre .1)
 
 add-at-4 : tie.Need-add-at-4
+unfolding limit
 add-at-4 c = omega (arith, c .before .before .before .before .before .before .before .before .before .before .before .before .pre .1)
 
 lay-extended-requires : tie.Need-lay-extended-requires
+unfolding limit
 lay-extended-requires c κs =
     let s = c .before .before .before .before .before .before .before .before .before .before .before .before .before in
     (s .pre .0 .0, s .pre .0 .1, omega (arith, s .pre .1), omega (arith, s .pre .1, c .before .before .before .lay-pieces .kept .0))

@@ -1,3 +1,4 @@
+use Rattle.table.specs.Meaning.{limit}
 use mathlib.Core.Path.{ap, _∙_}
 use mathlib.Core.List.{[], _∷_}
 use Prim.Native.Nat.{_+_, _≤_}
@@ -10,7 +11,7 @@ use Rattle.table.specs.Objects.{under}
 use Rattle.table.specs.Builder.{recordsEnd}
 use Rattle.laws.specs.Fields.{imageIn}
 use Rattle.record_writers.specs.Written.{recordWith}
-use Rattle.turns.proofs.Laws.{used-bounds}
+use Rattle.turns.proofs.Laws.{in-limit, used-bounds}
 use Rattle.steps.proofs.LayLaws.{part-size, part-stored, roomy, laid-refused, laid-done}
 use Rattle.nested_calls.specs.Nested.{ssnsSlots, namedPart, laidSsns}
 use Rattle.nested_calls.proofs.KindLaws.{Laid, ssns-laid, extended-room}
@@ -126,6 +127,7 @@ write-ssns-requires c κs =
     )
 
 lay-named-requires : tie.Need-lay-named-requires
+unfolding limit
 lay-named-requires c κs =
     let s = c .before .before .before .before .before .before .before .before .before .before .before .before .before .before .before .before .before .before .before .before in
     let x = extended-room (c .before .before .before .before .before .before .before .before .before .before .before .own-need .result)
@@ -141,7 +143,7 @@ lay-named-requires c κs =
     )
 
 stepped-requires : tie.Need-stepped-requires
-stepped-requires c κs = roomy-here (c .before .before .before .before .before .before .before .before) .1
+stepped-requires c κs = in-limit _ (roomy-here (c .before .before .before .before .before .before .before .before) .1)
 
 same-length : tie.Need-same-length
 same-length c = search needs

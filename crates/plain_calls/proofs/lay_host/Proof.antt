@@ -7,7 +7,7 @@ use Rattle.table.specs.FixedLayouts.{layoutOf, host}
 use Rattle.table.specs.Builder.{recordsEnd}
 use Rattle.filling.specs.Calls.{hostTold}
 use Rattle.record_writers.specs.Written.{recordWith}
-use Rattle.turns.proofs.Laws.{used-bounds}
+use Rattle.turns.proofs.Laws.{in-limit, used-bounds}
 use Rattle.steps.proofs.LayLaws.{part-size, part-stored, roomy, laid-refused, laid-done}
 use Rattle.plain_calls.proofs.KindLaws.{host-size, host-record, host-heap}
 use borrow.Author.Needs.{needs}
@@ -68,7 +68,7 @@ copy-into-requires : tie.Need-copy-into-requires
 copy-into-requires c κs = omega (arith, roomy-here (c .before .before .before .before .before), c .before .before .out .given .1)
 
 stepped-requires : tie.Need-stepped-requires
-stepped-requires c κs = roomy-here (c .before .before .before .before .before .before .before .before) .1
+stepped-requires c κs = in-limit _ (roomy-here (c .before .before .before .before .before .before .before .before) .1)
 
 same-length : tie.Need-same-length
 same-length c = search needs

@@ -8,7 +8,7 @@ use Rattle.table.specs.Builder.{recordsEnd}
 use Rattle.filling.specs.Calls.{securityTold}
 use Rattle.writer.proofs.StoreLaws.{concat}
 use Rattle.record_writers.specs.Written.{recordWith}
-use Rattle.turns.proofs.Laws.{used-bounds}
+use Rattle.turns.proofs.Laws.{in-limit, used-bounds}
 use Rattle.steps.proofs.LayLaws.{part-size, part-stored, roomy, laid-refused, laid-done, six-long}
 use Rattle.plain_calls.proofs.KindLaws.{security-size, security-record, security-heap}
 use borrow.Author.Needs.{needs}
@@ -95,7 +95,7 @@ lay-pieces-requires c κs =
     omega (arith, roomy-here (c .before .before .before .before .before), c .before .before .out .given .1, six-long (a .p1 .now) (a .p2 .now) (a .p3 .now) (a .p4 .now) (a .p5 .now) (a .p6 .now))
 
 stepped-requires : tie.Need-stepped-requires
-stepped-requires c κs = roomy-here (c .before .before .before .before .before .before .before .before) .1
+stepped-requires c κs = in-limit _ (roomy-here (c .before .before .before .before .before .before .before .before) .1)
 
 same-length : tie.Need-same-length
 same-length c = search needs

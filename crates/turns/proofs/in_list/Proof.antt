@@ -1,6 +1,5 @@
 use mathlib.Core.Path.{refl}
 use borrow.Author.Tests.{lt-leb}
-use Rattle.turns.proofs.Laws.{in-list-upto}
 use Rattle.turns.proofs.Laws.{in-list-is}
 use native.Mathlib.Omega.{arith}
 use borrow.Author.Needs.{needs}
@@ -11,13 +10,13 @@ cast-p : tie.Need-cast-p
 cast-p c = search needs
 
 returns : tie.Need-returns
-returns c = (rw (lt-leb 1 (c .before .before .args .s .position) (c .if1 .taken)) refl, λ e. omega (arith, c .if1 .taken))
+returns c = rw (lt-leb 1 (c .before .before .args .s .position) (c .if1 .taken)) refl
 
 count-of-requires : tie.Need-count-of-requires
 count-of-requires c κs = search needs
 
 returns-2 : tie.Need-returns-2
-returns-2 c = let e = in-list-is (c .before .before .before .args .s) (c .count-of .result) (c .count-of .ensures .0) (omega (arith, c .before .if1 .left)) in (e, λ f. omega (arith, in-list-upto (c .before .before .before .args .s) f, c .count-of .ensures))
+returns-2 c = in-list-is (c .before .before .before .args .s) (c .count-of .result) (c .count-of .ensures .0) (omega (arith, c .before .if1 .left))
 
 pub in-list-spec : {M : Type 1} → statement M
 in-list-spec = tie.close (tie.spec cast-p returns count-of-requires returns-2)

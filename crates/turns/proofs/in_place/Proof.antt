@@ -1,15 +1,14 @@
 use mathlib.Core.Path.{refl}
-use borrow.Author.Tests.{ne-eqb, eqb-true}
-use native.Mathlib.Omega.{arith}
+use borrow.Author.Tests.{ne-eqb}
 use borrow.Author.Needs.{needs}
 use Rattle.turns.proofs.in_place.Statement.{statement}
 use Rattle.turns.proofs.in_place.Tie as tie
 
 returns : tie.Need-returns
-returns c = rw (c .before .if1 .taken) (refl, λ e. omega (arith, eqb-true (c .before .before .args .s .position) 0 e))
+returns c = rw (c .before .if1 .taken) refl
 
 returns-2 : tie.Need-returns-2
-returns-2 c = rw (c .before .if2 .taken) (refl, λ e. omega (arith, eqb-true (c .before .before .before .args .s .position) 0 e))
+returns-2 c = rw (c .before .if2 .taken) refl
 
 in-list-requires : tie.Need-in-list-requires
 in-list-requires c κs = search needs

@@ -1,3 +1,4 @@
+use Rattle.table.specs.Meaning.{limit}
 use mathlib.Core.Path.{ap, sym, _∙_}
 use mathlib.Core.Bool.{Bool}
 use borrow.Author.Tests.{ne-eqb}
@@ -12,6 +13,7 @@ use Rattle.turns.proofs.next.Statement.{statement}
 use Rattle.turns.proofs.next.Tie as tie
 
 add-used : tie.Need-add-used
+unfolding limit
 add-used c = search needs
 
 cast-if1 : tie.Need-cast-if1

@@ -1,7 +1,6 @@
 use Rattle.builder.proofs.LeaveLaws.{leave-early, leave-nowhere, leave-short, leave-done}
 use Rattle.steps.proofs.LayLaws.{step-is}
-use Rattle.turns.proofs.Laws.{used-bounds}
-use Rattle.turns.proofs.Laws.{not-true, not-false}
+use Rattle.turns.proofs.Laws.{in-limit, used-bounds, not-true, not-false}
 use Rattle.table.specs.declared.State.{State}
 use Rattle.table.specs.declared.Answer.{Answer}
 use mathlib.Core.Path.{sym, ap, ap₂, _∙_}
@@ -20,7 +19,14 @@ refused-requires : tie.Need-refused-requires
 refused-requires c κs = search needs
 
 returns : tie.Need-returns
-returns c = let a = c .before .before .before .before .before .args in let b = a .out .now in let t = leave-early (a .s) b (sym (c .before .before .before .waits .ensures .0) ∙ not-true (c .before .before .before .waits .result) (c .before .before .if1 .taken)) in (step-is (c .refused .result) (c .before .refuse .result) (a .s) (c .refused .ensures .0) (c .refused .ensures .1) ∙ ap (λ (x : Answer). record { answer = x; state = a .s }) (c .before .refuse .ensures) ∙ t .0, t .1)
+returns c =
+    let a = c .before .before .before .before .before .args in
+    let b = a .out .now in
+    let t = leave-early (a .s) b (sym (c .before .before .before .waits .ensures) ∙ not-true (c .before .before .before .waits .result) (c .before .before .if1 .taken)) in (
+      step-is (c .refused .result) (c .before .refuse .result) (a .s) (c .refused .ensures .0) (c .refused .ensures .1) ∙ ap (λ (x : Answer). record { answer = x; state = a .s })
+          (c .before .refuse .ensures) ∙ t .0,
+      t .1,
+    )
 
 refuse-requires-2 : tie.Need-refuse-requires-2
 refuse-requires-2 c κs = search needs
@@ -29,7 +35,15 @@ refused-requires-2 : tie.Need-refused-requires-2
 refused-requires-2 c κs = search needs
 
 returns-2 : tie.Need-returns-2
-returns-2 c = let a = c .before .before .before .before .before .before .before .args in let b = a .out .now in let t = leave-nowhere (a .s) b (sym (c .before .before .before .before .before .waits .ensures .0) ∙ not-false (c .before .before .before .before .before .waits .result) (c .before .before .before .before .if1 .left)) (c .before .before .if2 .taken) in (step-is (c .refused2 .result) (c .before .refuse2 .result) (a .s) (c .refused2 .ensures .0) (c .refused2 .ensures .1) ∙ ap (λ (x : Answer). record { answer = x; state = a .s }) (c .before .refuse2 .ensures) ∙ t .0, t .1)
+returns-2 c =
+    let a = c .before .before .before .before .before .before .before .args in
+    let b = a .out .now in
+    let t = leave-nowhere (a .s) b (sym (c .before .before .before .before .before .waits .ensures) ∙ not-false (c .before .before .before .before .before .waits .result)
+    (c .before .before .before .before .if1 .left)) (c .before .before .if2 .taken) in (
+      step-is (c .refused2 .result) (c .before .refuse2 .result) (a .s) (c .refused2 .ensures .0) (c .refused2 .ensures .1) ∙ ap (λ (x : Answer). record { answer = x; state = a .s })
+          (c .before .refuse2 .ensures) ∙ t .0,
+      t .1,
+    )
 
 refuse-requires-3 : tie.Need-refuse-requires-3
 refuse-requires-3 c κs = search needs
@@ -38,16 +52,36 @@ refused-requires-3 : tie.Need-refused-requires-3
 refused-requires-3 c κs = search needs
 
 returns-3 : tie.Need-returns-3
-returns-3 c = let a = c .before .before .before .before .before .before .before .before .before .args in let b = a .out .now in let t = leave-short (a .s) b (sym (c .before .before .before .before .before .before .before .waits .ensures .0) ∙ not-false (c .before .before .before .before .before .before .before .waits .result) (c .before .before .before .before .before .before .if1 .left)) (c .before .before .before .before .if2 .left) (omega (arith, c .before .before .if3 .taken)) in (step-is (c .refused3 .result) (c .before .refuse3 .result) (a .s) (c .refused3 .ensures .0) (c .refused3 .ensures .1) ∙ ap (λ (x : Answer). record { answer = x; state = a .s }) (c .before .refuse3 .ensures) ∙ t .0, t .1)
+returns-3 c =
+    let a = c .before .before .before .before .before .before .before .before .before .args in
+    let b = a .out .now in
+    let t = leave-short (a .s) b (sym (c .before .before .before .before .before .before .before .waits .ensures) ∙ not-false
+    (c .before .before .before .before .before .before .before .waits .result) (c .before .before .before .before .before .before .if1 .left)) (c .before .before .before .before .if2 .left)
+    (omega (arith, c .before .before .if3 .taken)) in (
+      step-is (c .refused3 .result) (c .before .refuse3 .result) (a .s) (c .refused3 .ensures .0) (c .refused3 .ensures .1) ∙ ap (λ (x : Answer). record { answer = x; state = a .s })
+          (c .before .refuse3 .ensures) ∙ t .0,
+      t .1,
+    )
 
 done-requires : tie.Need-done-requires
 done-requires c κs = search needs
 
 next-requires : tie.Need-next-requires
-next-requires c κs = let a = c .before .before .before .before .before .before .before .before .args in let b = a .out .now in let v = used-bounds (a .s) (a .s .turn) (sym (c .before .before .before .before .before .before .waits .ensures .0) ∙ not-false (c .before .before .before .before .before .before .waits .result) (c .before .before .before .before .before .if1 .left)) in omega (arith, v)
+next-requires c κs =
+    let a = c .before .before .before .before .before .before .before .before .args in
+    let b = a .out .now in
+    let v = used-bounds (a .s) (a .s .turn) (sym (c .before .before .before .before .before .before .waits .ensures) ∙ not-false
+    (c .before .before .before .before .before .before .waits .result) (c .before .before .before .before .before .if1 .left)) in
+    in-limit _ (omega (arith, v))
 
 returns-4 : tie.Need-returns-4
-returns-4 c = let a = c .before .before .before .before .before .before .before .before .before .args in let b = a .out .now in let t = leave-done (a .s) b (sym (c .before .before .before .before .before .before .before .waits .ensures .0) ∙ not-false (c .before .before .before .before .before .before .before .waits .result) (c .before .before .before .before .before .before .if1 .left)) (c .before .before .before .before .if2 .left) (omega (arith, c .before .before .if3 .left)) in (ap₂ (λ (x : Answer) (y : State). record { answer = x; state = y }) (c .before .done .ensures) (c .next .ensures) ∙ t .0, t .1)
+returns-4 c =
+    let a = c .before .before .before .before .before .before .before .before .before .args in
+    let b = a .out .now in
+    let t = leave-done (a .s) b (sym (c .before .before .before .before .before .before .before .waits .ensures) ∙ not-false
+    (c .before .before .before .before .before .before .before .waits .result) (c .before .before .before .before .before .before .if1 .left)) (c .before .before .before .before .if2 .left)
+    (omega (arith, c .before .before .if3 .left)) in
+    (ap₂ (λ (x : Answer) (y : State). record { answer = x; state = y }) (c .before .done .ensures) (c .next .ensures) ∙ t .0, t .1)
 
 pub leave-spec : {M : Type 1} → statement M
 leave-spec =

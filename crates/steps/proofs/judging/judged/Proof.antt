@@ -18,7 +18,7 @@ kind-is : (c : tie.After-waits) → layoutOf (c .before .before .before .args .k
 kind-is c = kind-of (c .before .before .before .args .kind) (c .before .before .before .pre .0) (c .before .before .before .pre .1)
 
 in-turn : (c : tie.After-pairs-right) → waits (c .before .before .before .before .before .args .s) (layoutOf (c .before .before .before .before .before .args .kind) .kind) ≡ true
-in-turn c = ap (waits (c .before .before .before .before .before .args .s)) (kind-is (c .before .before)) ∙ sym (c .before .before .waits .ensures .0) ∙ not-false
+in-turn c = ap (waits (c .before .before .before .before .before .args .s)) (kind-is (c .before .before)) ∙ sym (c .before .before .waits .ensures) ∙ not-false
     (c .before .before .waits .result) (c .before .if1 .left)
 
 right : (c : tie.Else2) → pairsRight (layoutOf (c .before .before .before .before .before .before .args .kind) .shape) (imageIn (layoutOf
@@ -38,7 +38,7 @@ returns : tie.Need-returns
 returns c = c .refuse .ensures ∙ out-of-turn (layoutOf (c .before .before .before .before .before .args .kind)) (c .before .before .before .before .before .args .s) (imageIn (layoutOf
     (c .before .before .before .before .before .args .kind)) (c .before .before .before .before .before .args .b .now) 0) (c .before .before .before .before .before .args .own)
     (c .before .before .before .before .before .args .objects) (ap (waits (c .before .before .before .before .before .args .s)) (kind-is (c .before .before)) ∙ sym
-    (c .before .before .waits .ensures .0) ∙ not-true (c .before .before .waits .result) (c .before .if1 .taken))
+    (c .before .before .waits .ensures) ∙ not-true (c .before .before .waits .result) (c .before .if1 .taken))
 
 pairs-right-requires : tie.Need-pairs-right-requires
 pairs-right-requires c κs = (c .before .before .before .before .pre .0, c .before .before .before .before .pre .1, omega (arith, c .before .before .before .before .pre .2))
