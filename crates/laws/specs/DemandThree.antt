@@ -27,7 +27,7 @@ span-lists : (b : Body listKinds) → spanBody b ≡ 32 * countIn b 3 + 128 * co
 unfolding spanBody countIn hfi ssns security discovery
 span-lists (more hs (more ns (more ss (more ds stop)))) = omega arith
 
--- the length formula of document 01: the last summand is the length of all objects and heap records
+-- the length formula of Rules 6.3 (docs/RULES.md): the last summand is the length of all objects and heap records
 pub length-formula : (m : Meaning) → Shaped m
     → length (form m) ≡ 160 + 32 * countIn (m .lists) 3 + 128 * countIn (m .lists) 4 + 64 * countIn (m .lists) 5 + 32 * countIn (m .lists) 6 + heapLen m
 unfolding formLength heapAt

@@ -1,4 +1,4 @@
--- "Sample tables": K1 to K10, K12 and K13, and further tables, shown of the rules, the meaning and the one form by one statement over one list; then reads,
+-- Rules 9 (docs/RULES.md): K1 to K10, K12, K13 and further tables, shown of rules, meaning and the one form by one statement over one list; then reads,
 -- rewrites and a short build. Assumes nothing.
 use mathlib.Core.Bool.{true}
 use mathlib.Core.List.{List, [], _∷_, _++_}

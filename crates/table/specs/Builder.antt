@@ -1,4 +1,4 @@
--- "The builder": what each call answers, the state it returns and the bytes it leaves, for every state, buffer and told value. Definitions only.
+-- Rules 8 (docs/RULES.md), the builder: each call's answer, state and bytes, for every state, buffer and told value. Definitions only.
 use mathlib.Core.Bool.{Bool, true, false, _&&_, _||_}
 use mathlib.Core.List.{List, [], _∷_, _++_}
 use Prim.Native.Nat.{ℕ, _+_, _-_, _*_, _/_}

@@ -1,4 +1,4 @@
--- Bytes: a table is a list of bytes, a number in it is little endian ("Fixed layouts"), and a store replaces a part. Definitions only.
+-- Bytes: a table is a list of bytes, a number in it is little endian (Rules 2, docs/RULES.md), and a store replaces a part. Definitions only.
 use mathlib.Core.Bool.{Bool, true, false, _&&_}
 use mathlib.Core.List.{List, [], _∷_, _++_}
 use Prim.Native.Nat.{ℕ, zero, suc, _+_, _-_, _*_, _/_, _%_, _^_}

@@ -1,4 +1,4 @@
--- "Fixed layouts": header, control, host, HFI, SSNS, security, discovery, HFI transport info (7), SSNS extended info (9), index rules. Definitions only.
+-- Rules 2.1 to 2.9, 3.7, 3.9 (docs/RULES.md): header, control, host, HFI, SSNS, security, discovery, info (7), extended (9), index rules. Definitions only.
 use mathlib.Core.Bool.{Bool, true, _&&_, _||_}
 use mathlib.Core.List.{List, [], _∷_}
 use Prim.Native.Nat.{ℕ}

@@ -1,4 +1,4 @@
--- "Fixed layouts", what a layout is: which bits of each byte count, which stretches are fields, where the references stand. Definitions only.
+-- Rules 2 (docs/RULES.md), what a layout is: which bits of each byte count, which stretches are fields, where the references stand. Definitions only.
 use mathlib.Core.Bool.{Bool, true, not, _&&_}
 use mathlib.Core.List.{List, [], _∷_, _++_}
 use Prim.Native.Nat.{ℕ, zero, suc, _+_, _-_, _*_, _/_, _%_, _^_}

@@ -1,4 +1,4 @@
--- "Meaning and the one form": what a table says, the bytes of its one form, and their number. Definitions only.
+-- Rules 6 (docs/RULES.md), meaning and form: what a table says, the bytes of its one form, and their number. Definitions only.
 use mathlib.Core.List.{List, [], _∷_, _++_}
 use Prim.Native.Nat.{ℕ, _+_}
 use lib.ListN.{replicate}

@@ -1,4 +1,4 @@
--- "Rules of a good table" and "Meaning and the one form", objects and records: read from a table, and laid out one behind the other in a heap. Definitions only.
+-- Rules 3 and 6 (docs/RULES.md), objects and records: read from a table, and laid out one behind the other in a heap. Definitions only.
 use mathlib.Core.Bool.{Bool, true, false}
 use mathlib.Core.List.{List, [], _∷_, _++_}
 use Prim.Native.Nat.{ℕ, zero, suc, _+_, _*_}

@@ -1,4 +1,4 @@
--- "Numbers returned", reads: what a read of a record, a field or an object gives on any bytes, 16 included. Definitions only.
+-- Rules 5 (docs/RULES.md), reads: what a read of a record, a field or an object gives on any bytes, 16 included. Definitions only.
 use mathlib.Core.Bool.{Bool, true, false, _&&_}
 use mathlib.Core.List.{List, [], _∷_}
 use Prim.Native.Nat.{ℕ, _+_, _-_, _*_}

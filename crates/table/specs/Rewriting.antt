@@ -1,4 +1,4 @@
--- "Meaning and the one form", the rewriter: what it answers, and what it leaves in the lent output, on any bytes. Definitions only.
+-- Rules 7 (docs/RULES.md), the rewriter: what it answers, and what it leaves in the lent output, on any bytes. Definitions only.
 use mathlib.Core.List.{List, [], _∷_}
 use Prim.Native.Nat.{ℕ}
 use lib.ListN.{length}

@@ -1,4 +1,4 @@
--- "Rules of a good table": the rules of regions, references, heap records, records and indexes, over any kinds; an answer is the first fault. Definitions only.
+-- Rules 3 (docs/RULES.md): the rules of regions, references, heap records, records and indexes, over any kinds; an answer is the first fault. Definitions only.
 use mathlib.Core.Bool.{Bool, true, false, not, _&&_, _||_}
 use mathlib.Core.List.{List, [], _∷_}
 use Prim.Native.Nat.{ℕ, suc, _+_, _*_}

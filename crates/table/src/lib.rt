@@ -27,7 +27,7 @@ pub const FRONT: usize = Header::SIZE + Control::SIZE;
 // With the host: where the lists start in the one form, and the least Length.
 pub const SHORTEST: usize = FRONT + Host::SIZE;
 
-// What every call answers: a number of document 01, and the kind and position of the record at fault.
+// What every call answers: a number of Rules 4.2 (docs/RULES.md), and the kind and position of the record at fault.
 pub struct Answer {
     pub number: u8,
     pub kind: u8,
