@@ -10,7 +10,7 @@ use lib.Dec.{T, leb, eqb, leb→le, eqb→eq, lit<}
 use mir.Facts.{and-yes, yes-and}
 use Rattle.table.specs.declared.State.{State}
 use Rattle.table.specs.Bytes.{pick, same, splice}
-use Rattle.table.specs.Layout.{Body, Entry, Env, Layout, Refs, Slots, anything, baseOf, blank, bytes, env, nil, pairsRight, unused}
+use Rattle.table.specs.Layout.{Body, Entry, Env, Layout, Refs, Slots, anything, baseOf, bytes, env, nil, pairsRight, unused}
 use Rattle.table.specs.FixedLayouts.{discovery, header, hfi, host, listKinds, security, ssns}
 use Rattle.table.specs.Objects.{countIn, heapBody, heapEntry, heapOf, patched, recEntry, sizeBody, sizeEntry, sizeOf, spanBody}
 use Rattle.table.specs.Rules.{firstOf, ruled, test}

@@ -11,7 +11,7 @@ use lib.Dec.{T, ltb, eqb}
 use borrow.Author.Tests.{eq-eqb, eqb-true, lt-ltb, le-ltb}
 use mir.Facts.{and-yes}
 use Rattle.table.specs.Bytes.{pick}
-use Rattle.table.specs.Layout.{Body, Entry, Layout, baseOf, blank, env, more, stop, unused}
+use Rattle.table.specs.Layout.{Body, Entry, Layout, baseOf, env, more, stop, unused}
 use Rattle.table.specs.Objects.{countIn, spanBody}
 use Rattle.table.specs.Builder.{Turn, countOf, endOf, finishing, firstTurn, turn, turnAfter}
 use Rattle.laws.specs.Lawful.{FitBody, FitEntry}

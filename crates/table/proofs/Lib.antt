@@ -1,3 +1,4 @@
 pub mod Cases
 pub mod Samples
+pub mod Figures
 pub mod Rules

@@ -7,7 +7,7 @@ use lib.Dec.{eqb}
 use Rattle.table.specs.declared.Need.{Need}
 use Rattle.table.specs.declared.Need.the-variants.{Ignored, Optional, Required}
 use Rattle.table.specs.Bytes.{pick, bits, every, edit}
-use Rattle.table.specs.Layout.{region, field, flags, onlyIf, blank, shaped, anything, Refs, none, plain, nest, Slots, slotAt, Layout}
+use Rattle.table.specs.Layout.{region, field, flags, onlyIf, reference, frame, reserved, at, nowhere, shaped, anything, Refs, none, plain, nest, Slots, slotAt, Layout}
 
 -- ---- when a reference counts
 
@@ -34,7 +34,28 @@ zeroOr named n = eqb n 0 || named n
 unfoldable pub header : Layout
 header = record {
   kind = 0;
-  shape = shaped (blank 10 ∷ field 6 ∷ field 8 ∷ field 4 ∷ field 4 ∷ field 4 ∷ blank 28 ∷ []) [] (region 0 0) (region 0 0) [];
+  shape = shaped (record {
+    lines =
+        at 0 "signature" (frame 4)
+        ∷ at 4 "Length" (frame 4)
+        ∷ at 8 "major" (frame 1)
+        ∷ at 9 "checksum" (frame 1)
+        ∷ at 10 "OEM ID" (field 6)
+        ∷ at 16 "OEM table ID" (field 8)
+        ∷ at 24 "OEM revision" (field 4)
+        ∷ at 28 "creator ID" (field 4)
+        ∷ at 32 "creator revision" (field 4)
+        ∷ at 36 "heap offset" (frame 4)
+        ∷ at 40 "heap length" (frame 4)
+        ∷ at 44 "driver signature" reference
+        ∷ at 50 "minor" (frame 1)
+        ∷ at 51 "reserved" (reserved 13)
+        ∷ [];
+    fixed = [];
+    index = nowhere;
+    flags = nowhere;
+    pairs = [];
+  });
   refs = plain 44 optional anything none;
   names = noNames;
 }
@@ -43,7 +64,43 @@ header = record {
 unfoldable pub control : Layout
 control = record {
   kind = 1;
-  shape = shaped (blank 87 ∷ field 1 ∷ blank 7 ∷ field 1 ∷ blank 7 ∷ field 1 ∷ blank 7 ∷ field 1 ∷ blank 16 ∷ []) [] (region 0 0) (region 0 0) [];
+  shape = shaped (record {
+    lines =
+        at 0 "header" (frame 64)
+        ∷ at 64 "ID" (frame 1)
+        ∷ at 65 "major" (frame 1)
+        ∷ at 66 "minor" (frame 1)
+        ∷ at 67 "reserved" (reserved 1)
+        ∷ at 68 "CSL" (frame 2)
+        ∷ at 70 "flags" (frame 1)
+        ∷ at 71 "reserved" (reserved 1)
+        ∷ at 72 "host offset" (frame 4)
+        ∷ at 76 "host length" (frame 2)
+        ∷ at 78 "host version" (frame 1)
+        ∷ at 79 "reserved" (reserved 1)
+        ∷ at 80 "HFI list offset" (frame 4)
+        ∷ at 84 "HFI record length" (frame 2)
+        ∷ at 86 "HFI version" (frame 1)
+        ∷ at 87 "HFI count" (field 1)
+        ∷ at 88 "SSNS list offset" (frame 4)
+        ∷ at 92 "SSNS record length" (frame 2)
+        ∷ at 94 "SSNS version" (frame 1)
+        ∷ at 95 "SSNS count" (field 1)
+        ∷ at 96 "security list offset" (frame 4)
+        ∷ at 100 "security record length" (frame 2)
+        ∷ at 102 "security version" (frame 1)
+        ∷ at 103 "security count" (field 1)
+        ∷ at 104 "discovery list offset" (frame 4)
+        ∷ at 108 "discovery record length" (frame 2)
+        ∷ at 110 "discovery version" (frame 1)
+        ∷ at 111 "discovery count" (field 1)
+        ∷ at 112 "reserved" (reserved 16)
+        ∷ [];
+    fixed = [];
+    index = nowhere;
+    flags = nowhere;
+    pairs = [];
+  });
   refs = none;
   names = noNames;
 }
@@ -51,7 +108,19 @@ control = record {
 unfoldable pub host : Layout
 host = record {
   kind = 2;
-  shape = shaped (field 1 ∷ flags 1 5 ∷ field 16 ∷ blank 14 ∷ []) (edit 0 (2 ∷ []) ∷ []) (region 0 0) (region 1 1) (3 ∷ []);
+  shape = shaped (record {
+    lines =
+        at 0 "ID" (field 1)
+        ∷ at 1 "flags" (flags 1 5)
+        ∷ at 2 "host ID" (field 16)
+        ∷ at 18 "host NQN" reference
+        ∷ at 24 "reserved" (reserved 8)
+        ∷ [];
+    fixed = edit 0 (2 ∷ []) ∷ [];
+    index = nowhere;
+    flags = region 1 1;
+    pairs = 3 ∷ [];
+  });
   refs = plain 18 required anything none;
   names = noNames;
 }
@@ -61,11 +130,34 @@ host = record {
 unfoldable pub info : Layout
 info = record {
   kind = 7;
-  shape =
-      shaped
-      (field 1 ∷ field 1 ∷ field 1 ∷ field 1 ∷ field 2 ∷ flags 1 3 ∷ field 4 ∷ field 6 ∷ field 2 ∷ field 1 ∷ field 16 ∷ field 1 ∷ field 16 ∷ blank 1 ∷ field 2
-      ∷ field 16 ∷ field 16 ∷ onlyIf 16 6 2 ∷ blank 24 ∷ [])
-      (edit 0 (7 ∷ 1 ∷ 3 ∷ 1 ∷ []) ∷ []) (region 4 2) (region 6 1) [];
+  shape = shaped (record {
+    lines =
+        at 0 "ID" (field 1)
+        ∷ at 1 "version" (field 1)
+        ∷ at 2 "transport type" (field 1)
+        ∷ at 3 "transport info version" (field 1)
+        ∷ at 4 "HFI index" (field 2)
+        ∷ at 6 "flags" (flags 1 3)
+        ∷ at 7 "PCI Express routing ID" (field 4)
+        ∷ at 11 "MAC address" (field 6)
+        ∷ at 17 "VLAN" (field 2)
+        ∷ at 19 "IP origin" (field 1)
+        ∷ at 20 "IP address" (field 16)
+        ∷ at 36 "subnet mask prefix" (field 1)
+        ∷ at 37 "IP gateway" (field 16)
+        ∷ at 53 "reserved" (reserved 1)
+        ∷ at 54 "route metric" (field 2)
+        ∷ at 56 "primary DNS" (field 16)
+        ∷ at 72 "secondary DNS" (field 16)
+        ∷ at 88 "DHCP server" (onlyIf 16 6 2)
+        ∷ at 104 "host name" reference
+        ∷ at 110 "reserved" (reserved 18)
+        ∷ [];
+    fixed = edit 0 (7 ∷ 1 ∷ 3 ∷ 1 ∷ []) ∷ [];
+    index = region 4 2;
+    flags = region 6 1;
+    pairs = [];
+  });
   refs = plain 104 optional anything none;
   names = noNames;
 }
@@ -73,7 +165,21 @@ info = record {
 unfoldable pub extended : Layout
 extended = record {
   kind = 9;
-  shape = shaped (field 1 ∷ field 1 ∷ field 2 ∷ flags 4 2 ∷ field 2 ∷ field 2 ∷ blank 6 ∷ []) (edit 0 (9 ∷ 1 ∷ []) ∷ []) (region 2 2) (region 4 4) [];
+  shape = shaped (record {
+    lines =
+        at 0 "ID" (field 1)
+        ∷ at 1 "version" (field 1)
+        ∷ at 2 "SSNS index" (field 2)
+        ∷ at 4 "flags" (flags 4 2)
+        ∷ at 8 "controller ID" (field 2)
+        ∷ at 10 "admin queue size" (field 2)
+        ∷ at 12 "root path" reference
+        ∷ [];
+    fixed = edit 0 (9 ∷ 1 ∷ []) ∷ [];
+    index = region 2 2;
+    flags = region 4 4;
+    pairs = [];
+  });
   refs = plain 12 optional anything none;
   names = noNames;
 }
@@ -83,7 +189,21 @@ extended = record {
 unfoldable pub hfi : Layout
 hfi = record {
   kind = 3;
-  shape = shaped (field 1 ∷ field 1 ∷ flags 1 1 ∷ field 1 ∷ blank 28 ∷ []) (edit 0 (3 ∷ []) ∷ edit 3 (3 ∷ []) ∷ []) (region 1 1) (region 2 1) [];
+  shape = shaped (record {
+    lines =
+        at 0 "ID" (field 1)
+        ∷ at 1 "index" (field 1)
+        ∷ at 2 "flags" (flags 1 1)
+        ∷ at 3 "transport type" (field 1)
+        ∷ at 4 "reserved" (reserved 12)
+        ∷ at 16 "transport info" reference
+        ∷ at 22 "reserved" (reserved 10)
+        ∷ [];
+    fixed = edit 0 (3 ∷ []) ∷ edit 3 (3 ∷ []) ∷ [];
+    index = region 1 1;
+    flags = region 2 1;
+    pairs = [];
+  });
   refs = nest 16 required (info .shape) (info .refs) none;
   names = noNames;
 }
@@ -91,11 +211,34 @@ hfi = record {
 unfoldable pub ssns : Layout
 ssns = record {
   kind = 4;
-  shape =
-      shaped
-      (field 1 ∷ field 2 ∷ flags 2 9 ∷ field 1 ∷ flags 2 3 ∷ field 1 ∷ blank 13 ∷ field 2 ∷ field 4 ∷ field 1 ∷ field 16 ∷ onlyIf 1 3 2 ∷ field 1 ∷ blank 81
-      ∷ [])
-      (edit 0 (4 ∷ []) ∷ edit 5 (3 ∷ []) ∷ []) (region 1 2) (region 3 2) (7 ∷ []);
+  shape = shaped (record {
+    lines =
+        at 0 "ID" (field 1)
+        ∷ at 1 "index" (field 2)
+        ∷ at 3 "flags" (flags 2 9)
+        ∷ at 5 "transport type" (field 1)
+        ∷ at 6 "transport flags" (flags 2 3)
+        ∷ at 8 "discovery index" (field 1)
+        ∷ at 9 "reserved" (reserved 1)
+        ∷ at 10 "transport address" reference
+        ∷ at 16 "transport service ID" reference
+        ∷ at 22 "port ID" (field 2)
+        ∷ at 24 "NSID" (field 4)
+        ∷ at 28 "NIDT" (field 1)
+        ∷ at 29 "NID" (field 16)
+        ∷ at 45 "security index" (onlyIf 1 3 2)
+        ∷ at 46 "primary HFI index" (field 1)
+        ∷ at 47 "reserved" (reserved 1)
+        ∷ at 48 "secondary HFI indexes" reference
+        ∷ at 54 "subsystem NQN" reference
+        ∷ at 60 "extended info" reference
+        ∷ at 66 "reserved" (reserved 62)
+        ∷ [];
+    fixed = edit 0 (4 ∷ []) ∷ edit 5 (3 ∷ []) ∷ [];
+    index = region 1 2;
+    flags = region 3 2;
+    pairs = 7 ∷ [];
+  });
   refs =
       plain 10 required anything
       (plain 16 required anything
@@ -110,7 +253,26 @@ ssns = record {
 unfoldable pub security : Layout
 security = record {
   kind = 5;
-  shape = shaped (field 1 ∷ field 1 ∷ flags 2 12 ∷ flags 1 1 ∷ blank 59 ∷ []) (edit 0 (5 ∷ []) ∷ []) (region 1 1) (region 2 2) (1 ∷ 3 ∷ 5 ∷ 7 ∷ []);
+  shape = shaped (record {
+    lines =
+        at 0 "ID" (field 1)
+        ∷ at 1 "index" (field 1)
+        ∷ at 2 "flags" (flags 2 12)
+        ∷ at 4 "secret type" (flags 1 1)
+        ∷ at 5 "reserved" (reserved 1)
+        ∷ at 6 "secure channel algorithms" reference
+        ∷ at 12 "authentication protocols" reference
+        ∷ at 18 "cipher suites" reference
+        ∷ at 24 "DH groups" reference
+        ∷ at 30 "hash functions" reference
+        ∷ at 36 "keypath" reference
+        ∷ at 42 "reserved" (reserved 22)
+        ∷ [];
+    fixed = edit 0 (5 ∷ []) ∷ [];
+    index = region 1 1;
+    flags = region 2 2;
+    pairs = 1 ∷ 3 ∷ 5 ∷ 7 ∷ [];
+  });
   refs =
       plain 6 (whenSet 2 2 8 7) anything
       (plain 12 (whenSet 2 2 4 3) anything
@@ -124,7 +286,23 @@ security = record {
 unfoldable pub discovery : Layout
 discovery = record {
   kind = 6;
-  shape = shaped (field 1 ∷ flags 1 1 ∷ field 1 ∷ field 1 ∷ field 1 ∷ blank 27 ∷ []) (edit 0 (6 ∷ []) ∷ []) (region 2 1) (region 1 1) [];
+  shape = shaped (record {
+    lines =
+        at 0 "ID" (field 1)
+        ∷ at 1 "flags" (flags 1 1)
+        ∷ at 2 "index" (field 1)
+        ∷ at 3 "HFI index" (field 1)
+        ∷ at 4 "security index" (field 1)
+        ∷ at 5 "reserved" (reserved 1)
+        ∷ at 6 "controller address" reference
+        ∷ at 12 "controller NQN" reference
+        ∷ at 18 "reserved" (reserved 14)
+        ∷ [];
+    fixed = edit 0 (6 ∷ []) ∷ [];
+    index = region 2 1;
+    flags = region 1 1;
+    pairs = [];
+  });
   refs = plain 6 optional anything (plain 12 optional anything none);
   names = λ used img ss. used 3 (getD img 3 0) && zeroOr (used 5) (getD img 4 0);
 }
@@ -137,7 +315,7 @@ listKinds = hfi ∷ ssns ∷ security ∷ discovery ∷ []
 
 -- a number that is no kind: no fields and no references
 unfoldable pub noKind : Layout
-noKind = record { kind = 16; shape = shaped [] [] (region 0 0) (region 0 0) []; refs = none; names = noNames }
+noKind = record { kind = 16; shape = shaped (record { lines = []; fixed = []; index = nowhere; flags = nowhere; pairs = [] }); refs = none; names = noNames }
 
 unfoldable pub layoutOf : ℕ → Layout
 layoutOf k =

@@ -1,7 +1,8 @@
--- Rules 2 (docs/RULES.md), what a layout is: which bits of each byte count, which stretches are fields, where the references stand. Definitions only.
+-- Rules 2 (docs/RULES.md), what a layout is: the lines of its figure, which bits of each byte count, where fields and references stand. Definitions only.
 use mathlib.Core.Bool.{Bool, true, not, _&&_}
 use mathlib.Core.List.{List, [], _∷_, _++_}
 use Prim.Native.Nat.{ℕ, zero, suc, _+_, _-_, _*_, _/_, _%_, _^_}
+use Prim.Native.String.{String}
 use lib.ListN.{length, getD, replicate}
 use lib.Dec.{leb, eqb}
 use Rattle.table.specs.declared.Need.{Need}
@@ -38,37 +39,71 @@ referenceAt t r = region (num t r 4) (num t (r + 4) 2)
 abbrev pub namedAt : List ℕ → ℕ → List ℕ
 namedAt t r = part t (referenceAt t r .at) (referenceAt t r .len)
 
--- A stretch of a record: a field of so many bytes; one of which only the lowest bits count; one that counts only if a bit of another byte is set; or bytes
--- that are no field: reserved ones and references
+-- A stretch of a record: a field of so many bytes; one of which only the lowest bits count; one that counts only if a bit of another byte is set; a reference;
+-- bytes of the frame, which are judged and laid out apart from the meaning; or reserved ones. Only the first three are fields
 pub data Stretch : Type 0 where
   field : (width : ℕ) → Stretch
   flags : (width count : ℕ) → Stretch
   onlyIf : (width byte bit : ℕ) → Stretch
-  blank : (width : ℕ) → Stretch
+  reference : Stretch
+  frame : (width : ℕ) → Stretch
+  reserved : (width : ℕ) → Stretch
 
 -- of a field's n bytes, those of the lowest b bits
 abbrev pub lowest : ℕ → ℕ → List Keep
 lowest zero b = []
 lowest (suc n) b = low (pick (leb 8 b) 256 (2 ^ b)) ∷ lowest n (b - 8)
 
-abbrev pub keepOf : List Stretch → List Keep
+-- which bits of a stretch's bytes count
+abbrev pub counting : Stretch → List Keep
+counting (field n) = replicate n (low 256)
+counting (flags n b) = lowest n b
+counting (onlyIf n f b) = replicate n (sel f (2 ^ b) 1 256)
+counting reference = replicate 6 (low 1)
+counting (frame n) = replicate n (low 1)
+counting (reserved n) = replicate n (low 1)
+
+-- the field that a stretch is whose first byte is a, if it is one
+abbrev pub fieldFrom : ℕ → Stretch → List Region
+fieldFrom a (field n) = region a n ∷ []
+fieldFrom a (flags n b) = region a n ∷ []
+fieldFrom a (onlyIf n f b) = region a n ∷ []
+fieldFrom a reference = []
+fieldFrom a (frame n) = []
+fieldFrom a (reserved n) = []
+
+-- A line of a figure: a stretch, its first byte and its name. That each line begins where the one before it ends is `figures-in-place`
+pub record Line : Type 0 where
+  pub first : ℕ
+  pub name : String
+  pub stretch : Stretch
+
+abbrev pub at : ℕ → String → Stretch → Line
+at a name s = record { first = a; name = name; stretch = s }
+
+abbrev pub keepOf : List Line → List Keep
 keepOf [] = []
-keepOf (field n ∷ ss) = replicate n (low 256) ++ keepOf ss
-keepOf (flags n b ∷ ss) = lowest n b ++ keepOf ss
-keepOf (onlyIf n f b ∷ ss) = replicate n (sel f (2 ^ b) 1 256) ++ keepOf ss
-keepOf (blank n ∷ ss) = replicate n (low 1) ++ keepOf ss
+keepOf (l ∷ ls) = counting (l .stretch) ++ keepOf ls
 
--- the fields of the stretches that begin at place a
-abbrev pub fieldsOf : ℕ → List Stretch → List Region
-fieldsOf a [] = []
-fieldsOf a (field n ∷ ss) = region a n ∷ fieldsOf (a + n) ss
-fieldsOf a (flags n b ∷ ss) = region a n ∷ fieldsOf (a + n) ss
-fieldsOf a (onlyIf n f b ∷ ss) = region a n ∷ fieldsOf (a + n) ss
-fieldsOf a (blank n ∷ ss) = fieldsOf (a + n) ss
+abbrev pub fieldsOf : List Line → List Region
+fieldsOf [] = []
+fieldsOf (l ∷ ls) = fieldFrom (l .first) (l .stretch) ++ fieldsOf ls
 
--- A record's own bytes: which bits count, its fields, the bytes that have one right value (ID, version, type), its index (length 0: none), its flags, and the
--- lowest bits of the two-bit fields among these
+-- A record's own bytes as they are written down: its lines, the bytes that have one right value (ID, version, type), its index and its flags (`nowhere`: none), and
+-- the lowest bits of the two-bit fields among the flags
+pub record Figure : Type 0 where
+  pub lines : List Line
+  pub fixed : List Edit
+  pub index : Region
+  pub flags : Region
+  pub pairs : List ℕ
+
+abbrev pub nowhere : Region
+nowhere = region 0 0
+
+-- The same as definitions use it: with which bits count, and the fields
 pub record Shape : Type 0 where
+  pub lines : List Line
   pub keep : List Keep
   pub fields : List Region
   pub fixed : List Edit
@@ -76,8 +111,16 @@ pub record Shape : Type 0 where
   pub flags : Region
   pub pairs : List ℕ
 
-abbrev pub shaped : List Stretch → List Edit → Region → Region → List ℕ → Shape
-shaped ss es i f ps = record { keep = keepOf ss; fields = fieldsOf 0 ss; fixed = es; index = i; flags = f; pairs = ps }
+abbrev pub shaped : Figure → Shape
+shaped g = record {
+  lines = g .lines;
+  keep = keepOf (g .lines);
+  fields = fieldsOf (g .lines);
+  fixed = g .fixed;
+  index = g .index;
+  flags = g .flags;
+  pairs = g .pairs;
+}
 
 -- Where a record stands: its position (0 outside lists), and how many records of each kind there are
 pub record Env : Type 0 where
