@@ -1,4 +1,5 @@
 -- Rules 8 (docs/RULES.md), the builder: each call's answer, state and bytes, for every state, buffer and told value. Definitions only.
+use mathlib.Core.Path.{_≡_}
 use mathlib.Core.Bool.{Bool, true, false, _&&_, _||_}
 use mathlib.Core.List.{List, [], _∷_, _++_}
 use Prim.Native.Nat.{ℕ, _+_, _-_, _*_, _/_}
@@ -21,6 +22,10 @@ use Rattle.table.specs.Numbers.{check}
 pub record Outcome : Type 0 where
   pub step : Step
   pub buffer : List ℕ
+
+-- what the contract of a call says: it hands back the step of its outcome, and leaves its buffer
+abbrev pub Gives : Outcome → Step → (buffer : List ℕ) → Type 0
+Gives o step buffer = (step ≡ o .step) × (buffer ≡ o .buffer)
 
 -- a refused call changes neither state nor buffer
 abbrev pub outcome : Answer → State → State → List ℕ → List ℕ → Outcome
