@@ -6,17 +6,18 @@ use lib.Dec.{eqb}
 use Rattle.table.specs.Bytes.{pick, Edit, edit}
 use Rattle.table.specs.Objects.{ref6}
 
--- the reference to n bytes at h: 0, 0 for an absent object
-abbrev pub refNum : ℕ → ℕ → List ℕ
-refNum h n = pick (eqb n 0) (ref6 0 0) (ref6 h n)
+-- the reference to len bytes at target: 0, 0 for an absent object
+abbrev pub refNum : (target len : ℕ) → List ℕ
+refNum target len = pick (eqb len 0) (ref6 0 0) (ref6 target len)
 
--- k stores from number i on: reference i stands at ps i, is ns i long, and takes ws i bytes of the heap from h on
-unfoldable pub storesFrom : List ℕ → List ℕ → List ℕ → ℕ → ℕ → ℕ → List Edit
-storesFrom ps ns ws h i zero = []
-storesFrom ps ns ws h i (suc k) = edit (getD ps i 0) (refNum h (getD ns i 0)) ∷ storesFrom ps ns ws (h + getD ws i 0) (i + 1) k
+-- so many stores from number i on: where reference i stands, how long its object is, and the bytes that this takes of the heap, from heap on
+unfoldable pub storesFrom : (offsets lengths spans : List ℕ) (heap i count : ℕ) → List Edit
+storesFrom offsets lengths spans heap i zero = []
+storesFrom offsets lengths spans heap i (suc k) =
+    edit (getD offsets i 0) (refNum heap (getD lengths i 0)) ∷ storesFrom offsets lengths spans (heap + getD spans i 0) (i + 1) k
 
--- n references at ps that lie in a record of this size, and whose spans don't wrap
-pub record Room (n : ℕ) (ps ws : List ℕ) (size : ℕ) : Type 0 where
-  pub few : n ≤ 6
-  pub room : (i : ℕ) → i < n → getD ps i 0 + 6 ≤ size
-  pub short : (i : ℕ) → i < n → getD ws i 0 ≤ 131072
+-- so many references that lie in a record of this size, and whose spans don't wrap
+pub record Room (count : ℕ) (offsets spans : List ℕ) (size : ℕ) : Type 0 where
+  pub few : count ≤ 6
+  pub room : (i : ℕ) → i < count → getD offsets i 0 + 6 ≤ size
+  pub short : (i : ℕ) → i < count → getD spans i 0 ≤ 131072

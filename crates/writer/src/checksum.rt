@@ -7,11 +7,11 @@ ghost use Prim.Native.Nat.{_≤_};
 ghost use lib.ListN.{length, take};
 ghost use Rattle.table.specs.Bytes.{splice, checksum};
 
-// The checksum of the first `n` bytes, stored among them.
-pub fn seal(out: &mut [u8], n: usize)
-    requires { ⌜ (160 ≤ n) × (n ≤ length (now out)) ⌝ }
-    ensures { λ r. ⌜ now (out .exit) ≡ splice (now (out .entry)) 9 (checksum (take n (now (out .entry))) ∷ []) ⌝ }
+// The checksum of the first `size` bytes, stored among them.
+pub fn seal(out: &mut [u8], size: usize)
+    requires { ⌜ (160 ≤ size) × (size ≤ length (now out)) ⌝ }
+    ensures { λ r. ⌜ now (out .exit) ≡ splice (now (out .entry)) 9 (checksum (take size (now (out .entry))) ∷ []) ⌝ }
 {
-    let sum = wire::sum8(&out[0..n]);
+    let sum = wire::sum8(&out[0..size]);
     put_u8(out, 9, low(256 - wire::wide(sum)));
 }

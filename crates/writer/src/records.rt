@@ -13,33 +13,33 @@ pub struct Sizes {
     pub span: [u32; 6],
 }
 
-// The reference to `len` bytes at `h`; to none it is 0, 0.
-pub fn put_slot(part: &mut [u8], p: usize, h: usize, len: usize)
-    requires { ⌜ p + 6 ≤ length (now part) ⌝ }
-    ensures { λ r. ⌜ now (part .exit) ≡ splice (now (part .entry)) p (refNum h len) ⌝ }
+// The reference to `len` bytes at `target`, stored at `at`; to none it is 0, 0.
+pub fn put_slot(part: &mut [u8], at: usize, target: usize, len: usize)
+    requires { ⌜ at + 6 ≤ length (now part) ⌝ }
+    ensures { λ r. ⌜ now (part .exit) ≡ splice (now (part .entry)) at (refNum target len) ⌝ }
 {
     if len == 0 {
-        put_ref(part, p, 0, 0);
+        put_ref(part, at, 0, 0);
         return;
     }
-    put_ref(part, p, h, len);
+    put_ref(part, at, target, len);
 }
 
-// The references of a record, in order; the objects stand one behind the other from `h` on.
-pub fn put_refs(part: &mut [u8], t: Offsets, z: Sizes, h: usize)
-    requires { ⌜ Room (t .count) (t .at) (z .span) (length (now part)) ⌝ }
-    requires { ⌜ h ≤ 131072 ⌝ }
-    ensures { λ r. ⌜ now (part .exit) ≡ apply (now (part .entry)) (storesFrom (t .at) (z .len) (z .span) h 0 (t .count)) ⌝ }
+// The references of a record, in order; the objects stand one behind the other from `heap` on.
+pub fn put_refs(part: &mut [u8], offsets: Offsets, sizes: Sizes, heap: usize)
+    requires { ⌜ Room (offsets .count) (offsets .at) (sizes .span) (length (now part)) ⌝ }
+    requires { ⌜ heap ≤ 131072 ⌝ }
+    ensures { λ r. ⌜ now (part .exit) ≡ apply (now (part .entry)) (storesFrom (offsets .at) (sizes .len) (sizes .span) heap 0 (offsets .count)) ⌝ }
 {
-    let n = t.count;
-    let mut u = h;
+    let count = offsets.count;
+    let mut next = heap;
     let mut i: usize = 0;
-    while i < n {
-        let p = t.at[i];
-        let len = z.len[i];
-        let w = z.span[i] as usize;
-        put_slot(part, p, u, len);
-        u = u + w;
+    while i < count {
+        let offset = offsets.at[i];
+        let len = sizes.len[i];
+        let span = sizes.span[i] as usize;
+        put_slot(part, offset, next, len);
+        next = next + span;
         i += 1;
     }
 }

@@ -7,42 +7,42 @@ ghost use Rattle.table.specs.Bytes.{le, splice};
 ghost use Rattle.table.specs.Objects.{ref6};
 
 // The lowest byte of a number.
-pub fn low(x: usize) -> u8
-    ensures { λ r. ⌜ r ≡ x % 256 ⌝ }
+pub fn low(value: usize) -> u8
+    ensures { λ r. ⌜ r ≡ value % 256 ⌝ }
 {
-    (x % 256) as u8
+    (value % 256) as u8
 }
 
-pub fn put_u8(b: &mut [u8], at: usize, x: u8)
-    requires { ⌜ at + 1 ≤ length (now b) ⌝ }
-    ensures { λ r. ⌜ now (b .exit) ≡ splice (now (b .entry)) at (x ∷ []) ⌝ }
+pub fn put_u8(part: &mut [u8], at: usize, value: u8)
+    requires { ⌜ at + 1 ≤ length (now part) ⌝ }
+    ensures { λ r. ⌜ now (part .exit) ≡ splice (now (part .entry)) at (value ∷ []) ⌝ }
 {
-    b[at] = x;
+    part[at] = value;
 }
 
-pub fn put_u16(b: &mut [u8], at: usize, x: usize)
-    requires { ⌜ at + 2 ≤ length (now b) ⌝ }
-    ensures { λ r. ⌜ now (b .exit) ≡ splice (now (b .entry)) at (le 2 x) ⌝ }
+pub fn put_u16(part: &mut [u8], at: usize, value: usize)
+    requires { ⌜ at + 2 ≤ length (now part) ⌝ }
+    ensures { λ r. ⌜ now (part .exit) ≡ splice (now (part .entry)) at (le 2 value) ⌝ }
 {
-    b[at] = low(x);
-    b[at + 1] = low(x / 256);
+    part[at] = low(value);
+    part[at + 1] = low(value / 256);
 }
 
-pub fn put_u32(b: &mut [u8], at: usize, x: usize)
-    requires { ⌜ at + 4 ≤ length (now b) ⌝ }
-    ensures { λ r. ⌜ now (b .exit) ≡ splice (now (b .entry)) at (le 4 x) ⌝ }
+pub fn put_u32(part: &mut [u8], at: usize, value: usize)
+    requires { ⌜ at + 4 ≤ length (now part) ⌝ }
+    ensures { λ r. ⌜ now (part .exit) ≡ splice (now (part .entry)) at (le 4 value) ⌝ }
 {
-    put_u16(b, at, x);
-    put_u16(b, at + 2, x / 256 / 256);
+    put_u16(part, at, value);
+    put_u16(part, at + 2, value / 256 / 256);
 }
 
-// A reference's six bytes.
-pub fn put_ref(b: &mut [u8], at: usize, off: usize, len: usize)
-    requires { ⌜ at + 6 ≤ length (now b) ⌝ }
-    ensures { λ r. ⌜ now (b .exit) ≡ splice (now (b .entry)) at (ref6 off len) ⌝ }
+// The six bytes of a reference to `len` bytes at `target`.
+pub fn put_ref(part: &mut [u8], at: usize, target: usize, len: usize)
+    requires { ⌜ at + 6 ≤ length (now part) ⌝ }
+    ensures { λ r. ⌜ now (part .exit) ≡ splice (now (part .entry)) at (ref6 target len) ⌝ }
 {
-    put_u32(b, at, off);
-    put_u16(b, at + 4, len);
+    put_u32(part, at, target);
+    put_u16(part, at + 4, len);
 }
 
 pub fn copy_into(out: &mut [u8], at: usize, src: &[u8])
@@ -56,12 +56,12 @@ pub fn copy_into(out: &mut [u8], at: usize, src: &[u8])
     }
 }
 
-pub fn fill_zero(out: &mut [u8], at: usize, n: usize)
-    requires { ⌜ at + n ≤ length (now out) ⌝ }
-    ensures { λ r. ⌜ now (out .exit) ≡ splice (now (out .entry)) at (replicate n 0) ⌝ }
+pub fn fill_zero(out: &mut [u8], at: usize, count: usize)
+    requires { ⌜ at + count ≤ length (now out) ⌝ }
+    ensures { λ r. ⌜ now (out .exit) ≡ splice (now (out .entry)) at (replicate count 0) ⌝ }
 {
     let mut i: usize = 0;
-    while i < n {
+    while i < count {
         out[at + i] = 0;
         i += 1;
     }

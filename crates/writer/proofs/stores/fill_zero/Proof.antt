@@ -10,13 +10,13 @@ use Rattle.writer.proofs.stores.fill_zero.Statement.{statement}
 use Rattle.writer.proofs.stores.fill_zero.Tie as tie
 
 abbrev Inv-loop : tie.InvT-loop
-Inv-loop out₀ at n i₀ out i = (i ≤ n) × (out ≡ paste out₀ at (replicate n 0) i) × (length out ≡ length out₀)
+Inv-loop out₀ at count i₀ out i = (i ≤ count) × (out ≡ paste out₀ at (replicate count 0) i) × (length out ≡ length out₀)
 
 abbrev μ-loop : tie.MeasureT-loop
-μ-loop out₀ at n i₀ out i = n - i
+μ-loop out₀ at count i₀ out i = count - i
 
 loop-holds : tie.Need-loop-holds Inv-loop μ-loop
-loop-holds c = (search picks, paste-zero (c .args .out .now) (c .args .at) (replicate (c .args .n) 0), refl)
+loop-holds c = (search picks, paste-zero (c .args .out .now) (c .args .at) (replicate (c .args .count) 0), refl)
 
 add-out : tie.Need-add-out Inv-loop μ-loop
 add-out c = search picks
@@ -35,7 +35,7 @@ loop-again c =
     let s = c .before .before in
     let a = s .args in (
       search picks,
-      cc (paste-more (a .out .now) (a .at) (replicate (a .n) 0) (c .before .loop .i) (rw length-replicate (s .pre)) (rw length-replicate (c .loop-test .taken)), zero-at (a .n) (c .before .loop .i)),
+      cc (paste-more (a .out .now) (a .at) (replicate (a .count) 0) (c .before .loop .i) (rw length-replicate (s .pre)) (rw length-replicate (c .loop-test .taken)), zero-at (a .count) (c .before .loop .i)),
       simp length-set (search picks),
     )
 
@@ -43,7 +43,7 @@ same-length : tie.Need-same-length Inv-loop μ-loop
 same-length c = search picks
 
 returns : tie.Need-returns Inv-loop μ-loop
-returns c = let a = c .before .before .args in cc (paste-done (a .out .now) (a .at) (replicate (a .n) 0) (c .before .loop .i) (rw length-replicate (omega arith)))
+returns c = let a = c .before .before .args in cc (paste-done (a .out .now) (a .at) (replicate (a .count) 0) (c .before .loop .i) (rw length-replicate (omega arith)))
 
 pub fill-zero-spec : {M : Type 1} → statement M
 fill-zero-spec =

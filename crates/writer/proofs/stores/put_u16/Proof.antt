@@ -8,25 +8,25 @@ use Rattle.writer.proofs.stores.put_u16.Tie as tie
 low-requires : tie.Need-low-requires
 low-requires c κs = search needs
 
-slice-write-b : tie.Need-slice-write-b
-slice-write-b c = search needs
+slice-write-part : tie.Need-slice-write-part
+slice-write-part c = search needs
 
 low-requires-2 : tie.Need-low-requires-2
 low-requires-2 c κs = search needs
 
-add-b : tie.Need-add-b
-add-b c = search needs
+add-part : tie.Need-add-part
+add-part c = search needs
 
-slice-write-b-2 : tie.Need-slice-write-b-2
-slice-write-b-2 c = simp length-set (search picks)
+slice-write-part-2 : tie.Need-slice-write-part-2
+slice-write-part-2 c = simp length-set (search picks)
 
 same-length : tie.Need-same-length
 same-length c = search needs
 
 returns : tie.Need-returns
-returns c = let a = c .before .before .before .args in cc (put-two (a .b .now) (a .at) (c .before .low .result) (c .low2 .result) (c .before .before .before .pre))
+returns c = let a = c .before .before .before .args in cc (put-two (a .part .now) (a .at) (c .before .low .result) (c .low2 .result) (c .before .before .before .pre))
 
 pub put-u16-spec : {M : Type 1} → statement M
 put-u16-spec =
     tie.close
-    (tie.spec low-requires slice-write-b low-requires-2 add-b slice-write-b-2 same-length returns)
+    (tie.spec low-requires slice-write-part low-requires-2 add-part slice-write-part-2 same-length returns)

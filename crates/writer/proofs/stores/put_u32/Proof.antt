@@ -19,7 +19,7 @@ same-length : tie.Need-same-length
 same-length c = search needs
 
 returns : tie.Need-returns
-returns c = let a = c .before .before .before .before .before .before .before .before .before .args in cc (splice-join (a .b .now) (a .at) (le 2 (a .x)) (le 2 (a .x / 256 / 256)) (omega (arith, c .before .before .before .before .before .before .before .before .before .pre)))
+returns c = let a = c .before .before .before .before .before .before .before .before .before .args in cc (splice-join (a .part .now) (a .at) (le 2 (a .value)) (le 2 (a .value / 256 / 256)) (omega (arith, c .before .before .before .before .before .before .before .before .before .pre)))
 
 pub put-u32-spec : {M : Type 1} → statement M
 put-u32-spec =
