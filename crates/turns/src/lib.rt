@@ -37,67 +37,67 @@ pub const FINISHING: u16 = 7;
 const FINISHED: u16 = 8;
 
 // How many records there are to be of a kind.
-pub fn count_of(s: State, kind: u16) -> usize
-    ensures { λ r. ⌜ (r ≡ countOf listKinds (counts s) kind) × (r ≤ 255) ⌝ }
+pub fn count_of(state: State, kind: u16) -> usize
+    ensures { λ r. ⌜ (r ≡ countOf listKinds (counts state) kind) × (r ≤ 255) ⌝ }
 {
     match kind {
-        HFI => s.hfi as usize,
-        SSNS => s.ssns as usize,
-        SECURITY => s.security as usize,
-        DISCOVERY => s.discovery as usize,
+        HFI => state.hfi as usize,
+        SSNS => state.ssns as usize,
+        SECURITY => state.security as usize,
+        DISCOVERY => state.discovery as usize,
         _ => 0,
     }
 }
 
 // The first byte behind the records.
-pub fn records_end(s: State) -> usize
-    ensures { λ r. ⌜ (r ≡ recordsEnd s) × (160 ≤ r) × (r ≤ 65440) ⌝ }
+pub fn records_end(state: State) -> usize
+    ensures { λ r. ⌜ (r ≡ recordsEnd state) × (160 ≤ r) × (r ≤ 65440) ⌝ }
 {
     SHORTEST
-        + (s.hfi as usize) * Hfi::SIZE
-        + (s.ssns as usize) * Ssns::SIZE
-        + (s.security as usize) * Security::SIZE
-        + (s.discovery as usize) * Discovery::SIZE
+        + (state.hfi as usize) * Hfi::SIZE
+        + (state.ssns as usize) * Ssns::SIZE
+        + (state.security as usize) * Security::SIZE
+        + (state.discovery as usize) * Discovery::SIZE
 }
 
 // The position is one of the list whose turn it is.
-fn in_list(s: State) -> bool
-    ensures { λ r. ⌜ r ≡ inList s ⌝ }
+fn in_list(state: State) -> bool
+    ensures { λ r. ⌜ r ≡ inList state ⌝ }
 {
-    let p = s.position as usize;
-    if p < 1 {
+    let position = state.position as usize;
+    if position < 1 {
         return false;
     }
-    p <= count_of(s, s.turn)
+    position <= count_of(state, state.turn)
 }
 
 // Host and finish have no position.
-fn in_place(s: State, kind: u16) -> bool
-    ensures { λ r. ⌜ r ≡ inPlace s kind ⌝ }
+fn in_place(state: State, kind: u16) -> bool
+    ensures { λ r. ⌜ r ≡ inPlace state kind ⌝ }
 {
     if kind == HOST {
-        return s.position == 0;
+        return state.position == 0;
     }
     if kind == FINISHING {
-        return s.position == 0;
+        return state.position == 0;
     }
-    in_list(s)
+    in_list(state)
 }
 
 // Whether this is a possible begun state that waits for a record of a kind, or (7) for finish.
-pub fn waits(s: State, kind: u16) -> bool
-    ensures { λ r. ⌜ r ≡ definition.waits s kind ⌝ }
+pub fn waits(state: State, kind: u16) -> bool
+    ensures { λ r. ⌜ r ≡ definition.waits state kind ⌝ }
 {
-    if s.turn != kind {
+    if state.turn != kind {
         return false;
     }
-    if !in_place(s, kind) {
+    if !in_place(state, kind) {
         return false;
     }
-    if s.used < records_end(s) {
+    if state.used < records_end(state) {
         return false;
     }
-    s.used <= LIMIT
+    state.used <= LIMIT
 }
 
 // The kind of the first list that is not empty, or finish.
@@ -120,83 +120,83 @@ fn first_list(hfi: u8, ssns: u8, security: u8, discovery: u8) -> u16
 }
 
 // The same of the lists behind the one whose turn it is.
-fn later_list(s: State) -> u16
-    ensures { λ r. ⌜ turn r (pick (eqb r 7) 0 1) ≡ laterTurn s ⌝ }
+fn later_list(state: State) -> u16
+    ensures { λ r. ⌜ turn r (pick (eqb r 7) 0 1) ≡ laterTurn state ⌝ }
 {
-    let turn = s.turn;
+    let turn = state.turn;
     match turn {
-        HOST => first_list(s.hfi, s.ssns, s.security, s.discovery),
-        HFI => first_list(0, s.ssns, s.security, s.discovery),
-        SSNS => first_list(0, 0, s.security, s.discovery),
-        SECURITY => first_list(0, 0, 0, s.discovery),
+        HOST => first_list(state.hfi, state.ssns, state.security, state.discovery),
+        HFI => first_list(0, state.ssns, state.security, state.discovery),
+        SSNS => first_list(0, 0, state.security, state.discovery),
+        SECURITY => first_list(0, 0, 0, state.discovery),
         _ => FINISHING,
     }
 }
 
-fn moved_to(s: State, kind: u16, position: u16, used: usize) -> State
-    ensures { λ r. ⌜ r ≡ moved s (turn kind position) used ⌝ }
+fn moved_to(state: State, kind: u16, position: u16, used: usize) -> State
+    ensures { λ r. ⌜ r ≡ moved state (turn kind position) used ⌝ }
 {
     State {
         turn: kind,
         position: position,
-        hfi: s.hfi,
-        ssns: s.ssns,
-        security: s.security,
-        discovery: s.discovery,
+        hfi: state.hfi,
+        ssns: state.ssns,
+        security: state.security,
+        discovery: state.discovery,
         used: used,
     }
 }
 
-// The state behind a done call that wrote `n` bytes of objects and heap records.
-pub fn next(s: State, n: usize) -> State
-    requires { ⌜ s .used + n ≤ limit ⌝ }
-    ensures { λ r. ⌜ r ≡ definition.next s n ⌝ }
+// The state behind a done call that wrote `written` bytes of objects and heap records.
+pub fn next(state: State, written: usize) -> State
+    requires { ⌜ state .used + written ≤ limit ⌝ }
+    ensures { λ r. ⌜ r ≡ definition.next state written ⌝ }
 {
-    let used = s.used + n;
-    if (s.position as usize) < count_of(s, s.turn) {
-        return moved_to(s, s.turn, s.position + 1, used);
+    let used = state.used + written;
+    if (state.position as usize) < count_of(state, state.turn) {
+        return moved_to(state, state.turn, state.position + 1, used);
     }
-    let kind = later_list(s);
+    let kind = later_list(state);
     if kind == FINISHING {
-        return moved_to(s, FINISHING, 0, used);
+        return moved_to(state, FINISHING, 0, used);
     }
-    moved_to(s, kind, 1, used)
+    moved_to(state, kind, 1, used)
 }
 
 // The finished state.
-pub fn finished(s: State) -> State
-    ensures { λ r. ⌜ r ≡ moved s (turn definition.finished 0) (s .used) ⌝ }
+pub fn finished(state: State) -> State
+    ensures { λ r. ⌜ r ≡ moved state (turn definition.finished 0) (state .used) ⌝ }
 {
-    moved_to(s, FINISHED, 0, s.used)
+    moved_to(state, FINISHED, 0, state.used)
 }
 
 // Where the first record of a list stands.
-fn list_start(s: State, kind: u8) -> usize
-    ensures { λ r. ⌜ (r ≡ startOf 160 listKinds (counts s) kind) × (r ≤ 65440) ⌝ }
+fn list_start(state: State, kind: u8) -> usize
+    ensures { λ r. ⌜ (r ≡ startOf 160 listKinds (counts state) kind) × (r ≤ 65440) ⌝ }
 {
     let hfi = SHORTEST;
-    let ssns = hfi + (s.hfi as usize) * Hfi::SIZE;
-    let security = ssns + (s.ssns as usize) * Ssns::SIZE;
-    let discovery = security + (s.security as usize) * Security::SIZE;
+    let ssns = hfi + (state.hfi as usize) * Hfi::SIZE;
+    let security = ssns + (state.ssns as usize) * Ssns::SIZE;
+    let discovery = security + (state.security as usize) * Security::SIZE;
     match kind {
         Hfi::ID => hfi,
         Ssns::ID => ssns,
         Security::ID => security,
         Discovery::ID => discovery,
-        _ => discovery + (s.discovery as usize) * Discovery::SIZE,
+        _ => discovery + (state.discovery as usize) * Discovery::SIZE,
     }
 }
 
 // Where the record of a kind stands whose turn it is.
-pub fn place_of(s: State, kind: u8) -> usize
-    requires { ⌜ (2 ≤ kind) × (kind ≤ 6) × (definition.waits s kind ≡ true) ⌝ }
-    ensures { λ r. ⌜ (r ≡ definition.placeOf s (layoutOf kind)) × (r + baseOf (layoutOf kind) ≤ recordsEnd s) ⌝ }
+pub fn place_of(state: State, kind: u8) -> usize
+    requires { ⌜ (2 ≤ kind) × (kind ≤ 6) × (definition.waits state kind ≡ true) ⌝ }
+    ensures { λ r. ⌜ (r ≡ definition.placeOf state (layoutOf kind)) × (r + baseOf (layoutOf kind) ≤ recordsEnd state) ⌝ }
 {
     if kind == Host::ID {
         return FRONT;
     }
-    let i = (s.position as usize) - 1;
-    let start = list_start(s, kind);
+    let i = (state.position as usize) - 1;
+    let start = list_start(state, kind);
     match kind {
         Hfi::ID => start + i * Hfi::SIZE,
         Ssns::ID => start + i * Ssns::SIZE,

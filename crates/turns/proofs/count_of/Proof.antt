@@ -37,7 +37,7 @@ returns-4 c = (rw (c .before .match .keys4) refl, omega (arith, c .struct-known4
 
 returns-5 : tie.Need-returns-5
 unfolding hfi ssns security discovery
-returns-5 c = let m = c .match .rest in (sym (none (c .before .args .s) (c .before .args .kind) (m .0 .0 .0 .1) (m .0 .0 .1) (m .0 .1) (m .1)), lit≤ tt)
+returns-5 c = let m = c .match .rest in (sym (none (c .before .args .state) (c .before .args .kind) (m .0 .0 .0 .1) (m .0 .0 .1) (m .0 .1) (m .1)), lit≤ tt)
 
 pub count-of-spec : {M : Type 1} → statement M
 count-of-spec =

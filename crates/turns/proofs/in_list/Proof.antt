@@ -6,17 +6,17 @@ use borrow.Author.Needs.{needs}
 use Rattle.turns.proofs.in_list.Statement.{statement}
 use Rattle.turns.proofs.in_list.Tie as tie
 
-cast-p : tie.Need-cast-p
-cast-p c = search needs
+cast-position : tie.Need-cast-position
+cast-position c = search needs
 
 returns : tie.Need-returns
-returns c = rw (lt-leb 1 (c .before .before .args .s .position) (c .if1 .taken)) refl
+returns c = rw (lt-leb 1 (c .before .before .args .state .position) (c .if1 .taken)) refl
 
 count-of-requires : tie.Need-count-of-requires
 count-of-requires c κs = search needs
 
 returns-2 : tie.Need-returns-2
-returns-2 c = in-list-is (c .before .before .before .args .s) (c .count-of .result) (c .count-of .ensures .0) (omega (arith, c .before .if1 .left))
+returns-2 c = in-list-is (c .before .before .before .args .state) (c .count-of .result) (c .count-of .ensures .0) (omega (arith, c .before .if1 .left))
 
 pub in-list-spec : {M : Type 1} → statement M
-in-list-spec = tie.close (tie.spec cast-p returns count-of-requires returns-2)
+in-list-spec = tie.close (tie.spec cast-position returns count-of-requires returns-2)

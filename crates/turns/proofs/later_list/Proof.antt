@@ -36,7 +36,7 @@ returns-4 c = rw (c .before .match .keys4) (c .first-list4 .ensures)
 
 returns-5 : tie.Need-returns-5
 unfolding laterTurn
-returns-5 c = let m = c .match .rest in let k = c .before .args .s .turn in rw (ne-eqb k 2 (m .0 .0 .0 .1), ne-eqb k 3 (m .0 .0 .1), ne-eqb k 4 (m .0 .1), ne-eqb k 5 (m .1)) refl
+returns-5 c = let m = c .match .rest in let k = c .before .args .state .turn in rw (ne-eqb k 2 (m .0 .0 .0 .1), ne-eqb k 3 (m .0 .0 .1), ne-eqb k 4 (m .0 .1), ne-eqb k 5 (m .1)) refl
 
 pub later-list-spec : {M : Type 1} → statement M
 later-list-spec =
