@@ -9,21 +9,21 @@ use Rattle.table.specs.FixedLayouts.{host, listKinds}
 use Rattle.table.specs.Meaning.{headFront}
 use Rattle.writer.specs.Stores.{refNum}
 
--- the header with checksum 0: n is Length, h and k are place and length of the heap, d is the length of the driver signature, which stands first in it
-unfoldable pub headerFor : ℕ → List ℕ → ℕ → ℕ → ℕ → List ℕ
-headerFor n oem h k d = headFront n ++ (0 ∷ (oem ++ (le 4 h ++ (le 4 k ++ (refNum h d ++ replicate 14 0)))))
+-- the header of a table of so many bytes, its checksum 0: its heap stands at heap, and first in it a driver signature of signature bytes
+unfoldable pub headerFor : (size : ℕ) (oem : List ℕ) (heap heapsize signature : ℕ) → List ℕ
+headerFor size oem heap heapsize signature = headFront size ++ (0 ∷ (oem ++ (le 4 heap ++ (le 4 heapsize ++ (refNum heap signature ++ replicate 14 0)))))
 
--- the entry of a list of c records of b bytes at a
-abbrev pub entryFor : ℕ → ℕ → ℕ → List ℕ
-entryFor a b c = pick (eqb c 0) (le 4 0 ++ (le 2 0 ++ (1 ∷ 0 ∷ []))) (le 4 a ++ (le 2 b ++ (1 ∷ c ∷ [])))
+-- the entry of a list of so many records of a size
+abbrev pub entryFor : (place size count : ℕ) → List ℕ
+entryFor place size count = pick (eqb count 0) (le 4 0 ++ (le 2 0 ++ (1 ∷ 0 ∷ []))) (le 4 place ++ (le 2 size ++ (1 ∷ count ∷ [])))
 
--- the entries of lists of so many records each, the first of them at a
-unfoldable pub placesFor : ℕ → List Layout → List ℕ → List ℕ
-placesFor a [] cs = []
-placesFor a (l ∷ ls) [] = []
-placesFor a (l ∷ ls) (c ∷ cs) = entryFor a (baseOf l) c ++ placesFor (a + c * baseOf l) ls cs
+-- the entries of lists of so many records each, the first of them at a place
+unfoldable pub placesFor : (place : ℕ) → List Layout → (counts : List ℕ) → List ℕ
+placesFor place [] counts = []
+placesFor place (l ∷ ls) [] = []
+placesFor place (l ∷ ls) (count ∷ counts) = entryFor place (baseOf l) count ++ placesFor (place + count * baseOf l) ls counts
 
-unfoldable pub controlFor : List ℕ → List ℕ
-controlFor cs =
+unfoldable pub controlFor : (counts : List ℕ) → List ℕ
+controlFor counts =
     (1 ∷ 1 ∷ 0 ∷ 0 ∷ [])
-    ++ (le 2 64 ++ ((1 ∷ 0 ∷ []) ++ (le 4 128 ++ (le 2 (baseOf host) ++ ((1 ∷ 0 ∷ []) ++ (placesFor 160 listKinds cs ++ replicate 16 0))))))
+    ++ (le 2 64 ++ ((1 ∷ 0 ∷ []) ++ (le 4 128 ++ (le 2 (baseOf host) ++ ((1 ∷ 0 ∷ []) ++ (placesFor 160 listKinds counts ++ replicate 16 0))))))

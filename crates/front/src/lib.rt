@@ -46,21 +46,28 @@ pub struct Counts {
     pub discovery: u8,
 }
 
-// The header with Length `n`; `h` and `k` are place and length of the heap, `d` is the length of the driver signature, which stands first in it.
+// The header of a table of `size` bytes, with a heap of `heapsize` bytes at `heap`, and first in it a driver signature of `signature` bytes.
 // The checksum is 0, so that it can be counted over the finished table and stored then.
-pub fn write_header(part: &mut [u8], oem: &[u8], n: usize, h: usize, k: usize, d: usize)
+pub fn write_header(
+    part: &mut [u8],
+    oem: &[u8],
+    size: usize,
+    heap: usize,
+    heapsize: usize,
+    signature: usize,
+)
     requires { ⌜ length (now part) ≡ 64 ⌝ }
     requires { ⌜ length (now oem) ≡ 26 ⌝ }
-    ensures { λ r. ⌜ now (part .exit) ≡ headerFor n (now (oem .entry)) h k d ⌝ }
+    ensures { λ r. ⌜ now (part .exit) ≡ headerFor size (now (oem .entry)) heap heapsize signature ⌝ }
 {
     put_u32(part, 0, table::SIGNATURE);
-    put_u32(part, 4, n);
+    put_u32(part, 4, size);
     put_u8(part, 8, 1);
     put_u8(part, 9, 0);
     copy_into(part, 10, oem);
-    put_u32(part, 36, h);
-    put_u32(part, 40, k);
-    put_slot(part, 44, h, d);
+    put_u32(part, 36, heap);
+    put_u32(part, 40, heapsize);
+    put_slot(part, 44, heap, signature);
     fill_zero(part, HEADER_REST, HEADER_RESERVED);
 }
 
@@ -88,43 +95,58 @@ fn put_entry(part: &mut [u8], at: usize, place: usize, size: usize, count: u8)
 }
 
 // The control record: the host stands behind it, and the lists behind the host, each right behind the one before.
-pub fn write_control(part: &mut [u8], c: Counts)
+pub fn write_control(part: &mut [u8], counts: Counts)
     requires { ⌜ length (now part) ≡ 64 ⌝ }
-    ensures { λ r. ⌜ now (part .exit) ≡ controlFor (c .hfi ∷ c .ssns ∷ c .security ∷ c .discovery ∷ []) ⌝ }
+    ensures { λ r. ⌜ now (part .exit) ≡ controlFor (counts .hfi ∷ counts .ssns ∷ counts .security ∷ counts .discovery ∷ []) ⌝ }
 {
     // ID, revision 1.0, a reserved byte, the record's own length, flags: valid, a reserved byte.
     let lead = [Control::ID, 1, 0, 0, CONTROL_LENGTH, 0, 1, 0];
     let host = table::FRONT;
     let hfi = table::SHORTEST;
-    let ssns = hfi + (c.hfi as usize) * table::Hfi::SIZE;
-    let security = ssns + (c.ssns as usize) * table::Ssns::SIZE;
-    let discovery = security + (c.security as usize) * table::Security::SIZE;
+    let ssns = hfi + (counts.hfi as usize) * table::Hfi::SIZE;
+    let security = ssns + (counts.ssns as usize) * table::Ssns::SIZE;
+    let discovery = security + (counts.security as usize) * table::Security::SIZE;
     copy_into(part, 0, &lead);
     put_place(part, HOST, host, table::Host::SIZE, 0);
-    put_entry(part, HFI_LIST, hfi, table::Hfi::SIZE, c.hfi);
-    put_entry(part, SSNS_LIST, ssns, table::Ssns::SIZE, c.ssns);
+    put_entry(part, HFI_LIST, hfi, table::Hfi::SIZE, counts.hfi);
+    put_entry(part, SSNS_LIST, ssns, table::Ssns::SIZE, counts.ssns);
     put_entry(
         part,
         SECURITY_LIST,
         security,
         table::Security::SIZE,
-        c.security,
+        counts.security,
     );
     put_entry(
         part,
         DISCOVERY_LIST,
         discovery,
         table::Discovery::SIZE,
-        c.discovery,
+        counts.discovery,
     );
     fill_zero(part, CONTROL_REST, CONTROL_RESERVED);
 }
 
 // Both, into the first bytes of `out`.
-pub fn write_front(out: &mut [u8], oem: &[u8], c: Counts, n: usize, h: usize, k: usize, d: usize)
+pub fn write_front(
+    out: &mut [u8],
+    oem: &[u8],
+    counts: Counts,
+    size: usize,
+    heap: usize,
+    heapsize: usize,
+    signature: usize,
+)
     requires { ⌜ (128 ≤ length (now out)) × (length (now oem) ≡ 26) ⌝ }
-    ensures { λ r. ⌜ now (out .exit) ≡ splice (splice (now (out .entry)) 0 (headerFor n (now (oem .entry)) h k d)) 64 (controlFor (c .hfi ∷ c .ssns ∷ c .security ∷ c .discovery ∷ [])) ⌝ }
+    ensures { λ r. ⌜ now (out .exit) ≡ splice (splice (now (out .entry)) 0 (headerFor size (now (oem .entry)) heap heapsize signature)) 64 (controlFor (counts .hfi ∷ counts .ssns ∷ counts .security ∷ counts .discovery ∷ [])) ⌝ }
 {
-    write_header(&mut out[0..Header::SIZE], oem, n, h, k, d);
-    write_control(&mut out[Header::SIZE..table::FRONT], c);
+    write_header(
+        &mut out[0..Header::SIZE],
+        oem,
+        size,
+        heap,
+        heapsize,
+        signature,
+    );
+    write_control(&mut out[Header::SIZE..table::FRONT], counts);
 }

@@ -68,10 +68,10 @@ returns : tie.Need-returns
 returns c =
     let s = c .before .before .before .before .before .before .before .before .before .before .before .before .before .before .before .before .before .before .before .before .before .before .before .before .before .before .before .before .before .before .before .before .before in
     let a = s .args in
-    let h = a .c .hfi in
-    let n = a .c .ssns in
-    let k = a .c .security in
-    let d = a .c .discovery in
+    let h = a .counts .hfi in
+    let n = a .counts .ssns in
+    let k = a .counts .security in
+    let d = a .counts .discovery in
     let p0 = c .before .before .before .before .before .before .before .before .before .before .before .before .before .before .before .before .before .before .before .before .before .before .before .before .before .before .copy-into in
     let p1 = c .before .before .before .before .before .before .before .before .before .before .before .before .before .before .before .before .before .before .before .before .before .before .put-place in
     let p2 = c .before .before .before .before .before .before .before .before .before .before .before .before .before .before .before .before .before .before .put-entry in

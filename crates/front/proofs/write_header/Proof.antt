@@ -76,12 +76,12 @@ returns c =
     let p7 = c .before .before .before .before .before .before .put-slot in
     let p8 = c .before .before .fill-zero in
     let o = a .oem .now in
-    let l = header-long (a .n) o (a .h) (a .k) (a .d) (s .pre .1) in
+    let l = header-long (a .size) o (a .heap) (a .heapsize) (a .signature) (s .pre .1) in
     let w5 : 36 ≡ 10 + length o = omega (arith, s .pre) in
     let w6 : 40 ≡ 10 + length o + 4 = omega (arith, s .pre) in
     let w7 : 44 ≡ 10 + length o + 4 + 4 = omega (arith, s .pre) in
-    let w8 : 50 ≡ 10 + length o + 4 + 4 + length (refNum (a .h) (a .d)) = omega (arith, s .pre, length-ref (a .h) (a .d)) in
-    chain-laid (headerPieces (a .n) o (a .h) (a .k) (a .d)) (a .part .now) 0 (p8 .last .0) (omega (arith, l, s .pre)) (
+    let w8 : 50 ≡ 10 + length o + 4 + 4 + length (refNum (a .heap) (a .signature)) = omega (arith, s .pre, length-ref (a .heap) (a .signature)) in
+    chain-laid (headerPieces (a .size) o (a .heap) (a .heapsize) (a .signature)) (a .part .now) 0 (p8 .last .0) (omega (arith, l, s .pre)) (
       p0 .last .0,
       0,
       p0 .ensures,
@@ -112,8 +112,8 @@ returns c =
         ),
       ),
     )
-    ∙ splice-all (a .part .now) (concat (headerPieces (a .n) o (a .h) (a .k) (a .d))) (omega (arith, l, s .pre))
-    ∙ header-joined (a .n) o (a .h) (a .k) (a .d)
+    ∙ splice-all (a .part .now) (concat (headerPieces (a .size) o (a .heap) (a .heapsize) (a .signature))) (omega (arith, l, s .pre))
+    ∙ header-joined (a .size) o (a .heap) (a .heapsize) (a .signature)
 
 pub write-header-spec : {M : Type 1} → statement M
 write-header-spec =
