@@ -19,99 +19,99 @@ ghost use Rattle.table.specs.Layout.{baseOf};
 ghost use Rattle.table.specs.FixedLayouts.{layoutOf};
 ghost use Rattle.told.specs.Marks.{Tellable, stamped, marked};
 
-// All but the valid bit; `n` is the record's own position, or its owner's.
-fn stamp(b: &mut [u8], kind: u8, n: usize)
-    requires { ⌜ Tellable kind × (length (now b) ≡ baseOf (layoutOf kind)) ⌝ }
-    ensures { λ r. ⌜ now (b .exit) ≡ stamped (layoutOf kind .shape) n (now (b .entry)) ⌝ }
+// All but the valid bit; `position` is the record's own position, or its owner's.
+fn stamp(bytes: &mut [u8], kind: u8, position: usize)
+    requires { ⌜ Tellable kind × (length (now bytes) ≡ baseOf (layoutOf kind)) ⌝ }
+    ensures { λ r. ⌜ now (bytes .exit) ≡ stamped (layoutOf kind .shape) position (now (bytes .entry)) ⌝ }
 {
     match kind {
         Host::ID => {
-            put_u8(b, 0, Host::ID);
+            put_u8(bytes, 0, Host::ID);
         }
         Hfi::ID => {
-            put_u8(b, 0, Hfi::ID);
-            put_u8(b, 3, 3);
-            put_u8(b, 1, low(n));
+            put_u8(bytes, 0, Hfi::ID);
+            put_u8(bytes, 3, 3);
+            put_u8(bytes, 1, low(position));
         }
         Ssns::ID => {
-            put_u8(b, 0, Ssns::ID);
-            put_u8(b, 5, 3);
-            put_u16(b, 1, n);
+            put_u8(bytes, 0, Ssns::ID);
+            put_u8(bytes, 5, 3);
+            put_u16(bytes, 1, position);
         }
         Security::ID => {
-            put_u8(b, 0, Security::ID);
-            put_u8(b, 1, low(n));
+            put_u8(bytes, 0, Security::ID);
+            put_u8(bytes, 1, low(position));
         }
         Discovery::ID => {
-            put_u8(b, 0, Discovery::ID);
-            put_u8(b, 2, low(n));
+            put_u8(bytes, 0, Discovery::ID);
+            put_u8(bytes, 2, low(position));
         }
         Info::ID => {
             let lead = [Info::ID, 1, 3, 1];
-            copy_into(b, 0, &lead);
-            put_u16(b, 4, n);
+            copy_into(bytes, 0, &lead);
+            put_u16(bytes, 4, position);
         }
         _ => {
             let lead = [Extended::ID, 1];
-            copy_into(b, 0, &lead);
-            put_u16(b, 2, n);
+            copy_into(bytes, 0, &lead);
+            put_u16(bytes, 2, position);
         }
     }
 }
 
-fn set_valid(b: &mut [u8], at: usize)
-    requires { ⌜ at < length (now b) ⌝ }
-    ensures { λ r. ⌜ now (b .exit) ≡ splice (now (b .entry)) at ((getD (now (b .entry)) at 0 / 2 * 2 + 1) ∷ []) ⌝ }
+fn set_valid(bytes: &mut [u8], at: usize)
+    requires { ⌜ at < length (now bytes) ⌝ }
+    ensures { λ r. ⌜ now (bytes .exit) ≡ splice (now (bytes .entry)) at ((getD (now (bytes .entry)) at 0 / 2 * 2 + 1) ∷ []) ⌝ }
 {
-    let flags = b[at] / 2 * 2 + 1;
-    put_u8(b, at, flags);
+    let flags = bytes[at] / 2 * 2 + 1;
+    put_u8(bytes, at, flags);
 }
 
 // The record as the builder takes it.
-fn mark(b: &mut [u8], kind: u8, n: usize)
-    requires { ⌜ Tellable kind × (length (now b) ≡ baseOf (layoutOf kind)) ⌝ }
-    ensures { λ r. ⌜ now (b .exit) ≡ marked (layoutOf kind .shape) n (now (b .entry)) ⌝ }
+fn mark(bytes: &mut [u8], kind: u8, position: usize)
+    requires { ⌜ Tellable kind × (length (now bytes) ≡ baseOf (layoutOf kind)) ⌝ }
+    ensures { λ r. ⌜ now (bytes .exit) ≡ marked (layoutOf kind .shape) position (now (bytes .entry)) ⌝ }
 {
-    stamp(b, kind, n);
-    set_valid(b, kinds::flags_at(kind));
+    stamp(bytes, kind, position);
+    set_valid(bytes, kinds::flags_at(kind));
 }
 
 // Host, HFI and discovery records by value.
-pub fn mark_32(x: [u8; Host::SIZE], kind: u8, n: usize) -> [u8; Host::SIZE]
+pub fn mark_32(told: [u8; Host::SIZE], kind: u8, position: usize) -> [u8; Host::SIZE]
     requires { ⌜ Tellable kind × (baseOf (layoutOf kind) ≡ 32) ⌝ }
-    ensures { λ r. ⌜ (r ≡ marked (layoutOf kind .shape) n x) × (length x ≡ 32) × (length r ≡ 32) ⌝ }
+    ensures { λ r. ⌜ (r ≡ marked (layoutOf kind .shape) position told) × (length told ≡ 32) × (length r ≡ 32) ⌝ }
 {
-    let mut b = x;
-    mark(&mut b[0..Host::SIZE], kind, n);
-    b
+    let mut bytes = told;
+    mark(&mut bytes[0..Host::SIZE], kind, position);
+    bytes
 }
 
 // Security records by value.
-pub fn mark_64(x: [u8; Security::SIZE], kind: u8, n: usize) -> [u8; Security::SIZE]
+pub fn mark_64(told: [u8; Security::SIZE], kind: u8, position: usize) -> [u8; Security::SIZE]
     requires { ⌜ Tellable kind × (baseOf (layoutOf kind) ≡ 64) ⌝ }
-    ensures { λ r. ⌜ (r ≡ marked (layoutOf kind .shape) n x) × (length x ≡ 64) × (length r ≡ 64) ⌝ }
+    ensures { λ r. ⌜ (r ≡ marked (layoutOf kind .shape) position told) × (length told ≡ 64) × (length r ≡ 64) ⌝ }
 {
-    let mut b = x;
-    mark(&mut b[0..Security::SIZE], kind, n);
-    b
+    let mut bytes = told;
+    mark(&mut bytes[0..Security::SIZE], kind, position);
+    bytes
 }
 
 // SSNS records and transport info by value.
-pub fn mark_128(x: [u8; Ssns::SIZE], kind: u8, n: usize) -> [u8; Ssns::SIZE]
+pub fn mark_128(told: [u8; Ssns::SIZE], kind: u8, position: usize) -> [u8; Ssns::SIZE]
     requires { ⌜ Tellable kind × (baseOf (layoutOf kind) ≡ 128) ⌝ }
-    ensures { λ r. ⌜ (r ≡ marked (layoutOf kind .shape) n x) × (length x ≡ 128) × (length r ≡ 128) ⌝ }
+    ensures { λ r. ⌜ (r ≡ marked (layoutOf kind .shape) position told) × (length told ≡ 128) × (length r ≡ 128) ⌝ }
 {
-    let mut b = x;
-    mark(&mut b[0..Ssns::SIZE], kind, n);
-    b
+    let mut bytes = told;
+    mark(&mut bytes[0..Ssns::SIZE], kind, position);
+    bytes
 }
 
 // Extended info by value.
-pub fn mark_18(x: [u8; Extended::SIZE], kind: u8, n: usize) -> [u8; Extended::SIZE]
+pub fn mark_18(told: [u8; Extended::SIZE], kind: u8, position: usize) -> [u8; Extended::SIZE]
     requires { ⌜ Tellable kind × (baseOf (layoutOf kind) ≡ 18) ⌝ }
-    ensures { λ r. ⌜ (r ≡ marked (layoutOf kind .shape) n x) × (length x ≡ 18) × (length r ≡ 18) ⌝ }
+    ensures { λ r. ⌜ (r ≡ marked (layoutOf kind .shape) position told) × (length told ≡ 18) × (length r ≡ 18) ⌝ }
 {
-    let mut b = x;
-    mark(&mut b[0..Extended::SIZE], kind, n);
-    b
+    let mut bytes = told;
+    mark(&mut bytes[0..Extended::SIZE], kind, position);
+    bytes
 }

@@ -9,44 +9,44 @@ ghost use Rattle.table.specs.Rules.{firstOf};
 ghost use Rattle.told.specs.Faults.{objectFault};
 
 // What is ignored is empty.
-pub fn kept(need: Need, o: &[u8]) -> &[u8]
-    ensures { λ r. ⌜ now r ≡ under need [] (now (o .entry)) ⌝ }
+pub fn kept(need: Need, object: &[u8]) -> &[u8]
+    ensures { λ r. ⌜ now r ≡ under need [] (now (object .entry)) ⌝ }
 {
     match need {
-        Need::Ignored => &o[0..0],
-        Need::Optional => o,
-        Need::Required => o,
+        Need::Ignored => &object[0..0],
+        Need::Optional => object,
+        Need::Required => object,
     }
 }
 
 // 11 for what is longer than a reference can say.
-fn length_fault(n: usize) -> u8
-    ensures { λ r. ⌜ r ≡ pick (leb n 65535) 0 11 ⌝ }
+fn length_fault(len: usize) -> u8
+    ensures { λ r. ⌜ r ≡ pick (leb len 65535) 0 11 ⌝ }
 {
-    if n > 65535 {
+    if len > 65535 {
         return 11;
     }
     0
 }
 
 // 11 where what is left is not there though it must be, or is longer than a reference can say.
-pub fn fits(need: Need, o: &[u8]) -> u8
-    ensures { λ r. ⌜ r ≡ objectFault need (now (o .entry)) ⌝ }
+pub fn fits(need: Need, object: &[u8]) -> u8
+    ensures { λ r. ⌜ r ≡ objectFault need (now (object .entry)) ⌝ }
 {
-    let n = o.len();
+    let len = object.len();
     match need {
         Need::Ignored => 0,
-        Need::Optional => length_fault(n),
-        Need::Required => if n == 0 { 11 } else { length_fault(n) },
+        Need::Optional => length_fault(len),
+        Need::Required => if len == 0 { 11 } else { length_fault(len) },
     }
 }
 
 // The first of two faults, 0 where there is none.
-pub fn first_of(a: u8, b: u8) -> u8
-    ensures { λ r. ⌜ r ≡ firstOf a b ⌝ }
+pub fn first_of(first: u8, second: u8) -> u8
+    ensures { λ r. ⌜ r ≡ firstOf first second ⌝ }
 {
-    if a != 0 {
-        return a;
+    if first != 0 {
+        return first;
     }
-    b
+    second
 }

@@ -100,42 +100,42 @@ same-length-2 c = search needs
 
 returns-2 : tie.Need-returns-2
 unfolding stamped layoutOf hfi
-returns-2 c = let k = c .before .before .before .before .before .before .before .before .before .before .before .before .before .match .keys2 in rw k (further _ _ _ 1 (c .before .before .before .before .before .before .before .before .before .before .before .before .before .before .before .args .n % 256 ∷ []) (c .before .before .put-u84 .ensures ∙ ap (λ (x : ℕ). splice (c .before .before .before .before .before .before .before .put-u83 .last .0) 1 (x ∷ [])) (c .before .before .before .low .ensures)) (further _ _ _ 3 (3 ∷ []) (c .before .before .before .before .before .before .before .put-u83 .ensures) (c .before .before .before .before .before .before .before .before .before .before .before .put-u82 .ensures)))
+returns-2 c = let k = c .before .before .before .before .before .before .before .before .before .before .before .before .before .match .keys2 in rw k (further _ _ _ 1 (c .before .before .before .before .before .before .before .before .before .before .before .before .before .before .before .args .position % 256 ∷ []) (c .before .before .put-u84 .ensures ∙ ap (λ (x : ℕ). splice (c .before .before .before .before .before .before .before .put-u83 .last .0) 1 (x ∷ [])) (c .before .before .before .low .ensures)) (further _ _ _ 3 (3 ∷ []) (c .before .before .before .before .before .before .before .put-u83 .ensures) (c .before .before .before .before .before .before .before .before .before .before .before .put-u82 .ensures)))
 
 same-length-3 : tie.Need-same-length-3
 same-length-3 c = search needs
 
 returns-3 : tie.Need-returns-3
 unfolding stamped layoutOf ssns
-returns-3 c = let k = c .before .before .before .before .before .before .before .before .before .before .before .before .match .keys3 in rw k (further _ _ _ 1 (le 2 (c .before .before .before .before .before .before .before .before .before .before .before .before .before .before .args .n)) (c .before .before .put-u16 .ensures) (further _ _ _ 5 (3 ∷ []) (c .before .before .before .before .before .before .put-u86 .ensures) (c .before .before .before .before .before .before .before .before .before .before .put-u85 .ensures)))
+returns-3 c = let k = c .before .before .before .before .before .before .before .before .before .before .before .before .match .keys3 in rw k (further _ _ _ 1 (le 2 (c .before .before .before .before .before .before .before .before .before .before .before .before .before .before .args .position)) (c .before .before .put-u16 .ensures) (further _ _ _ 5 (3 ∷ []) (c .before .before .before .before .before .before .put-u86 .ensures) (c .before .before .before .before .before .before .before .before .before .before .put-u85 .ensures)))
 
 same-length-4 : tie.Need-same-length-4
 same-length-4 c = search needs
 
 returns-4 : tie.Need-returns-4
 unfolding stamped layoutOf security
-returns-4 c = let k = c .before .before .before .before .before .before .before .before .before .match .keys4 in rw k (further _ _ _ 1 (c .before .before .before .before .before .before .before .before .before .before .before .args .n % 256 ∷ []) (c .before .before .put-u88 .ensures ∙ ap (λ (x : ℕ). splice (c .before .before .before .before .before .before .before .put-u87 .last .0) 1 (x ∷ [])) (c .before .before .before .low2 .ensures)) (c .before .before .before .before .before .before .before .put-u87 .ensures))
+returns-4 c = let k = c .before .before .before .before .before .before .before .before .before .match .keys4 in rw k (further _ _ _ 1 (c .before .before .before .before .before .before .before .before .before .before .before .args .position % 256 ∷ []) (c .before .before .put-u88 .ensures ∙ ap (λ (x : ℕ). splice (c .before .before .before .before .before .before .before .put-u87 .last .0) 1 (x ∷ [])) (c .before .before .before .low2 .ensures)) (c .before .before .before .before .before .before .before .put-u87 .ensures))
 
 same-length-5 : tie.Need-same-length-5
 same-length-5 c = search needs
 
 returns-5 : tie.Need-returns-5
 unfolding stamped layoutOf discovery
-returns-5 c = let k = c .before .before .before .before .before .before .before .before .before .match .keys5 in rw k (further _ _ _ 2 (c .before .before .before .before .before .before .before .before .before .before .before .args .n % 256 ∷ []) (c .before .before .put-u810 .ensures ∙ ap (λ (x : ℕ). splice (c .before .before .before .before .before .before .before .put-u89 .last .0) 2 (x ∷ [])) (c .before .before .before .low3 .ensures)) (c .before .before .before .before .before .before .before .put-u89 .ensures))
+returns-5 c = let k = c .before .before .before .before .before .before .before .before .before .match .keys5 in rw k (further _ _ _ 2 (c .before .before .before .before .before .before .before .before .before .before .before .args .position % 256 ∷ []) (c .before .before .put-u810 .ensures ∙ ap (λ (x : ℕ). splice (c .before .before .before .before .before .before .before .put-u89 .last .0) 2 (x ∷ [])) (c .before .before .before .low3 .ensures)) (c .before .before .before .before .before .before .before .put-u89 .ensures))
 
 same-length-6 : tie.Need-same-length-6
 same-length-6 c = search needs
 
 returns-6 : tie.Need-returns-6
 unfolding stamped layoutOf info
-returns-6 c = let k = c .before .before .before .before .before .before .before .before .before .match .keys6 in rw k (further _ _ _ 4 (le 2 (c .before .before .before .before .before .before .before .before .before .before .before .args .n)) (c .before .before .put-u162 .ensures) (c .before .before .before .before .before .before .copy-into .ensures))
+returns-6 c = let k = c .before .before .before .before .before .before .before .before .before .match .keys6 in rw k (further _ _ _ 4 (le 2 (c .before .before .before .before .before .before .before .before .before .before .before .args .position)) (c .before .before .put-u162 .ensures) (c .before .before .before .before .before .before .copy-into .ensures))
 
 same-length-7 : tie.Need-same-length-7
 same-length-7 c = search needs
 
 returns-7 : tie.Need-returns-7
 unfolding stamped layoutOf extended
-returns-7 c = let m = c .before .before .before .before .before .before .before .before .before .match .rest in let k = last-kind (c .before .before .before .before .before .before .before .before .before .before .before .args .kind) (c .before .before .before .before .before .before .before .before .before .before .before .pre .0) (m .0 .0 .0 .0 .0 .1) (m .0 .0 .0 .0 .1) (m .0 .0 .0 .1) (m .0 .0 .1) (m .0 .1) (m .1) in rw k (further _ _ _ 2 (le 2 (c .before .before .before .before .before .before .before .before .before .before .before .args .n)) (c .before .before .put-u163 .ensures) (c .before .before .before .before .before .before .copy-into2 .ensures))
+returns-7 c = let m = c .before .before .before .before .before .before .before .before .before .match .rest in let k = last-kind (c .before .before .before .before .before .before .before .before .before .before .before .args .kind) (c .before .before .before .before .before .before .before .before .before .before .before .pre .0) (m .0 .0 .0 .0 .0 .1) (m .0 .0 .0 .0 .1) (m .0 .0 .0 .1) (m .0 .0 .1) (m .0 .1) (m .1) in rw k (further _ _ _ 2 (le 2 (c .before .before .before .before .before .before .before .before .before .before .before .args .position)) (c .before .before .put-u163 .ensures) (c .before .before .before .before .before .before .copy-into2 .ensures))
 
 pub stamp-spec : {M : Type 1} → statement M
 stamp-spec =

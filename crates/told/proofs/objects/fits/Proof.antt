@@ -26,10 +26,10 @@ returns-2 : tie.Need-returns-2
 returns-2 c = rw (c .before .enum-told2 .given .1) (c .length-fault .ensures)
 
 returns-3 : tie.Need-returns-3
-returns-3 c = rw (c .before .enum-told3 .given .1) (sym (required-none (c .before .before .before .before .args .o .now) (c .if1 .taken)))
+returns-3 c = rw (c .before .enum-told3 .given .1) (sym (required-none (c .before .before .before .before .args .object .now) (c .if1 .taken)))
 
 returns-4 : tie.Need-returns-4
-returns-4 c = rw (c .before .before .enum-told3 .given .1) (c .length-fault2 .ensures ∙ sym (required-some (c .before .before .before .before .before .args .o .now) (c .before .if1 .left)))
+returns-4 c = rw (c .before .before .enum-told3 .given .1) (c .length-fault2 .ensures ∙ sym (required-some (c .before .before .before .before .before .args .object .now) (c .before .if1 .left)))
 
 pub fits-spec : {M : Type 1} → statement M
 fits-spec =
