@@ -19,7 +19,8 @@ judgeTests l s img own objects =
     ∷ test (eqb objects 0) objects (l .kind) (s .position)
     ∷ []
 
--- 17 and 14; where there is room, the record of kind l told in b in its own part of buf, and what it names behind the bytes used
-unfoldable pub laid : (l : Layout) → State → (buf b : List ℕ) → Slots (l .refs) → Outcome
-laid l s buf b ss =
-    outcome (firstFail (roomTests (s .used + sizeOf ss) (length buf))) s (next s (sizeOf ss)) buf (placed buf (placeOf s l) (s .used) (imageIn l b 0) ss)
+-- 17 and 14; where there is room, what is told of the record in its own part of the buffer, and what it names behind the bytes used
+unfoldable pub laid : (l : Layout) → State → (buffer told : List ℕ) → Slots (l .refs) → Outcome
+laid l s buffer told slots =
+    outcome (firstFail (roomTests (s .used + sizeOf slots) (length buffer))) s (next s (sizeOf slots)) buffer
+    (placed buffer (placeOf s l) (s .used) (imageIn l told 0) slots)

@@ -11,17 +11,17 @@ ghost use Rattle.table.specs.Rules.{firstFail};
 ghost use Rattle.laws.specs.Fields.{imageIn};
 ghost use Rattle.steps.specs.Steps.{judgeTests};
 
-// The record told in `b`, in state `s`. `own` is the fault of a rule of the builder's own, `objects` the first fault of the record's objects; each is 0
+// What is told of a record, in a state. `own` is the fault of a rule of the builder's own, `objects` the first fault of the record's objects; each is 0
 // where there is none.
-pub fn judged(s: State, kind: u8, b: &[u8], own: u8, objects: u8) -> Answer
-    requires { ⌜ (2 ≤ kind) × (kind ≤ 6) × (length (now b) ≡ baseOf (layoutOf kind)) ⌝ }
-    ensures { λ r. ⌜ r ≡ firstFail (judgeTests (layoutOf kind) s (imageIn (layoutOf kind) (now (b .entry)) 0) own objects) ⌝ }
+pub fn judged(state: State, kind: u8, told: &[u8], own: u8, objects: u8) -> Answer
+    requires { ⌜ (2 ≤ kind) × (kind ≤ 6) × (length (now told) ≡ baseOf (layoutOf kind)) ⌝ }
+    ensures { λ r. ⌜ r ≡ firstFail (judgeTests (layoutOf kind) state (imageIn (layoutOf kind) (now (told .entry)) 0) own objects) ⌝ }
 {
-    let position = s.position as usize;
-    if !turns::waits(s, kind as u16) {
+    let position = state.position as usize;
+    if !turns::waits(state, kind as u16) {
         return table::refuse(15, 0, 0);
     }
-    if !flags::pairs_right(b, kind, 0) {
+    if !flags::pairs_right(told, kind, 0) {
         return table::refuse(10, kind, position);
     }
     if own != 0 {
@@ -34,11 +34,11 @@ pub fn judged(s: State, kind: u8, b: &[u8], own: u8, objects: u8) -> Answer
 }
 
 // A refused call hands back the state that it was given.
-pub fn refused(a: Answer, s: State) -> Step
-    ensures { λ r. ⌜ (r .answer ≡ a) × (r .state ≡ s) ⌝ }
+pub fn refused(answer: Answer, state: State) -> Step
+    ensures { λ r. ⌜ (r .answer ≡ answer) × (r .state ≡ state) ⌝ }
 {
     Step {
-        answer: a,
-        state: s,
+        answer: answer,
+        state: state,
     }
 }

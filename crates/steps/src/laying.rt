@@ -12,40 +12,40 @@ ghost use Rattle.table.specs.Meaning.{limit};
 ghost use Rattle.table.specs.Builder as definition;
 ghost use Rattle.writer.proofs.StoreLaws.{concat};
 
-// Six objects, one behind the other; a record that names fewer has empty ones.
+// Six objects, one behind the other from `next` on; a record that names fewer has empty ones.
 pub fn lay_pieces(
     out: &mut [u8],
-    u: usize,
-    p1: &[u8],
-    p2: &[u8],
-    p3: &[u8],
-    p4: &[u8],
-    p5: &[u8],
-    p6: &[u8],
+    next: usize,
+    first: &[u8],
+    second: &[u8],
+    third: &[u8],
+    fourth: &[u8],
+    fifth: &[u8],
+    sixth: &[u8],
 )
-    requires { ⌜ u + length (concat (now p1 ∷ now p2 ∷ now p3 ∷ now p4 ∷ now p5 ∷ now p6 ∷ [])) ≤ length (now out) ⌝ }
-    ensures { λ r. ⌜ now (out .exit) ≡ splice (now (out .entry)) u (concat (now (p1 .entry) ∷ now (p2 .entry) ∷ now (p3 .entry) ∷ now (p4 .entry) ∷ now (p5 .entry) ∷ now (p6 .entry) ∷ [])) ⌝ }
+    requires { ⌜ next + length (concat (now first ∷ now second ∷ now third ∷ now fourth ∷ now fifth ∷ now sixth ∷ [])) ≤ length (now out) ⌝ }
+    ensures { λ r. ⌜ now (out .exit) ≡ splice (now (out .entry)) next (concat (now (first .entry) ∷ now (second .entry) ∷ now (third .entry) ∷ now (fourth .entry) ∷ now (fifth .entry) ∷ now (sixth .entry) ∷ [])) ⌝ }
 {
-    copy_into(out, u, p1);
-    let u2 = u + p1.len();
-    copy_into(out, u2, p2);
-    let u3 = u2 + p2.len();
-    copy_into(out, u3, p3);
-    let u4 = u3 + p3.len();
-    copy_into(out, u4, p4);
-    let u5 = u4 + p4.len();
-    copy_into(out, u5, p5);
-    copy_into(out, u5 + p5.len(), p6);
+    copy_into(out, next, first);
+    let at2 = next + first.len();
+    copy_into(out, at2, second);
+    let at3 = at2 + second.len();
+    copy_into(out, at3, third);
+    let at4 = at3 + third.len();
+    copy_into(out, at4, fourth);
+    let at5 = at4 + fourth.len();
+    copy_into(out, at5, fifth);
+    copy_into(out, at5 + fifth.len(), sixth);
 }
 
-// A done call hands back the next state: `n` bytes of objects and heap records were written.
-pub fn stepped(a: Answer, s: State, n: usize) -> Step
-    requires { ⌜ s .used + n ≤ limit ⌝ }
-    ensures { λ r. ⌜ (r .answer ≡ a) × (r .state ≡ definition.next s n) ⌝ }
+// A done call hands back the next state: `written` bytes of objects and heap records were written.
+pub fn stepped(answer: Answer, state: State, written: usize) -> Step
+    requires { ⌜ state .used + written ≤ limit ⌝ }
+    ensures { λ r. ⌜ (r .answer ≡ answer) × (r .state ≡ definition.next state written) ⌝ }
 {
-    let state = turns::next(s, n);
+    let after = turns::next(state, written);
     Step {
-        answer: a,
-        state: state,
+        answer: answer,
+        state: after,
     }
 }

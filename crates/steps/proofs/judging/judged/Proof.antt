@@ -17,12 +17,12 @@ use Rattle.steps.proofs.judging.judged.Tie as tie
 kind-is : (c : tie.After-waits) → layoutOf (c .before .before .before .args .kind) .kind ≡ c .before .before .before .args .kind
 kind-is c = kind-of (c .before .before .before .args .kind) (c .before .before .before .pre .0) (c .before .before .before .pre .1)
 
-in-turn : (c : tie.After-pairs-right) → waits (c .before .before .before .before .before .args .s) (layoutOf (c .before .before .before .before .before .args .kind) .kind) ≡ true
-in-turn c = ap (waits (c .before .before .before .before .before .args .s)) (kind-is (c .before .before)) ∙ sym (c .before .before .waits .ensures) ∙ not-false
+in-turn : (c : tie.After-pairs-right) → waits (c .before .before .before .before .before .args .state) (layoutOf (c .before .before .before .before .before .args .kind) .kind) ≡ true
+in-turn c = ap (waits (c .before .before .before .before .before .args .state)) (kind-is (c .before .before)) ∙ sym (c .before .before .waits .ensures) ∙ not-false
     (c .before .before .waits .result) (c .before .if1 .left)
 
 right : (c : tie.Else2) → pairsRight (layoutOf (c .before .before .before .before .before .before .args .kind) .shape) (imageIn (layoutOf
-    (c .before .before .before .before .before .before .args .kind)) (c .before .before .before .before .before .before .args .b .now) 0) ≡ true
+    (c .before .before .before .before .before .before .args .kind)) (c .before .before .before .before .before .before .args .told .now) 0) ≡ true
 right c = sym (c .before .pairs-right .ensures) ∙ not-false (c .before .pairs-right .result) (c .if2 .left)
 
 cast-position : tie.Need-cast-position
@@ -35,9 +35,9 @@ refuse-requires : tie.Need-refuse-requires
 refuse-requires c κs = search needs
 
 returns : tie.Need-returns
-returns c = c .refuse .ensures ∙ out-of-turn (layoutOf (c .before .before .before .before .before .args .kind)) (c .before .before .before .before .before .args .s) (imageIn (layoutOf
-    (c .before .before .before .before .before .args .kind)) (c .before .before .before .before .before .args .b .now) 0) (c .before .before .before .before .before .args .own)
-    (c .before .before .before .before .before .args .objects) (ap (waits (c .before .before .before .before .before .args .s)) (kind-is (c .before .before)) ∙ sym
+returns c = c .refuse .ensures ∙ out-of-turn (layoutOf (c .before .before .before .before .before .args .kind)) (c .before .before .before .before .before .args .state) (imageIn (layoutOf
+    (c .before .before .before .before .before .args .kind)) (c .before .before .before .before .before .args .told .now) 0) (c .before .before .before .before .before .args .own)
+    (c .before .before .before .before .before .args .objects) (ap (waits (c .before .before .before .before .before .args .state)) (kind-is (c .before .before)) ∙ sym
     (c .before .before .waits .ensures) ∙ not-true (c .before .before .waits .result) (c .before .if1 .taken))
 
 pairs-right-requires : tie.Need-pairs-right-requires
@@ -47,9 +47,9 @@ refuse-requires-2 : tie.Need-refuse-requires-2
 refuse-requires-2 c κs = search needs
 
 returns-2 : tie.Need-returns-2
-returns-2 c = c .refuse2 .ensures ∙ ap (λ (i : ℕ). answer 10 i (c .before .before .before .before .before .before .before .args .s .position)) (sym (kind-is (c .before .before .before .before)))
-    ∙ wrong-pair (layoutOf (c .before .before .before .before .before .before .before .args .kind)) (c .before .before .before .before .before .before .before .args .s) (imageIn (layoutOf
-    (c .before .before .before .before .before .before .before .args .kind)) (c .before .before .before .before .before .before .before .args .b .now) 0)
+returns-2 c = c .refuse2 .ensures ∙ ap (λ (i : ℕ). answer 10 i (c .before .before .before .before .before .before .before .args .state .position)) (sym (kind-is (c .before .before .before .before)))
+    ∙ wrong-pair (layoutOf (c .before .before .before .before .before .before .before .args .kind)) (c .before .before .before .before .before .before .before .args .state) (imageIn (layoutOf
+    (c .before .before .before .before .before .before .before .args .kind)) (c .before .before .before .before .before .before .before .args .told .now) 0)
     (c .before .before .before .before .before .before .before .args .own) (c .before .before .before .before .before .before .before .args .objects) (in-turn (c .before .before)) (sym
     (c .before .before .pairs-right .ensures) ∙ not-true (c .before .before .pairs-right .result) (c .before .if2 .taken))
 
@@ -58,9 +58,9 @@ refuse-requires-3 c κs = search needs
 
 returns-3 : tie.Need-returns-3
 returns-3 c = c .refuse3 .ensures ∙ ap (λ (i : ℕ). answer (c .before .before .before .before .before .before .before .before .args .own) i
-    (c .before .before .before .before .before .before .before .before .args .s .position)) (sym (kind-is (c .before .before .before .before .before))) ∙ own-fault (layoutOf
-    (c .before .before .before .before .before .before .before .before .args .kind)) (c .before .before .before .before .before .before .before .before .args .s) (imageIn (layoutOf
-    (c .before .before .before .before .before .before .before .before .args .kind)) (c .before .before .before .before .before .before .before .before .args .b .now) 0)
+    (c .before .before .before .before .before .before .before .before .args .state .position)) (sym (kind-is (c .before .before .before .before .before))) ∙ own-fault (layoutOf
+    (c .before .before .before .before .before .before .before .before .args .kind)) (c .before .before .before .before .before .before .before .before .args .state) (imageIn (layoutOf
+    (c .before .before .before .before .before .before .before .before .args .kind)) (c .before .before .before .before .before .before .before .before .args .told .now) 0)
     (c .before .before .before .before .before .before .before .before .args .own) (c .before .before .before .before .before .before .before .before .args .objects) (in-turn
     (c .before .before .before)) (right (c .before .before)) (c .before .if3 .taken)
 
@@ -69,9 +69,9 @@ refuse-requires-4 c κs = search needs
 
 returns-4 : tie.Need-returns-4
 returns-4 c = c .refuse4 .ensures ∙ ap (λ (i : ℕ). answer (c .before .before .before .before .before .before .before .before .before .args .objects) i
-    (c .before .before .before .before .before .before .before .before .before .args .s .position)) (sym (kind-is (c .before .before .before .before .before .before))) ∙ wrong-object (layoutOf
-    (c .before .before .before .before .before .before .before .before .before .args .kind)) (c .before .before .before .before .before .before .before .before .before .args .s) (imageIn
-    (layoutOf (c .before .before .before .before .before .before .before .before .before .args .kind)) (c .before .before .before .before .before .before .before .before .before .args .b .now)
+    (c .before .before .before .before .before .before .before .before .before .args .state .position)) (sym (kind-is (c .before .before .before .before .before .before))) ∙ wrong-object (layoutOf
+    (c .before .before .before .before .before .before .before .before .before .args .kind)) (c .before .before .before .before .before .before .before .before .before .args .state) (imageIn
+    (layoutOf (c .before .before .before .before .before .before .before .before .before .args .kind)) (c .before .before .before .before .before .before .before .before .before .args .told .now)
     0) (c .before .before .before .before .before .before .before .before .before .args .own) (c .before .before .before .before .before .before .before .before .before .args .objects) (in-turn
     (c .before .before .before .before)) (right (c .before .before .before)) (c .before .before .if3 .left) (c .before .if4 .taken)
 
@@ -80,8 +80,8 @@ done-requires c κs = search needs
 
 returns-5 : tie.Need-returns-5
 returns-5 c = c .done .ensures ∙ no-fault (layoutOf (c .before .before .before .before .before .before .before .before .before .args .kind))
-    (c .before .before .before .before .before .before .before .before .before .args .s) (imageIn (layoutOf
-    (c .before .before .before .before .before .before .before .before .before .args .kind)) (c .before .before .before .before .before .before .before .before .before .args .b .now) 0)
+    (c .before .before .before .before .before .before .before .before .before .args .state) (imageIn (layoutOf
+    (c .before .before .before .before .before .before .before .before .before .args .kind)) (c .before .before .before .before .before .before .before .before .before .args .told .now) 0)
     (c .before .before .before .before .before .before .before .before .before .args .own) (c .before .before .before .before .before .before .before .before .before .args .objects) (in-turn
     (c .before .before .before .before)) (right (c .before .before .before)) (c .before .before .if3 .left) (c .before .if4 .left)
 
