@@ -8,13 +8,13 @@ use Rattle.table.specs.Layout.{Layout, baseOf, offsets}
 use Rattle.laws.specs.Fields.{imageIn}
 use Rattle.writer.specs.Stores.{storesFrom}
 
--- what is told of a record of kind l in b, with its references: the object of reference i is ns i long and takes ws i bytes of the heap, from h on
-unfoldable pub recordWith : Layout → List ℕ → ℕ → (ns ws : List ℕ) → List ℕ
-recordWith l b h ns ws = apply (imageIn l b 0) (storesFrom (offsets (l .refs)) ns ws h 0 (length (offsets (l .refs))))
+-- what is told of a record, with its references: how long the object of each is, and how many bytes it takes of the heap, from heap on
+unfoldable pub recordWith : Layout → (told : List ℕ) (heap : ℕ) (lengths spans : List ℕ) → List ℕ
+recordWith l told heap lengths spans = apply (imageIn l told 0) (storesFrom (offsets (l .refs)) lengths spans heap 0 (length (offsets (l .refs))))
 
 -- the part and what is told are as long as the record, and the heap does not wrap
-abbrev pub Lent : Layout → (part b : List ℕ) → ℕ → Type 0
-Lent l part b h = (length part ≡ baseOf l) × (length b ≡ baseOf l) × (h ≤ 131072)
+abbrev pub Lent : Layout → (part told : List ℕ) (heap : ℕ) → Type 0
+Lent l part told heap = (length part ≡ baseOf l) × (length told ≡ baseOf l) × (heap ≤ 131072)
 
-abbrev pub Narrow : List ℕ → Type 0
-Narrow ws = (i : ℕ) → getD ws i 0 ≤ 131072
+abbrev pub Narrow : (spans : List ℕ) → Type 0
+Narrow spans = (i : ℕ) → getD spans i 0 ≤ 131072

@@ -5,34 +5,62 @@ ghost use mathlib.Core.List.{[], _∷_};
 ghost use Prim.Native.Nat.{_+_, _≤_};
 
 // Objects alone: each takes its length.
-pub fn plain_sizes(a: usize, b: usize, c: usize, d: usize, e: usize, f: usize) -> Sizes
-    requires { ⌜ (a ≤ 65535) × (b ≤ 65535) × (c ≤ 65535) × (d ≤ 65535) × (e ≤ 65535) × (f ≤ 65535) ⌝ }
-    ensures { λ r. ⌜ (r .len ≡ a ∷ b ∷ c ∷ d ∷ e ∷ f ∷ []) × (r .span ≡ a ∷ b ∷ c ∷ d ∷ e ∷ f ∷ []) ⌝ }
+pub fn plain_sizes(
+    first: usize,
+    second: usize,
+    third: usize,
+    fourth: usize,
+    fifth: usize,
+    sixth: usize,
+) -> Sizes
+    requires { ⌜ (first ≤ 65535) × (second ≤ 65535) × (third ≤ 65535) × (fourth ≤ 65535) × (fifth ≤ 65535) × (sixth ≤ 65535) ⌝ }
+    ensures { λ r. ⌜ (r .len ≡ first ∷ second ∷ third ∷ fourth ∷ fifth ∷ sixth ∷ []) × (r .span ≡ first ∷ second ∷ third ∷ fourth ∷ fifth ∷ sixth ∷ []) ⌝ }
 {
     Sizes {
-        len: [a, b, c, d, e, f],
-        span: [a as u32, b as u32, c as u32, d as u32, e as u32, f as u32],
+        len: [first, second, third, fourth, fifth, sixth],
+        span: [
+            first as u32,
+            second as u32,
+            third as u32,
+            fourth as u32,
+            fifth as u32,
+            sixth as u32,
+        ],
     }
 }
 
-// Four objects, then a heap record of `m` bytes with its own object of `n`.
-pub fn nested_sizes(a: usize, b: usize, c: usize, d: usize, m: usize, n: usize) -> Sizes
-    requires { ⌜ (a ≤ 65535) × (b ≤ 65535) × (c ≤ 65535) × (d ≤ 65535) × (m ≤ 128) × (n ≤ 65535) ⌝ }
-    ensures { λ r. ⌜ (r .len ≡ a ∷ b ∷ c ∷ d ∷ m ∷ 0 ∷ []) × (r .span ≡ a ∷ b ∷ c ∷ d ∷ (m + n) ∷ 0 ∷ []) ⌝ }
+// Four objects, then a heap record of `inner` bytes with its own object of `object` bytes.
+pub fn nested_sizes(
+    first: usize,
+    second: usize,
+    third: usize,
+    fourth: usize,
+    inner: usize,
+    object: usize,
+) -> Sizes
+    requires { ⌜ (first ≤ 65535) × (second ≤ 65535) × (third ≤ 65535) × (fourth ≤ 65535) × (inner ≤ 128) × (object ≤ 65535) ⌝ }
+    ensures { λ r. ⌜ (r .len ≡ first ∷ second ∷ third ∷ fourth ∷ inner ∷ 0 ∷ []) × (r .span ≡ first ∷ second ∷ third ∷ fourth ∷ (inner + object) ∷ 0 ∷ []) ⌝ }
 {
     Sizes {
-        len: [a, b, c, d, m, 0],
-        span: [a as u32, b as u32, c as u32, d as u32, (m + n) as u32, 0],
+        len: [first, second, third, fourth, inner, 0],
+        span: [
+            first as u32,
+            second as u32,
+            third as u32,
+            fourth as u32,
+            (inner + object) as u32,
+            0,
+        ],
     }
 }
 
-// A heap record of `m` bytes alone, with its own object of `n`.
-pub fn only_nested(m: usize, n: usize) -> Sizes
-    requires { ⌜ (m ≤ 128) × (n ≤ 65535) ⌝ }
-    ensures { λ r. ⌜ (r .len ≡ m ∷ 0 ∷ 0 ∷ 0 ∷ 0 ∷ 0 ∷ []) × (r .span ≡ (m + n) ∷ 0 ∷ 0 ∷ 0 ∷ 0 ∷ 0 ∷ []) ⌝ }
+// A heap record of `inner` bytes alone, with its own object of `object` bytes.
+pub fn only_nested(inner: usize, object: usize) -> Sizes
+    requires { ⌜ (inner ≤ 128) × (object ≤ 65535) ⌝ }
+    ensures { λ r. ⌜ (r .len ≡ inner ∷ 0 ∷ 0 ∷ 0 ∷ 0 ∷ 0 ∷ []) × (r .span ≡ (inner + object) ∷ 0 ∷ 0 ∷ 0 ∷ 0 ∷ 0 ∷ []) ⌝ }
 {
     Sizes {
-        len: [m, 0, 0, 0, 0, 0],
-        span: [(m + n) as u32, 0, 0, 0, 0, 0],
+        len: [inner, 0, 0, 0, 0, 0],
+        span: [(inner + object) as u32, 0, 0, 0, 0, 0],
     }
 }

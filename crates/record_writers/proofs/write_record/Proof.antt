@@ -21,7 +21,7 @@ put-refs-requires : tie.Need-put-refs-requires
 put-refs-requires c κs =
     let a = c .before .before .before .before .before .before .before .before .args in
     let o = c .reference-offsets in (
-      refs-room (a .kind) (o .result .at) (a .z .span) (o .result .count) _ (o .ensures .0) (o .ensures .1) (o .ensures .2)
+      refs-room (a .kind) (o .result .at) (a .sizes .span) (o .result .count) _ (o .ensures .0) (o .ensures .1) (o .ensures .2)
           (c .before .before .before .before .before .before .before .before .pre .1) (c .before .before .before .before .put-image .kept .0 ∙
           c .before .before .before .before .before .before .before .before .pre .0 .0),
       c .before .before .before .before .before .before .before .before .pre .0 .2,
@@ -35,10 +35,10 @@ returns c =
     let a = c .before .before .before .before .before .before .before .before .before .before .before .args in
     let o = c .before .before .before .reference-offsets in
     let l = layoutOf (a .kind) in
-    let i = c .before .before .before .before .before .before .before .put-image .ensures ∙ splice-all (a .part .now) (imageIn l (a .b .now) 0) (length-imageIn l (a .b .now) 0 ∙ sym
+    let i = c .before .before .before .before .before .before .before .put-image .ensures ∙ splice-all (a .part .now) (imageIn l (a .told .now) 0) (length-imageIn l (a .told .now) 0 ∙ sym
     (c .before .before .before .before .before .before .before .before .before .before .before .pre .0 .0)) in
-    c .before .before .put-refs .ensures ∙ ap (λ (x : List ℕ). apply x (storesFrom (o .result .at) (a .z .len) (a .z .span) (a .h) 0 (o .result .count))) i ∙ by-table l (a .b .now)
-    (o .result .at) (a .z .len) (a .z .span) (o .result .count) (a .h) (o .ensures .0) (o .ensures .1)
+    c .before .before .put-refs .ensures ∙ ap (λ (x : List ℕ). apply x (storesFrom (o .result .at) (a .sizes .len) (a .sizes .span) (a .heap) 0 (o .result .count))) i ∙ by-table l (a .told .now)
+    (o .result .at) (a .sizes .len) (a .sizes .span) (o .result .count) (a .heap) (o .ensures .0) (o .ensures .1)
 
 pub write-record-spec : {M : Type 1} → statement M
 write-record-spec =
