@@ -1,4 +1,5 @@
-// Header and control record, read once into a struct by value, so that no test reads the table anew.
+// What header and control record say, as a struct by value: the tests of the frame, 1 to 9, look at it and not at the table. The walks over the records
+// behind them (reader, lists, indexes) read an entry or a place from the table again, where they need it.
 use table::Control;
 use table::Region;
 ghost use mathlib.Core.Path.{_≡_};
