@@ -1,4 +1,5 @@
 // The builder's calls for records that name objects only: host, security, discovery. Any state, buffer and told bytes may be handed in.
+// `told` is a record as the caller tells it, `marked` its bytes once the builder has set those that are its own to set (`told::marks`).
 use needs::security_need;
 use record_writers::write_discovery;
 use record_writers::write_host;
@@ -26,79 +27,79 @@ ghost use Prim.Native.Nat.{_≤_};
 ghost use lib.ListN.{length};
 ghost use Rattle.table.specs.Layout.{baseOf};
 ghost use Rattle.table.specs.FixedLayouts as layouts;
-ghost use Rattle.table.specs.Builder.{waits};
+ghost use Rattle.table.specs.Builder.{waits, Gives};
 ghost use Rattle.laws.specs.Fields.{imageIn};
 ghost use Rattle.steps.specs.Steps.{laid};
 ghost use Rattle.filling.specs.Calls.{hostTold, tellHost, securityTold, tellSecurity, discoveryTold, tellDiscovery};
 ghost use Rattle.plain_calls.specs.Plain.{securityFault};
 
-// The host told in `b` and its NQN, where there is room.
-fn lay_host(out: &mut [u8], s: State, b: &[u8], nqn: &[u8]) -> Step
-    requires { ⌜ (waits s 2 ≡ true) × (length (now b) ≡ baseOf layouts.host) × (length (now nqn) ≤ 65535) ⌝ }
-    ensures { λ r. ⌜ (r ≡ laid layouts.host s (now (out .entry)) (now (b .entry)) (hostTold (now (nqn .entry))) .step) × (now (out .exit) ≡ laid layouts.host s (now (out .entry)) (now (b .entry)) (hostTold (now (nqn .entry))) .buffer) ⌝ }
+// The host and its NQN, where there is room.
+fn lay_host(out: &mut [u8], state: State, marked: &[u8], nqn: &[u8]) -> Step
+    requires { ⌜ (waits state 2 ≡ true) × (length (now marked) ≡ baseOf layouts.host) × (length (now nqn) ≤ 65535) ⌝ }
+    ensures { λ r. ⌜ Gives (laid layouts.host state (now (out .entry)) (now (marked .entry)) (hostTold (now (nqn .entry)))) r (now (out .exit)) ⌝ }
 {
-    let used = s.used;
-    let n = nqn.len();
-    let f = room_fault(used + n, out.len());
-    if f.number != 0 {
-        return refused(f, s);
+    let used = state.used;
+    let written = nqn.len();
+    let room = room_fault(used + written, out.len());
+    if room.number != 0 {
+        return refused(room, state);
     }
-    let at = turns::place_of(s, Host::ID);
+    let at = turns::place_of(state, Host::ID);
     let end = at + Host::SIZE;
-    write_host(&mut out[at..end], b, used, n);
+    write_host(&mut out[at..end], marked, used, written);
     copy_into(out, used, nqn);
-    stepped(f, s, n)
+    stepped(room, state, written)
 }
 
-// The host and its NQN.
-pub fn host(out: &mut [u8], s: State, x: Host, nqn: &[u8]) -> Step
-    ensures { λ r. ⌜ (r ≡ tellHost s (now (out .entry)) (x .bytes) (now (nqn .entry)) .step) × (now (out .exit) ≡ tellHost s (now (out .entry)) (x .bytes) (now (nqn .entry)) .buffer) ⌝ }
+// A host and its NQN.
+pub fn host(out: &mut [u8], state: State, told: Host, nqn: &[u8]) -> Step
+    ensures { λ r. ⌜ Gives (tellHost state (now (out .entry)) (told .bytes) (now (nqn .entry))) r (now (out .exit)) ⌝ }
 {
-    let bytes = x.bytes;
-    let b = mark_32(bytes, Host::ID, s.position as usize);
-    let a = judged(s, Host::ID, &b, 0, fits(Need::Required, nqn));
-    if a.number != 0 {
-        return refused(a, s);
+    let bytes = told.bytes;
+    let marked = mark_32(bytes, Host::ID, state.position as usize);
+    let answer = judged(state, Host::ID, &marked, 0, fits(Need::Required, nqn));
+    if answer.number != 0 {
+        return refused(answer, state);
     }
-    lay_host(out, s, &b, nqn)
+    lay_host(out, state, &marked, nqn)
 }
 
-// The discovery controller told in `b`, its address and its NQN, where there is room.
-fn lay_discovery(out: &mut [u8], s: State, b: &[u8], address: &[u8], nqn: &[u8]) -> Step
-    requires { ⌜ (waits s 6 ≡ true) × (length (now b) ≡ baseOf layouts.discovery) × (length (now address) ≤ 65535) × (length (now nqn) ≤ 65535) ⌝ }
-    ensures { λ r. ⌜ (r ≡ laid layouts.discovery s (now (out .entry)) (now (b .entry)) (discoveryTold (now (address .entry)) (now (nqn .entry))) .step) × (now (out .exit) ≡ laid layouts.discovery s (now (out .entry)) (now (b .entry)) (discoveryTold (now (address .entry)) (now (nqn .entry))) .buffer) ⌝ }
+// The discovery controller, its address and its NQN, where there is room.
+fn lay_discovery(out: &mut [u8], state: State, marked: &[u8], address: &[u8], nqn: &[u8]) -> Step
+    requires { ⌜ (waits state 6 ≡ true) × (length (now marked) ≡ baseOf layouts.discovery) × (length (now address) ≤ 65535) × (length (now nqn) ≤ 65535) ⌝ }
+    ensures { λ r. ⌜ Gives (laid layouts.discovery state (now (out .entry)) (now (marked .entry)) (discoveryTold (now (address .entry)) (now (nqn .entry)))) r (now (out .exit)) ⌝ }
 {
-    let used = s.used;
-    let n = address.len() + nqn.len();
-    let f = room_fault(used + n, out.len());
-    if f.number != 0 {
-        return refused(f, s);
+    let used = state.used;
+    let written = address.len() + nqn.len();
+    let room = room_fault(used + written, out.len());
+    if room.number != 0 {
+        return refused(room, state);
     }
-    let at = turns::place_of(s, Discovery::ID);
+    let at = turns::place_of(state, Discovery::ID);
     let end = at + Discovery::SIZE;
-    write_discovery(&mut out[at..end], b, used, address.len(), nqn.len());
+    write_discovery(&mut out[at..end], marked, used, address.len(), nqn.len());
     copy_into(out, used, address);
     copy_into(out, used + address.len(), nqn);
-    stepped(f, s, n)
+    stepped(room, state, written)
 }
 
 // A discovery controller, its address and its NQN.
-pub fn discovery(out: &mut [u8], s: State, x: Discovery, address: &[u8], nqn: &[u8]) -> Step
-    ensures { λ r. ⌜ (r ≡ tellDiscovery s (now (out .entry)) (x .bytes) (now (address .entry)) (now (nqn .entry)) .step) × (now (out .exit) ≡ tellDiscovery s (now (out .entry)) (x .bytes) (now (address .entry)) (now (nqn .entry)) .buffer) ⌝ }
+pub fn discovery(out: &mut [u8], state: State, told: Discovery, address: &[u8], nqn: &[u8]) -> Step
+    ensures { λ r. ⌜ Gives (tellDiscovery state (now (out .entry)) (told .bytes) (now (address .entry)) (now (nqn .entry))) r (now (out .exit)) ⌝ }
 {
-    let bytes = x.bytes;
-    let b = mark_32(bytes, Discovery::ID, s.position as usize);
+    let bytes = told.bytes;
+    let marked = mark_32(bytes, Discovery::ID, state.position as usize);
     let fault = first_of(fits(Need::Optional, address), fits(Need::Optional, nqn));
-    let a = judged(s, Discovery::ID, &b, 0, fault);
-    if a.number != 0 {
-        return refused(a, s);
+    let answer = judged(state, Discovery::ID, &marked, 0, fault);
+    if answer.number != 0 {
+        return refused(answer, state);
     }
-    lay_discovery(out, s, &b, address, nqn)
+    lay_discovery(out, state, &marked, address, nqn)
 }
 
-// The first fault of the objects of the security record told in `b`, by the needs of their references.
+// The first fault of the objects of a security record, by the needs of their references.
 fn security_fault(
-    b: &[u8],
+    marked: &[u8],
     algorithms: &[u8],
     protocols: &[u8],
     ciphers: &[u8],
@@ -106,65 +107,26 @@ fn security_fault(
     hashes: &[u8],
     keypath: &[u8],
 ) -> u8
-    requires { ⌜ 64 ≤ length (now b) ⌝ }
-    ensures { λ r. ⌜ r ≡ securityFault (imageIn layouts.security (now (b .entry)) 0) (now (algorithms .entry)) (now (protocols .entry)) (now (ciphers .entry)) (now (groups .entry)) (now (hashes .entry)) (now (keypath .entry)) ⌝ }
+    requires { ⌜ 64 ≤ length (now marked) ⌝ }
+    ensures { λ r. ⌜ r ≡ securityFault (imageIn layouts.security (now (marked .entry)) 0) (now (algorithms .entry)) (now (protocols .entry)) (now (ciphers .entry)) (now (groups .entry)) (now (hashes .entry)) (now (keypath .entry)) ⌝ }
 {
     let last = first_of(
-        fits(security_need(b, 0, 30), hashes),
-        fits(security_need(b, 0, 36), keypath),
+        fits(security_need(marked, 0, 30), hashes),
+        fits(security_need(marked, 0, 36), keypath),
     );
-    let late = first_of(fits(security_need(b, 0, 24), groups), last);
-    let rest = first_of(fits(security_need(b, 0, 18), ciphers), late);
+    let late = first_of(fits(security_need(marked, 0, 24), groups), last);
+    let rest = first_of(fits(security_need(marked, 0, 18), ciphers), late);
     first_of(
-        fits(security_need(b, 0, 6), algorithms),
-        first_of(fits(security_need(b, 0, 12), protocols), rest),
+        fits(security_need(marked, 0, 6), algorithms),
+        first_of(fits(security_need(marked, 0, 12), protocols), rest),
     )
 }
 
-// The security profile told in `b` and its objects, where there is room.
+// The security profile and its objects, where there is room.
 fn lay_security(
     out: &mut [u8],
-    s: State,
-    b: &[u8],
-    p1: &[u8],
-    p2: &[u8],
-    p3: &[u8],
-    p4: &[u8],
-    p5: &[u8],
-    p6: &[u8],
-) -> Step
-    requires { ⌜ (waits s 5 ≡ true) × (length (now b) ≡ baseOf layouts.security) ⌝ }
-    requires { ⌜ (length (now p1) ≤ 65535) × (length (now p2) ≤ 65535) × (length (now p3) ≤ 65535) × (length (now p4) ≤ 65535) × (length (now p5) ≤ 65535) × (length (now p6) ≤ 65535) ⌝ }
-    ensures { λ r. ⌜ (r ≡ laid layouts.security s (now (out .entry)) (now (b .entry)) (securityTold (now (p1 .entry)) (now (p2 .entry)) (now (p3 .entry)) (now (p4 .entry)) (now (p5 .entry)) (now (p6 .entry))) .step) × (now (out .exit) ≡ laid layouts.security s (now (out .entry)) (now (b .entry)) (securityTold (now (p1 .entry)) (now (p2 .entry)) (now (p3 .entry)) (now (p4 .entry)) (now (p5 .entry)) (now (p6 .entry))) .buffer) ⌝ }
-{
-    let used = s.used;
-    let n = p1.len() + p2.len() + p3.len() + p4.len() + p5.len() + p6.len();
-    let f = room_fault(used + n, out.len());
-    if f.number != 0 {
-        return refused(f, s);
-    }
-    let at = turns::place_of(s, Security::ID);
-    let end = at + Security::SIZE;
-    write_security(
-        &mut out[at..end],
-        b,
-        used,
-        p1.len(),
-        p2.len(),
-        p3.len(),
-        p4.len(),
-        p5.len(),
-        p6.len(),
-    );
-    lay_pieces(out, used, p1, p2, p3, p4, p5, p6);
-    stepped(f, s, n)
-}
-
-// A security profile and its objects, in the order of their references: those at 6, 12, 18, 24, 30 and 36.
-pub fn security(
-    out: &mut [u8],
-    s: State,
-    x: Security,
+    state: State,
+    marked: &[u8],
     algorithms: &[u8],
     protocols: &[u8],
     ciphers: &[u8],
@@ -172,24 +134,85 @@ pub fn security(
     hashes: &[u8],
     keypath: &[u8],
 ) -> Step
-    ensures { λ r. ⌜ (r ≡ tellSecurity s (now (out .entry)) (x .bytes) (now (algorithms .entry)) (now (protocols .entry)) (now (ciphers .entry)) (now (groups .entry)) (now (hashes .entry)) (now (keypath .entry)) .step) × (now (out .exit) ≡ tellSecurity s (now (out .entry)) (x .bytes) (now (algorithms .entry)) (now (protocols .entry)) (now (ciphers .entry)) (now (groups .entry)) (now (hashes .entry)) (now (keypath .entry)) .buffer) ⌝ }
+    requires { ⌜ (waits state 5 ≡ true) × (length (now marked) ≡ baseOf layouts.security) ⌝ }
+    requires { ⌜ (length (now algorithms) ≤ 65535) × (length (now protocols) ≤ 65535) × (length (now ciphers) ≤ 65535) × (length (now groups) ≤ 65535) × (length (now hashes) ≤ 65535) × (length (now keypath) ≤ 65535) ⌝ }
+    ensures { λ r. ⌜ Gives (laid layouts.security state (now (out .entry)) (now (marked .entry)) (securityTold (now (algorithms .entry)) (now (protocols .entry)) (now (ciphers .entry)) (now (groups .entry)) (now (hashes .entry)) (now (keypath .entry)))) r (now (out .exit)) ⌝ }
 {
-    let bytes = x.bytes;
-    let b = mark_64(bytes, Security::ID, s.position as usize);
-    let fault = security_fault(&b, algorithms, protocols, ciphers, groups, hashes, keypath);
-    let a = judged(s, Security::ID, &b, 0, fault);
-    if a.number != 0 {
-        return refused(a, s);
+    let used = state.used;
+    let written = algorithms.len()
+        + protocols.len()
+        + ciphers.len()
+        + groups.len()
+        + hashes.len()
+        + keypath.len();
+    let room = room_fault(used + written, out.len());
+    if room.number != 0 {
+        return refused(room, state);
+    }
+    let at = turns::place_of(state, Security::ID);
+    let end = at + Security::SIZE;
+    write_security(
+        &mut out[at..end],
+        marked,
+        used,
+        algorithms.len(),
+        protocols.len(),
+        ciphers.len(),
+        groups.len(),
+        hashes.len(),
+        keypath.len(),
+    );
+    lay_pieces(
+        out,
+        used,
+        algorithms,
+        protocols,
+        ciphers,
+        groups,
+        hashes,
+        keypath,
+    );
+    stepped(room, state, written)
+}
+
+// A security profile and its objects, in the order of their references: those at 6, 12, 18, 24, 30 and 36.
+pub fn security(
+    out: &mut [u8],
+    state: State,
+    told: Security,
+    algorithms: &[u8],
+    protocols: &[u8],
+    ciphers: &[u8],
+    groups: &[u8],
+    hashes: &[u8],
+    keypath: &[u8],
+) -> Step
+    ensures { λ r. ⌜ Gives (tellSecurity state (now (out .entry)) (told .bytes) (now (algorithms .entry)) (now (protocols .entry)) (now (ciphers .entry)) (now (groups .entry)) (now (hashes .entry)) (now (keypath .entry))) r (now (out .exit)) ⌝ }
+{
+    let bytes = told.bytes;
+    let marked = mark_64(bytes, Security::ID, state.position as usize);
+    let fault = security_fault(
+        &marked,
+        algorithms,
+        protocols,
+        ciphers,
+        groups,
+        hashes,
+        keypath,
+    );
+    let answer = judged(state, Security::ID, &marked, 0, fault);
+    if answer.number != 0 {
+        return refused(answer, state);
     }
     lay_security(
         out,
-        s,
-        &b,
-        kept(security_need(&b, 0, 6), algorithms),
-        kept(security_need(&b, 0, 12), protocols),
-        kept(security_need(&b, 0, 18), ciphers),
-        kept(security_need(&b, 0, 24), groups),
-        kept(security_need(&b, 0, 30), hashes),
-        kept(security_need(&b, 0, 36), keypath),
+        state,
+        &marked,
+        kept(security_need(&marked, 0, 6), algorithms),
+        kept(security_need(&marked, 0, 12), protocols),
+        kept(security_need(&marked, 0, 18), ciphers),
+        kept(security_need(&marked, 0, 24), groups),
+        kept(security_need(&marked, 0, 30), hashes),
+        kept(security_need(&marked, 0, 36), keypath),
     )
 }

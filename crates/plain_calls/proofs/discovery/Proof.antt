@@ -15,11 +15,11 @@ use Rattle.plain_calls.proofs.discovery.Statement.{statement}
 use Rattle.plain_calls.proofs.discovery.Tie as tie
 
 -- what was answered, by the objects
-judged-is : (c : tie.After-judged) → c .judged .result ≡ firstFail (judgeTests (layoutOf 6) (c .before .before .before .before .before .before .before .before .before .before .before .args .s)
+judged-is : (c : tie.After-judged) → c .judged .result ≡ firstFail (judgeTests (layoutOf 6) (c .before .before .before .before .before .before .before .before .before .before .before .args .state)
     (imageIn (layoutOf 6) (c .before .before .before .before .before .mark-32 .result) 0) 0 (firstOf (objectFault Optional
     (c .before .before .before .before .before .before .before .before .before .before .before .args .address .now)) (objectFault Optional
     (c .before .before .before .before .before .before .before .before .before .before .before .args .nqn .now))))
-judged-is c = c .judged .ensures ∙ ap (λ (f : ℕ). firstFail (judgeTests (layoutOf 6) (c .before .before .before .before .before .before .before .before .before .before .before .args .s) (imageIn
+judged-is c = c .judged .ensures ∙ ap (λ (f : ℕ). firstFail (judgeTests (layoutOf 6) (c .before .before .before .before .before .before .before .before .before .before .before .args .state) (imageIn
     (layoutOf 6) (c .before .before .before .before .before .mark-32 .result) 0) 0 f)) (c .before .before .first-of .ensures ∙ ap₂ (λ (x y : ℕ). firstOf x y)
     (c .before .before .before .before .fits2 .ensures) (c .before .before .before .fits3 .ensures))
 
@@ -51,15 +51,15 @@ refused-requires c κs = search needs
 
 returns : tie.Need-returns
 returns c =
-    let t = discovery-refused (c .before .before .before .before .before .before .before .before .before .before .before .before .before .before .args .s)
+    let t = discovery-refused (c .before .before .before .before .before .before .before .before .before .before .before .before .before .before .args .state)
     (c .before .before .before .before .before .before .before .before .before .before .before .before .before .before .args .out .now)
-    (c .before .before .before .before .before .before .before .before .before .before .before .before .before .before .args .x .bytes)
+    (c .before .before .before .before .before .before .before .before .before .before .before .before .before .before .args .told .bytes)
     (c .before .before .before .before .before .before .before .before .mark-32 .result)
     (c .before .before .before .before .before .before .before .before .before .before .before .before .before .before .args .address .now)
     (c .before .before .before .before .before .before .before .before .before .before .before .before .before .before .args .nqn .now) (c .before .before .before .judged .result)
     (c .before .before .before .before .before .before .before .before .mark-32 .ensures .0) (judged-is (c .before .before .before)) (c .before .if1 .taken) in (
       step-is (c .refused .result) (c .before .before .before .judged .result)
-          (c .before .before .before .before .before .before .before .before .before .before .before .before .before .before .args .s) (c .refused .ensures .0) (c .refused .ensures .1) ∙ t .0,
+          (c .before .before .before .before .before .before .before .before .before .before .before .before .before .before .args .state) (c .refused .ensures .0) (c .refused .ensures .1) ∙ t .0,
       t .1,
     )
 
@@ -69,9 +69,9 @@ slice-aggregate-lay-discovery c = search needs
 lay-discovery-requires : tie.Need-lay-discovery-requires
 unfolding discovery
 lay-discovery-requires c κs =
-    let p = discovery-passed (c .before .before .before .before .before .before .before .before .before .before .before .before .before .before .before .args .s)
+    let p = discovery-passed (c .before .before .before .before .before .before .before .before .before .before .before .before .before .before .before .args .state)
     (c .before .before .before .before .before .before .before .before .before .before .before .before .before .before .before .args .out .now)
-    (c .before .before .before .before .before .before .before .before .before .before .before .before .before .before .before .args .x .bytes)
+    (c .before .before .before .before .before .before .before .before .before .before .before .before .before .before .before .args .told .bytes)
     (c .before .before .before .before .before .before .before .before .before .mark-32 .result)
     (c .before .before .before .before .before .before .before .before .before .before .before .before .before .before .before .args .address .now)
     (c .before .before .before .before .before .before .before .before .before .before .before .before .before .before .before .args .nqn .now)
@@ -84,9 +84,9 @@ same-length c = search needs
 
 returns-2 : tie.Need-returns-2
 returns-2 c =
-    let d = discovery-done (c .before .before .before .before .before .before .before .before .before .before .before .before .before .before .before .before .before .before .args .s)
+    let d = discovery-done (c .before .before .before .before .before .before .before .before .before .before .before .before .before .before .before .before .before .before .args .state)
     (c .before .before .before .before .before .before .before .before .before .before .before .before .before .before .before .before .before .before .args .out .now)
-    (c .before .before .before .before .before .before .before .before .before .before .before .before .before .before .before .before .before .before .args .x .bytes)
+    (c .before .before .before .before .before .before .before .before .before .before .before .before .before .before .before .before .before .before .args .told .bytes)
     (c .before .before .before .before .before .before .before .before .before .before .before .before .mark-32 .result)
     (c .before .before .before .before .before .before .before .before .before .before .before .before .before .before .before .before .before .before .args .address .now)
     (c .before .before .before .before .before .before .before .before .before .before .before .before .before .before .before .before .before .before .args .nqn .now)

@@ -15,9 +15,9 @@ use Rattle.plain_calls.proofs.host.Statement.{statement}
 use Rattle.plain_calls.proofs.host.Tie as tie
 
 -- what was answered, by the objects
-judged-is : (c : tie.After-judged) → c .judged .result ≡ firstFail (judgeTests (layoutOf 2) (c .before .before .before .before .before .before .before .before .args .s) (imageIn (layoutOf 2)
+judged-is : (c : tie.After-judged) → c .judged .result ≡ firstFail (judgeTests (layoutOf 2) (c .before .before .before .before .before .before .before .before .args .state) (imageIn (layoutOf 2)
     (c .before .before .before .mark-32 .result) 0) 0 (objectFault Required (c .before .before .before .before .before .before .before .before .args .nqn .now)))
-judged-is c = c .judged .ensures ∙ ap (λ (f : ℕ). firstFail (judgeTests (layoutOf 2) (c .before .before .before .before .before .before .before .before .args .s) (imageIn (layoutOf 2)
+judged-is c = c .judged .ensures ∙ ap (λ (f : ℕ). firstFail (judgeTests (layoutOf 2) (c .before .before .before .before .before .before .before .before .args .state) (imageIn (layoutOf 2)
     (c .before .before .before .mark-32 .result) 0) 0 f)) (c .before .fits2 .ensures)
 
 cast-mark-32 : tie.Need-cast-mark-32
@@ -42,12 +42,12 @@ refused-requires c κs = search needs
 
 returns : tie.Need-returns
 returns c =
-    let t = host-refused (c .before .before .before .before .before .before .before .before .before .before .before .args .s)
+    let t = host-refused (c .before .before .before .before .before .before .before .before .before .before .before .args .state)
     (c .before .before .before .before .before .before .before .before .before .before .before .args .out .now)
-    (c .before .before .before .before .before .before .before .before .before .before .before .args .x .bytes) (c .before .before .before .before .before .before .mark-32 .result)
+    (c .before .before .before .before .before .before .before .before .before .before .before .args .told .bytes) (c .before .before .before .before .before .before .mark-32 .result)
     (c .before .before .before .before .before .before .before .before .before .before .before .args .nqn .now) (c .before .before .before .judged .result)
     (c .before .before .before .before .before .before .mark-32 .ensures .0) (judged-is (c .before .before .before)) (c .before .if1 .taken) in (
-      step-is (c .refused .result) (c .before .before .before .judged .result) (c .before .before .before .before .before .before .before .before .before .before .before .args .s)
+      step-is (c .refused .result) (c .before .before .before .judged .result) (c .before .before .before .before .before .before .before .before .before .before .before .args .state)
           (c .refused .ensures .0) (c .refused .ensures .1) ∙ t .0,
       t .1,
     )
@@ -58,9 +58,9 @@ slice-aggregate-lay-host c = search needs
 lay-host-requires : tie.Need-lay-host-requires
 unfolding host
 lay-host-requires c κs =
-    let p = host-passed (c .before .before .before .before .before .before .before .before .before .before .before .before .args .s)
+    let p = host-passed (c .before .before .before .before .before .before .before .before .before .before .before .before .args .state)
     (c .before .before .before .before .before .before .before .before .before .before .before .before .args .out .now)
-    (c .before .before .before .before .before .before .before .before .before .before .before .before .args .x .bytes)
+    (c .before .before .before .before .before .before .before .before .before .before .before .before .args .told .bytes)
     (c .before .before .before .before .before .before .before .mark-32 .result)
     (c .before .before .before .before .before .before .before .before .before .before .before .before .args .nqn .now) (c .before .before .before .before .judged .result)
     (c .before .before .before .before .before .before .before .mark-32 .ensures .0) (judged-is (c .before .before .before .before)) (c .before .before .if1 .left) in
@@ -71,9 +71,9 @@ same-length c = search needs
 
 returns-2 : tie.Need-returns-2
 returns-2 c =
-    let d = host-done (c .before .before .before .before .before .before .before .before .before .before .before .before .before .before .before .args .s)
+    let d = host-done (c .before .before .before .before .before .before .before .before .before .before .before .before .before .before .before .args .state)
     (c .before .before .before .before .before .before .before .before .before .before .before .before .before .before .before .args .out .now)
-    (c .before .before .before .before .before .before .before .before .before .before .before .before .before .before .before .args .x .bytes)
+    (c .before .before .before .before .before .before .before .before .before .before .before .before .before .before .before .args .told .bytes)
     (c .before .before .before .before .before .before .before .before .before .before .mark-32 .result)
     (c .before .before .before .before .before .before .before .before .before .before .before .before .before .before .before .args .nqn .now)
     (c .before .before .before .before .before .before .before .judged .result) (c .before .before .before .before .before .before .before .before .before .before .mark-32 .ensures .0)

@@ -17,23 +17,23 @@ use Rattle.plain_calls.proofs.lay_discovery.Statement.{statement}
 use Rattle.plain_calls.proofs.lay_discovery.Tie as tie
 
 -- where there is room
-roomy-here : (c : tie.After-place-of) → let a = c .before .before .before .before .before .before .before .before .args in (recordsEnd (a .s) ≤ a .s .used) × (a .s .used + (length
-    (a .address .now) + length (a .nqn .now)) ≤ 65536) × (a .s .used + (length (a .address .now) + length (a .nqn .now)) ≤ length (a .out .now))
+roomy-here : (c : tie.After-place-of) → let a = c .before .before .before .before .before .before .before .before .args in (recordsEnd (a .state) ≤ a .state .used) × (a .state .used + (length
+    (a .address .now) + length (a .nqn .now)) ≤ 65536) × (a .state .used + (length (a .address .now) + length (a .nqn .now)) ≤ length (a .out .now))
 roomy-here c =
     let s = c .before .before .before .before .before .before .before .before in
     let a = s .args in
-    roomy (a .s) 6 (length (a .address .now) + length (a .nqn .now)) (length (a .out .now)) (c .before .before .before .room-fault .result) (s .pre .0)
+    roomy (a .state) 6 (length (a .address .now) + length (a .nqn .now)) (length (a .out .now)) (c .before .before .before .room-fault .result) (s .pre .0)
     (c .before .before .before .room-fault .ensures) (c .before .if1 .left)
 
 inside : (c : tie.After-place-of) → c .place-of .result + 32 ≤ length (c .before .before .before .before .before .before .before .before .args .out .now)
 unfolding layoutOf discovery
 inside c = omega (arith, roomy-here c, c .place-of .ensures .1)
 
-add-n : tie.Need-add-n
-add-n c = search needs
+add-written : tie.Need-add-written
+add-written c = search needs
 
 add-room-fault : tie.Need-add-room-fault
-add-room-fault c = let s = c .before .before .before .before in let v = used-bounds (s .args .s) 6 (s .pre .0) in omega (arith, v, s .pre)
+add-room-fault c = let s = c .before .before .before .before in let v = used-bounds (s .args .state) 6 (s .pre .0) in omega (arith, v, s .pre)
 
 room-fault-requires : tie.Need-room-fault-requires
 room-fault-requires c κs = search needs
@@ -44,7 +44,7 @@ refused-requires c κs = search needs
 returns : tie.Need-returns
 returns c =
     let a = c .before .before .before .before .before .before .before .before .args in
-    laid-refused discovery (a .s) (a .out .now) (a .b .now) (discoveryTold (a .address .now) (a .nqn .now)) (length (a .address .now) + length (a .nqn .now))
+    laid-refused discovery (a .state) (a .out .now) (a .marked .now) (discoveryTold (a .address .now) (a .nqn .now)) (length (a .address .now) + length (a .nqn .now))
     (c .before .before .before .room-fault .result) (c .refused .result) (discovery-size (a .address .now) (a .nqn .now)) (c .before .before .before .room-fault .ensures)
     (c .refused .ensures .0) (c .before .if1 .taken) (c .refused .ensures .1)
 
@@ -97,33 +97,33 @@ returns-2 c =
     let a = s .args in
     let w = c .before .before .before .before .before .before .before .before .before .before .before .write-discovery in
     let t = c .before .before .before .before .before .before .before .before .before .before .before .before .before .place-of in
-    let y = part-stored (a .out .now) (t .result) 32 (w .last .0) (recordWith discovery (a .b .now) (a .s .used) (length (a .address .now) ∷ length (a .nqn .now) ∷ []) (length (a .address .now)
+    let y = part-stored (a .out .now) (t .result) 32 (w .last .0) (recordWith discovery (a .marked .now) (a .state .used) (length (a .address .now) ∷ length (a .nqn .now) ∷ []) (length (a .address .now)
     ∷ length (a .nqn .now) ∷ [])) (inside (c .before .before .before .before .before .before .before .before .before .before .before .before .before)) (w .kept .0) (w .ensures) in
     let v : length (take (t .result) (a .out .now) ++ (w .last .0 ++ drop (t .result + 32 - t .result) (drop (t .result) (a .out .now)))) ≡ length (a .out .now) =
     c .before .before .before .before .before .before .before .before .before .before .out .given .1 in
-    laid-done discovery (a .s) (a .out .now) (a .b .now) (discoveryTold (a .address .now) (a .nqn .now)) (length (a .address .now) + length (a .nqn .now))
+    laid-done discovery (a .state) (a .out .now) (a .marked .now) (discoveryTold (a .address .now) (a .nqn .now)) (length (a .address .now) + length (a .nqn .now))
     (c .before .before .before .before .before .before .before .before .before .before .before .before .before .before .before .before .room-fault .result) (c .stepped .result) (discovery-size
     (a .address .now) (a .nqn .now)) (c .before .before .before .before .before .before .before .before .before .before .before .before .before .before .before .before .room-fault .ensures)
     (c .stepped .ensures .0) (c .before .before .before .before .before .before .before .before .before .before .before .before .before .before .if1 .left) (c .stepped .ensures .1) (t .result) _
-    _ _ (concat (a .address .now ∷ a .nqn .now ∷ [])) (t .ensures .0) (discovery-record (a .b .now) (a .s .used) (a .address .now) (a .nqn .now)) y (discovery-heap (a .s .used) (a .address .now)
-    (a .nqn .now)) ((chain-laid (a .address .now ∷ a .nqn .now ∷ []) _ (a .s .used) (c .before .before .before .copy-into2 .last .0) (omega (
+    _ _ (concat (a .address .now ∷ a .nqn .now ∷ [])) (t .ensures .0) (discovery-record (a .marked .now) (a .state .used) (a .address .now) (a .nqn .now)) y (discovery-heap (a .state .used) (a .address .now)
+    (a .nqn .now)) ((chain-laid (a .address .now ∷ a .nqn .now ∷ []) _ (a .state .used) (c .before .before .before .copy-into2 .last .0) (omega (
       arith,
       two-long (a .address .now) (a .nqn .now),
       roomy-here (c .before .before .before .before .before .before .before .before .before .before .before .before .before),
       v,
     )) (
       c .before .before .before .before .before .before .before .copy-into .last .0,
-      a .s .used,
+      a .state .used,
       c .before .before .before .before .before .before .before .copy-into .ensures,
       refl,
-      (c .before .before .before .copy-into2 .last .0, a .s .used + length (a .address .now), c .before .before .before .copy-into2 .ensures, refl, refl),
+      (c .before .before .before .copy-into2 .last .0, a .state .used + length (a .address .now), c .before .before .before .copy-into2 .ensures, refl, refl),
     )))
 
 pub lay-discovery-spec : {M : Type 1} → statement M
 lay-discovery-spec =
     tie.close
     (tie.spec
-    add-n
+    add-written
     add-room-fault
     room-fault-requires
     refused-requires

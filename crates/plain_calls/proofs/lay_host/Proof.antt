@@ -15,12 +15,12 @@ use Rattle.plain_calls.proofs.lay_host.Statement.{statement}
 use Rattle.plain_calls.proofs.lay_host.Tie as tie
 
 -- where there is room
-roomy-here : (c : tie.After-place-of) → let a = c .before .before .before .before .before .before .before .args in (recordsEnd (a .s) ≤ a .s .used) × (a .s .used + (length (a .nqn .now)) ≤
-    65536) × (a .s .used + (length (a .nqn .now)) ≤ length (a .out .now))
+roomy-here : (c : tie.After-place-of) → let a = c .before .before .before .before .before .before .before .args in (recordsEnd (a .state) ≤ a .state .used) × (a .state .used + (length (a .nqn .now)) ≤
+    65536) × (a .state .used + (length (a .nqn .now)) ≤ length (a .out .now))
 roomy-here c =
     let s = c .before .before .before .before .before .before .before in
     let a = s .args in
-    roomy (a .s) 2 (length (a .nqn .now)) (length (a .out .now)) (c .before .before .before .room-fault .result) (s .pre .0) (c .before .before .before .room-fault .ensures)
+    roomy (a .state) 2 (length (a .nqn .now)) (length (a .out .now)) (c .before .before .before .room-fault .result) (s .pre .0) (c .before .before .before .room-fault .ensures)
     (c .before .if1 .left)
 
 inside : (c : tie.After-place-of) → c .place-of .result + 32 ≤ length (c .before .before .before .before .before .before .before .args .out .now)
@@ -28,7 +28,7 @@ unfolding layoutOf host
 inside c = omega (arith, roomy-here c, c .place-of .ensures .1)
 
 add-room-fault : tie.Need-add-room-fault
-add-room-fault c = let s = c .before .before .before in let v = used-bounds (s .args .s) 2 (s .pre .0) in omega (arith, v, s .pre)
+add-room-fault c = let s = c .before .before .before in let v = used-bounds (s .args .state) 2 (s .pre .0) in omega (arith, v, s .pre)
 
 room-fault-requires : tie.Need-room-fault-requires
 room-fault-requires c κs = search needs
@@ -39,7 +39,7 @@ refused-requires c κs = search needs
 returns : tie.Need-returns
 returns c =
     let a = c .before .before .before .before .before .before .before .args in
-    laid-refused host (a .s) (a .out .now) (a .b .now) (hostTold (a .nqn .now)) (length (a .nqn .now)) (c .before .before .before .room-fault .result) (c .refused .result) (host-size
+    laid-refused host (a .state) (a .out .now) (a .marked .now) (hostTold (a .nqn .now)) (length (a .nqn .now)) (c .before .before .before .room-fault .result) (c .refused .result) (host-size
     (a .nqn .now)) (c .before .before .before .room-fault .ensures) (c .refused .ensures .0) (c .before .if1 .taken) (c .refused .ensures .1)
 
 place-of-requires : tie.Need-place-of-requires
@@ -80,13 +80,13 @@ returns-2 c =
     let a = s .args in
     let w = c .before .before .before .before .before .before .before .write-host in
     let t = c .before .before .before .before .before .before .before .before .before .place-of in
-    let y = part-stored (a .out .now) (t .result) 32 (w .last .0) (recordWith host (a .b .now) (a .s .used) (length (a .nqn .now) ∷ []) (length (a .nqn .now) ∷ [])) (inside
+    let y = part-stored (a .out .now) (t .result) 32 (w .last .0) (recordWith host (a .marked .now) (a .state .used) (length (a .nqn .now) ∷ []) (length (a .nqn .now) ∷ [])) (inside
     (c .before .before .before .before .before .before .before .before .before)) (w .kept .0) (w .ensures) in
-    laid-done host (a .s) (a .out .now) (a .b .now) (hostTold (a .nqn .now)) (length (a .nqn .now))
+    laid-done host (a .state) (a .out .now) (a .marked .now) (hostTold (a .nqn .now)) (length (a .nqn .now))
     (c .before .before .before .before .before .before .before .before .before .before .before .before .room-fault .result) (c .stepped .result) (host-size (a .nqn .now))
     (c .before .before .before .before .before .before .before .before .before .before .before .before .room-fault .ensures) (c .stepped .ensures .0)
     (c .before .before .before .before .before .before .before .before .before .before .if1 .left) (c .stepped .ensures .1) (t .result) _ _ _ (a .nqn .now) (t .ensures .0) (host-record
-    (a .b .now) (a .s .used) (a .nqn .now)) y (host-heap (a .s .used) (a .nqn .now)) (c .before .before .before .copy-into .ensures)
+    (a .marked .now) (a .state .used) (a .nqn .now)) y (host-heap (a .state .used) (a .nqn .now)) (c .before .before .before .copy-into .ensures)
 
 pub lay-host-spec : {M : Type 1} → statement M
 lay-host-spec =

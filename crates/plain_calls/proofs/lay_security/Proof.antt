@@ -16,36 +16,36 @@ use Rattle.plain_calls.proofs.lay_security.Statement.{statement}
 use Rattle.plain_calls.proofs.lay_security.Tie as tie
 
 -- where there is room
-roomy-here : (c : tie.After-place-of) → let a = c .before .before .before .before .before .before .before .before .before .before .before .before .args in (recordsEnd (a .s) ≤ a .s .used) ×
-    (a .s .used + (length (a .p1 .now) + length (a .p2 .now) + length (a .p3 .now) + length (a .p4 .now) + length (a .p5 .now) + length (a .p6 .now)) ≤ 65536) × (a .s .used + (length
-    (a .p1 .now) + length (a .p2 .now) + length (a .p3 .now) + length (a .p4 .now) + length (a .p5 .now) + length (a .p6 .now)) ≤ length (a .out .now))
+roomy-here : (c : tie.After-place-of) → let a = c .before .before .before .before .before .before .before .before .before .before .before .before .args in (recordsEnd (a .state) ≤ a .state .used) ×
+    (a .state .used + (length (a .algorithms .now) + length (a .protocols .now) + length (a .ciphers .now) + length (a .groups .now) + length (a .hashes .now) + length (a .keypath .now)) ≤ 65536) × (a .state .used + (length
+    (a .algorithms .now) + length (a .protocols .now) + length (a .ciphers .now) + length (a .groups .now) + length (a .hashes .now) + length (a .keypath .now)) ≤ length (a .out .now))
 roomy-here c =
     let s = c .before .before .before .before .before .before .before .before .before .before .before .before in
     let a = s .args in
-    roomy (a .s) 5 (length (a .p1 .now) + length (a .p2 .now) + length (a .p3 .now) + length (a .p4 .now) + length (a .p5 .now) + length (a .p6 .now)) (length (a .out .now))
+    roomy (a .state) 5 (length (a .algorithms .now) + length (a .protocols .now) + length (a .ciphers .now) + length (a .groups .now) + length (a .hashes .now) + length (a .keypath .now)) (length (a .out .now))
     (c .before .before .before .room-fault .result) (s .pre .0 .0) (c .before .before .before .room-fault .ensures) (c .before .if1 .left)
 
 inside : (c : tie.After-place-of) → c .place-of .result + 64 ≤ length (c .before .before .before .before .before .before .before .before .before .before .before .before .args .out .now)
 unfolding layoutOf security
 inside c = omega (arith, roomy-here c, c .place-of .ensures .1)
 
-add-n : tie.Need-add-n
-add-n c = search needs
+add-written : tie.Need-add-written
+add-written c = search needs
 
-add-n-2 : tie.Need-add-n-2
-add-n-2 c = search needs
+add-written-2 : tie.Need-add-written-2
+add-written-2 c = search needs
 
-add-n-3 : tie.Need-add-n-3
-add-n-3 c = search needs
+add-written-3 : tie.Need-add-written-3
+add-written-3 c = search needs
 
-add-n-4 : tie.Need-add-n-4
-add-n-4 c = search needs
+add-written-4 : tie.Need-add-written-4
+add-written-4 c = search needs
 
-add-n-5 : tie.Need-add-n-5
-add-n-5 c = search needs
+add-written-5 : tie.Need-add-written-5
+add-written-5 c = search needs
 
 add-room-fault : tie.Need-add-room-fault
-add-room-fault c = let s = c .before .before .before .before .before .before .before .before in let v = used-bounds (s .args .s) 5 (s .pre .0 .0) in omega (arith, v, s .pre)
+add-room-fault c = let s = c .before .before .before .before .before .before .before .before in let v = used-bounds (s .args .state) 5 (s .pre .0 .0) in omega (arith, v, s .pre)
 
 room-fault-requires : tie.Need-room-fault-requires
 room-fault-requires c κs = search needs
@@ -56,9 +56,9 @@ refused-requires c κs = search needs
 returns : tie.Need-returns
 returns c =
     let a = c .before .before .before .before .before .before .before .before .before .before .before .before .args in
-    laid-refused security (a .s) (a .out .now) (a .b .now) (securityTold (a .p1 .now) (a .p2 .now) (a .p3 .now) (a .p4 .now) (a .p5 .now) (a .p6 .now)) (length (a .p1 .now) + length (a .p2 .now)
-    + length (a .p3 .now) + length (a .p4 .now) + length (a .p5 .now) + length (a .p6 .now)) (c .before .before .before .room-fault .result) (c .refused .result) (security-size (a .p1 .now)
-    (a .p2 .now) (a .p3 .now) (a .p4 .now) (a .p5 .now) (a .p6 .now)) (c .before .before .before .room-fault .ensures) (c .refused .ensures .0) (c .before .if1 .taken) (c .refused .ensures .1)
+    laid-refused security (a .state) (a .out .now) (a .marked .now) (securityTold (a .algorithms .now) (a .protocols .now) (a .ciphers .now) (a .groups .now) (a .hashes .now) (a .keypath .now)) (length (a .algorithms .now) + length (a .protocols .now)
+    + length (a .ciphers .now) + length (a .groups .now) + length (a .hashes .now) + length (a .keypath .now)) (c .before .before .before .room-fault .result) (c .refused .result) (security-size (a .algorithms .now)
+    (a .protocols .now) (a .ciphers .now) (a .groups .now) (a .hashes .now) (a .keypath .now)) (c .before .before .before .room-fault .ensures) (c .refused .ensures .0) (c .before .if1 .taken) (c .refused .ensures .1)
 
 place-of-requires : tie.Need-place-of-requires
 place-of-requires c κs = let s = c .before .before .before .before .before .before .before .before .before .before .before in (lit≤ tt, lit≤ tt, s .pre .0 .0)
@@ -92,7 +92,7 @@ write-security-requires c κs =
 lay-pieces-requires : tie.Need-lay-pieces-requires
 lay-pieces-requires c κs =
     let a = c .before .before .before .before .before .before .before .before .before .before .before .before .before .before .before .before .before .args in
-    omega (arith, roomy-here (c .before .before .before .before .before), c .before .before .out .given .1, six-long (a .p1 .now) (a .p2 .now) (a .p3 .now) (a .p4 .now) (a .p5 .now) (a .p6 .now))
+    omega (arith, roomy-here (c .before .before .before .before .before), c .before .before .out .given .1, six-long (a .algorithms .now) (a .protocols .now) (a .ciphers .now) (a .groups .now) (a .hashes .now) (a .keypath .now))
 
 stepped-requires : tie.Need-stepped-requires
 stepped-requires c κs = in-limit _ (roomy-here (c .before .before .before .before .before .before .before .before) .1)
@@ -107,26 +107,26 @@ returns-2 c =
     let a = s .args in
     let w = c .before .before .before .before .before .before .before .write-security in
     let t = c .before .before .before .before .before .before .before .before .before .place-of in
-    let y = part-stored (a .out .now) (t .result) 64 (w .last .0) (recordWith security (a .b .now) (a .s .used) (length (a .p1 .now) ∷ length (a .p2 .now) ∷ length (a .p3 .now) ∷ length
-    (a .p4 .now) ∷ length (a .p5 .now) ∷ length (a .p6 .now) ∷ []) (length (a .p1 .now) ∷ length (a .p2 .now) ∷ length (a .p3 .now) ∷ length (a .p4 .now) ∷ length (a .p5 .now) ∷ length
-    (a .p6 .now) ∷ [])) (inside (c .before .before .before .before .before .before .before .before .before)) (w .kept .0) (w .ensures) in
-    laid-done security (a .s) (a .out .now) (a .b .now) (securityTold (a .p1 .now) (a .p2 .now) (a .p3 .now) (a .p4 .now) (a .p5 .now) (a .p6 .now)) (length (a .p1 .now) + length (a .p2 .now) +
-    length (a .p3 .now) + length (a .p4 .now) + length (a .p5 .now) + length (a .p6 .now))
-    (c .before .before .before .before .before .before .before .before .before .before .before .before .room-fault .result) (c .stepped .result) (security-size (a .p1 .now) (a .p2 .now)
-    (a .p3 .now) (a .p4 .now) (a .p5 .now) (a .p6 .now)) (c .before .before .before .before .before .before .before .before .before .before .before .before .room-fault .ensures)
-    (c .stepped .ensures .0) (c .before .before .before .before .before .before .before .before .before .before .if1 .left) (c .stepped .ensures .1) (t .result) _ _ _ (concat (a .p1 .now ∷
-    a .p2 .now ∷ a .p3 .now ∷ a .p4 .now ∷ a .p5 .now ∷ a .p6 .now ∷ [])) (t .ensures .0) (security-record (a .p1 .now) (a .p2 .now) (a .p3 .now) (a .p4 .now) (a .p5 .now) (a .p6 .now)
-    (a .b .now) (a .s .used)) y (security-heap (a .p1 .now) (a .p2 .now) (a .p3 .now) (a .p4 .now) (a .p5 .now) (a .p6 .now) (a .s .used)) (c .before .before .before .lay-pieces .ensures)
+    let y = part-stored (a .out .now) (t .result) 64 (w .last .0) (recordWith security (a .marked .now) (a .state .used) (length (a .algorithms .now) ∷ length (a .protocols .now) ∷ length (a .ciphers .now) ∷ length
+    (a .groups .now) ∷ length (a .hashes .now) ∷ length (a .keypath .now) ∷ []) (length (a .algorithms .now) ∷ length (a .protocols .now) ∷ length (a .ciphers .now) ∷ length (a .groups .now) ∷ length (a .hashes .now) ∷ length
+    (a .keypath .now) ∷ [])) (inside (c .before .before .before .before .before .before .before .before .before)) (w .kept .0) (w .ensures) in
+    laid-done security (a .state) (a .out .now) (a .marked .now) (securityTold (a .algorithms .now) (a .protocols .now) (a .ciphers .now) (a .groups .now) (a .hashes .now) (a .keypath .now)) (length (a .algorithms .now) + length (a .protocols .now) +
+    length (a .ciphers .now) + length (a .groups .now) + length (a .hashes .now) + length (a .keypath .now))
+    (c .before .before .before .before .before .before .before .before .before .before .before .before .room-fault .result) (c .stepped .result) (security-size (a .algorithms .now) (a .protocols .now)
+    (a .ciphers .now) (a .groups .now) (a .hashes .now) (a .keypath .now)) (c .before .before .before .before .before .before .before .before .before .before .before .before .room-fault .ensures)
+    (c .stepped .ensures .0) (c .before .before .before .before .before .before .before .before .before .before .if1 .left) (c .stepped .ensures .1) (t .result) _ _ _ (concat (a .algorithms .now ∷
+    a .protocols .now ∷ a .ciphers .now ∷ a .groups .now ∷ a .hashes .now ∷ a .keypath .now ∷ [])) (t .ensures .0) (security-record (a .algorithms .now) (a .protocols .now) (a .ciphers .now) (a .groups .now) (a .hashes .now) (a .keypath .now)
+    (a .marked .now) (a .state .used)) y (security-heap (a .algorithms .now) (a .protocols .now) (a .ciphers .now) (a .groups .now) (a .hashes .now) (a .keypath .now) (a .state .used)) (c .before .before .before .lay-pieces .ensures)
 
 pub lay-security-spec : {M : Type 1} → statement M
 lay-security-spec =
     tie.close
     (tie.spec
-    add-n
-    add-n-2
-    add-n-3
-    add-n-4
-    add-n-5
+    add-written
+    add-written-2
+    add-written-3
+    add-written-4
+    add-written-5
     add-room-fault
     room-fault-requires
     refused-requires

@@ -19,7 +19,7 @@ use Rattle.plain_calls.proofs.security.Tie as tie
 
 -- what was answered, by the objects
 judged-is : (c : tie.After-judged) → c .judged .result ≡ firstFail (judgeTests (layoutOf 5)
-    (c .before .before .before .before .before .before .before .before .before .before .before .before .before .before .args .s) (imageIn (layoutOf 5)
+    (c .before .before .before .before .before .before .before .before .before .before .before .before .before .before .args .state) (imageIn (layoutOf 5)
     (c .before .before .before .before .mark-64 .result) 0) 0 (securityFault (imageIn security (c .before .before .before .before .mark-64 .result) 0)
     (c .before .before .before .before .before .before .before .before .before .before .before .before .before .before .args .algorithms .now)
     (c .before .before .before .before .before .before .before .before .before .before .before .before .before .before .args .protocols .now)
@@ -28,7 +28,7 @@ judged-is : (c : tie.After-judged) → c .judged .result ≡ firstFail (judgeTes
     (c .before .before .before .before .before .before .before .before .before .before .before .before .before .before .args .hashes .now)
     (c .before .before .before .before .before .before .before .before .before .before .before .before .before .before .args .keypath .now)))
 judged-is c = c .judged .ensures ∙ ap (λ (f : ℕ). firstFail (judgeTests (layoutOf 5)
-    (c .before .before .before .before .before .before .before .before .before .before .before .before .before .before .args .s) (imageIn (layoutOf 5)
+    (c .before .before .before .before .before .before .before .before .before .before .before .before .before .before .args .state) (imageIn (layoutOf 5)
     (c .before .before .before .before .mark-64 .result) 0) 0 f)) (c .before .before .security-fault .ensures)
 
 -- what is known of a record that was taken
@@ -116,9 +116,9 @@ refused-requires c κs = search needs
 
 returns : tie.Need-returns
 returns c =
-    let t = security-refused (c .before .before .before .before .before .before .before .before .before .before .before .before .before .before .before .before .before .args .s)
+    let t = security-refused (c .before .before .before .before .before .before .before .before .before .before .before .before .before .before .before .before .before .args .state)
     (c .before .before .before .before .before .before .before .before .before .before .before .before .before .before .before .before .before .args .out .now)
-    (c .before .before .before .before .before .before .before .before .before .before .before .before .before .before .before .before .before .args .x .bytes)
+    (c .before .before .before .before .before .before .before .before .before .before .before .before .before .before .before .before .before .args .told .bytes)
     (c .before .before .before .before .before .before .before .mark-64 .result)
     (c .before .before .before .before .before .before .before .before .before .before .before .before .before .before .before .before .before .args .algorithms .now)
     (c .before .before .before .before .before .before .before .before .before .before .before .before .before .before .before .before .before .args .protocols .now)
@@ -128,7 +128,7 @@ returns c =
     (c .before .before .before .before .before .before .before .before .before .before .before .before .before .before .before .before .before .args .keypath .now)
     (c .before .before .before .judged .result) (c .before .before .before .before .before .before .before .mark-64 .ensures .0) (judged-is (c .before .before .before)) (c .before .if1 .taken) in (
       step-is (c .refused .result) (c .before .before .before .judged .result)
-          (c .before .before .before .before .before .before .before .before .before .before .before .before .before .before .before .before .before .args .s) (c .refused .ensures .0)
+          (c .before .before .before .before .before .before .before .before .before .before .before .before .before .before .before .before .before .args .state) (c .refused .ensures .0)
           (c .refused .ensures .1) ∙ t .0,
       t .1,
     )
@@ -210,11 +210,11 @@ unfolding security
 lay-security-requires c κs =
     let p = security-passed
     (c .before .before .before .before .before .before .before .before .before .before .before .before .before .before .before .before .before .before .before .before .before .before .before
-    .before .before .before .before .before .before .before .before .before .before .before .before .before .args .s)
+    .before .before .before .before .before .before .before .before .before .before .before .before .before .args .state)
     (c .before .before .before .before .before .before .before .before .before .before .before .before .before .before .before .before .before .before .before .before .before .before .before
     .before .before .before .before .before .before .before .before .before .before .before .before .before .args .out .now)
     (c .before .before .before .before .before .before .before .before .before .before .before .before .before .before .before .before .before .before .before .before .before .before .before
-    .before .before .before .before .before .before .before .before .before .before .before .before .before .args .x .bytes)
+    .before .before .before .before .before .before .before .before .before .before .before .before .before .args .told .bytes)
     (c .before .before .before .before .before .before .before .before .before .before .before .before .before .before .before .before .before .before .before .before .before .before .before
     .before .before .before .mark-64 .result)
     (c .before .before .before .before .before .before .before .before .before .before .before .before .before .before .before .before .before .before .before .before .before .before .before
@@ -257,11 +257,11 @@ returns-2 : tie.Need-returns-2
 returns-2 c =
     let d = security-done
     (c .before .before .before .before .before .before .before .before .before .before .before .before .before .before .before .before .before .before .before .before .before .before .before
-    .before .before .before .before .before .before .before .before .before .before .before .before .before .before .before .before .args .s)
+    .before .before .before .before .before .before .before .before .before .before .before .before .before .before .before .before .args .state)
     (c .before .before .before .before .before .before .before .before .before .before .before .before .before .before .before .before .before .before .before .before .before .before .before
     .before .before .before .before .before .before .before .before .before .before .before .before .before .before .before .before .args .out .now)
     (c .before .before .before .before .before .before .before .before .before .before .before .before .before .before .before .before .before .before .before .before .before .before .before
-    .before .before .before .before .before .before .before .before .before .before .before .before .before .before .before .before .args .x .bytes)
+    .before .before .before .before .before .before .before .before .before .before .before .before .before .before .before .before .args .told .bytes)
     (c .before .before .before .before .before .before .before .before .before .before .before .before .before .before .before .before .before .before .before .before .before .before .before
     .before .before .before .before .before .before .mark-64 .result)
     (c .before .before .before .before .before .before .before .before .before .before .before .before .before .before .before .before .before .before .before .before .before .before .before
