@@ -40,19 +40,19 @@ ssnsSlots img address service others nqn own path =
 unfoldable pub extendedSize : (size : ℕ) (path : List ℕ) → ℕ
 extendedSize size path = pick (eqb size 0) 0 (baseOf extended + length path)
 
--- the extended info told in e at a, and its object
-unfoldable pub extendedPart : (e : List ℕ) (a size : ℕ) (path : List ℕ) → List ℕ
-extendedPart e a size path =
-    pick (eqb size 0) [] (concat (recordWith extended e (a + baseOf extended) (length path ∷ []) (length path ∷ []) ∷ path ∷ []))
+-- the extended info, which has the bytes own, at a place, and its object
+unfoldable pub extendedPart : (own : List ℕ) (place size : ℕ) (path : List ℕ) → List ℕ
+extendedPart own place size path =
+    pick (eqb size 0) [] (concat (recordWith extended own (place + baseOf extended) (length path ∷ []) (length path ∷ []) ∷ path ∷ []))
 
--- with the objects before it, from u on
-unfoldable pub namedPart : (u : ℕ) (address service others nqn : List ℕ) (size : ℕ) (e path : List ℕ) → List ℕ
-namedPart u address service others nqn size e path =
-    let a = u + length address + length service + length others + length nqn in
-    concat (address ∷ service ∷ others ∷ nqn ∷ extendedPart e a size path ∷ [])
+-- with the objects before it, from next on
+unfoldable pub namedPart : (next : ℕ) (address service others nqn : List ℕ) (size : ℕ) (own path : List ℕ) → List ℕ
+namedPart next address service others nqn size own path =
+    let place = next + length address + length service + length others + length nqn in
+    concat (address ∷ service ∷ others ∷ nqn ∷ extendedPart own place size path ∷ [])
 
--- the record told in b and what it names laid into buf, where there is room: e has the extended info
-unfoldable pub laidSsns : State → (buf b e address service others nqn path : List ℕ) → Outcome
-laidSsns s buf b e address service others nqn path =
-    let img = imageIn ssns b 0 in
-    laid ssns s buf b (ssnsSlots img address service others nqn (imageIn extended e 0) path)
+-- what is told of the record and what it names laid into the buffer, where there is room: own are the bytes of the extended info
+unfoldable pub laidSsns : State → (buffer told own address service others nqn path : List ℕ) → Outcome
+laidSsns s buffer told own address service others nqn path =
+    let img = imageIn ssns told 0 in
+    laid ssns s buffer told (ssnsSlots img address service others nqn (imageIn extended own 0) path)

@@ -1,5 +1,6 @@
 // The builder's calls for records that name a heap record: an HFI its transport info, an SSNS record, under flag 4, its extended info. Any state,
-// buffer and told bytes may be handed in.
+// buffer and told bytes may be handed in. `told` is a record as the caller tells it, `marked` its bytes once the builder has set those that are its own
+// to set (`told::marks`); so are `info` and `extended` where they are slices.
 use flags::ssns_flags;
 use record_writers::write_extended;
 use record_writers::write_hfi;
@@ -34,53 +35,53 @@ ghost use Rattle.table.specs.Layout.{baseOf};
 ghost use Rattle.table.specs.FixedLayouts as layouts;
 ghost use Rattle.table.specs.Objects.{under};
 ghost use Rattle.table.specs.Meaning.{limit};
-ghost use Rattle.table.specs.Builder.{waits};
+ghost use Rattle.table.specs.Builder.{waits, Gives};
 ghost use Rattle.laws.specs.Fields.{imageIn};
 ghost use Rattle.steps.specs.Steps.{laid};
 ghost use Rattle.filling.specs.Calls.{hfiTold, tellHfi, tellSsns};
 ghost use Rattle.nested_calls.specs.Nested.{ownNeed, ssnsFault, extendedSize, extendedPart, namedPart, laidSsns};
 
-// The HFI told in `b`, behind the bytes used its transport info told in `i`, and behind this its host name, where there is room.
-fn lay_hfi(out: &mut [u8], s: State, b: &[u8], i: &[u8], name: &[u8]) -> Step
-    requires { ⌜ (waits s 3 ≡ true) × (length (now b) ≡ baseOf layouts.hfi) × (length (now i) ≡ baseOf layouts.info) × (length (now name) ≤ 65535) ⌝ }
-    ensures { λ r. ⌜ (r ≡ laid layouts.hfi s (now (out .entry)) (now (b .entry)) (hfiTold (imageIn layouts.info (now (i .entry)) 0) (now (name .entry))) .step) × (now (out .exit) ≡ laid layouts.hfi s (now (out .entry)) (now (b .entry)) (hfiTold (imageIn layouts.info (now (i .entry)) 0) (now (name .entry))) .buffer) ⌝ }
+// The HFI, behind the bytes used its transport info, and behind this its host name, where there is room.
+fn lay_hfi(out: &mut [u8], state: State, marked: &[u8], info: &[u8], name: &[u8]) -> Step
+    requires { ⌜ (waits state 3 ≡ true) × (length (now marked) ≡ baseOf layouts.hfi) × (length (now info) ≡ baseOf layouts.info) × (length (now name) ≤ 65535) ⌝ }
+    ensures { λ r. ⌜ Gives (laid layouts.hfi state (now (out .entry)) (now (marked .entry)) (hfiTold (imageIn layouts.info (now (info .entry)) 0) (now (name .entry)))) r (now (out .exit)) ⌝ }
 {
-    let used = s.used;
-    let n = Info::SIZE + name.len();
-    let f = room_fault(used + n, out.len());
-    if f.number != 0 {
-        return refused(f, s);
+    let used = state.used;
+    let written = Info::SIZE + name.len();
+    let room = room_fault(used + written, out.len());
+    if room.number != 0 {
+        return refused(room, state);
     }
-    let at = turns::place_of(s, Hfi::ID);
+    let at = turns::place_of(state, Hfi::ID);
     let end = at + Hfi::SIZE;
-    write_hfi(&mut out[at..end], b, used, name.len());
+    write_hfi(&mut out[at..end], marked, used, name.len());
     let own = used + Info::SIZE;
-    write_info(&mut out[used..own], i, own, name.len());
+    write_info(&mut out[used..own], info, own, name.len());
     copy_into(out, own, name);
-    stepped(f, s, n)
+    stepped(room, state, written)
 }
 
 // An HFI, its transport info, and the host name that this names.
-pub fn hfi(out: &mut [u8], s: State, x: Hfi, info: Info, name: &[u8]) -> Step
-    ensures { λ r. ⌜ (r ≡ tellHfi s (now (out .entry)) (x .bytes) (info .bytes) (now (name .entry)) .step) × (now (out .exit) ≡ tellHfi s (now (out .entry)) (x .bytes) (info .bytes) (now (name .entry)) .buffer) ⌝ }
+pub fn hfi(out: &mut [u8], state: State, told: Hfi, info: Info, name: &[u8]) -> Step
+    ensures { λ r. ⌜ Gives (tellHfi state (now (out .entry)) (told .bytes) (info .bytes) (now (name .entry))) r (now (out .exit)) ⌝ }
 {
-    let bytes = x.bytes;
-    let b = mark_32(bytes, Hfi::ID, s.position as usize);
+    let bytes = told.bytes;
+    let marked = mark_32(bytes, Hfi::ID, state.position as usize);
     let info_bytes = info.bytes;
-    let i = mark_128(info_bytes, Info::ID, s.position as usize);
-    let a = judged(s, Hfi::ID, &b, 0, fits(Need::Optional, name));
-    if a.number != 0 {
-        return refused(a, s);
+    let marked_info = mark_128(info_bytes, Info::ID, state.position as usize);
+    let answer = judged(state, Hfi::ID, &marked, 0, fits(Need::Optional, name));
+    if answer.number != 0 {
+        return refused(answer, state);
     }
-    lay_hfi(out, s, &b, &i, name)
+    lay_hfi(out, state, &marked, &marked_info, name)
 }
 
 // The need for the object of the extended info: there is none where the extended info is not.
-fn own_need(b: &[u8]) -> Need
-    requires { ⌜ 128 ≤ length (now b) ⌝ }
-    ensures { λ r. ⌜ r ≡ ownNeed (imageIn layouts.ssns (now (b .entry)) 0) ⌝ }
+fn own_need(marked: &[u8]) -> Need
+    requires { ⌜ 128 ≤ length (now marked) ⌝ }
+    ensures { λ r. ⌜ r ≡ ownNeed (imageIn layouts.ssns (now (marked .entry)) 0) ⌝ }
 {
-    if ssns_flags(b, 0) / 16 % 2 == 0 {
+    if ssns_flags(marked, 0) / 16 % 2 == 0 {
         return Need::Ignored;
     }
     Need::Optional
@@ -97,19 +98,19 @@ fn own_size(need: Need) -> usize
     }
 }
 
-// The first fault of the objects of the SSNS record told in `b`, by the needs for them.
+// The first fault of the objects of an SSNS record, by the needs for them.
 fn ssns_fault(
-    b: &[u8],
+    marked: &[u8],
     address: &[u8],
     service: &[u8],
     others: &[u8],
     nqn: &[u8],
     path: &[u8],
 ) -> u8
-    requires { ⌜ 128 ≤ length (now b) ⌝ }
-    ensures { λ r. ⌜ r ≡ ssnsFault (imageIn layouts.ssns (now (b .entry)) 0) (now (address .entry)) (now (service .entry)) (now (others .entry)) (now (nqn .entry)) (now (path .entry)) ⌝ }
+    requires { ⌜ 128 ≤ length (now marked) ⌝ }
+    ensures { λ r. ⌜ r ≡ ssnsFault (imageIn layouts.ssns (now (marked .entry)) 0) (now (address .entry)) (now (service .entry)) (now (others .entry)) (now (nqn .entry)) (now (path .entry)) ⌝ }
 {
-    let last = first_of(fits(Need::Required, nqn), fits(own_need(b), path));
+    let last = first_of(fits(Need::Required, nqn), fits(own_need(marked), path));
     let rest = first_of(fits(Need::Optional, others), last);
     first_of(
         fits(Need::Required, address),
@@ -117,72 +118,72 @@ fn ssns_fault(
     )
 }
 
-// The extended info told in `e` at `at`, and behind it its root path; nothing where it is to have no bytes.
-fn lay_extended(out: &mut [u8], at: usize, size: usize, e: &[u8], path: &[u8])
-    requires { ⌜ (length (now e) ≡ baseOf layouts.extended) × (length (now path) ≤ 65535) × (at ≤ limit) × (at + extendedSize size (now path) ≤ length (now out)) ⌝ }
-    ensures { λ r. ⌜ now (out .exit) ≡ splice (now (out .entry)) at (extendedPart (now (e .entry)) at size (now (path .entry))) ⌝ }
+// The extended info at `at`, and behind it its root path; nothing where it is to have no bytes.
+fn lay_extended(out: &mut [u8], at: usize, size: usize, extended: &[u8], path: &[u8])
+    requires { ⌜ (length (now extended) ≡ baseOf layouts.extended) × (length (now path) ≤ 65535) × (at ≤ limit) × (at + extendedSize size (now path) ≤ length (now out)) ⌝ }
+    ensures { λ r. ⌜ now (out .exit) ≡ splice (now (out .entry)) at (extendedPart (now (extended .entry)) at size (now (path .entry))) ⌝ }
 {
     if size == 0 {
         return;
     }
     let end = at + Extended::SIZE;
-    write_extended(&mut out[at..end], e, end, path.len());
+    write_extended(&mut out[at..end], extended, end, path.len());
     copy_into(out, end, path);
 }
 
-// What an SSNS record names, from `u` on.
+// What an SSNS record names, from `next` on.
 fn lay_named(
     out: &mut [u8],
-    u: usize,
+    next: usize,
     address: &[u8],
     service: &[u8],
     others: &[u8],
     nqn: &[u8],
     size: usize,
-    e: &[u8],
+    extended: &[u8],
     path: &[u8],
 )
-    requires { ⌜ (length (now e) ≡ baseOf layouts.extended) × (length (now path) ≤ 65535) ⌝ }
-    requires { ⌜ (u + (length (now address) + length (now service) + length (now others) + length (now nqn) + extendedSize size (now path)) ≤ limit) × (u + (length (now address) + length (now service) + length (now others) + length (now nqn) + extendedSize size (now path)) ≤ length (now out)) ⌝ }
-    ensures { λ r. ⌜ now (out .exit) ≡ splice (now (out .entry)) u (namedPart u (now (address .entry)) (now (service .entry)) (now (others .entry)) (now (nqn .entry)) size (now (e .entry)) (now (path .entry))) ⌝ }
+    requires { ⌜ (length (now extended) ≡ baseOf layouts.extended) × (length (now path) ≤ 65535) ⌝ }
+    requires { ⌜ (next + (length (now address) + length (now service) + length (now others) + length (now nqn) + extendedSize size (now path)) ≤ limit) × (next + (length (now address) + length (now service) + length (now others) + length (now nqn) + extendedSize size (now path)) ≤ length (now out)) ⌝ }
+    ensures { λ r. ⌜ now (out .exit) ≡ splice (now (out .entry)) next (namedPart next (now (address .entry)) (now (service .entry)) (now (others .entry)) (now (nqn .entry)) size (now (extended .entry)) (now (path .entry))) ⌝ }
 {
     let none = &nqn[0..0];
-    lay_pieces(out, u, address, service, others, nqn, none, none);
-    let at = u + address.len() + service.len() + others.len() + nqn.len();
-    lay_extended(out, at, size, e, path);
+    lay_pieces(out, next, address, service, others, nqn, none, none);
+    let at = next + address.len() + service.len() + others.len() + nqn.len();
+    lay_extended(out, at, size, extended, path);
 }
 
-// The SSNS record told in `b` and what it names, where there is room; its extended info told in `e` and the object of this only where its flag 4 is set.
+// The SSNS record and what it names, where there is room; its extended info and the object of this only where its flag 4 is set.
 fn lay_ssns(
     out: &mut [u8],
-    s: State,
-    b: &[u8],
-    e: &[u8],
+    state: State,
+    marked: &[u8],
+    extended: &[u8],
     address: &[u8],
     service: &[u8],
     others: &[u8],
     nqn: &[u8],
     path: &[u8],
 ) -> Step
-    requires { ⌜ (waits s 4 ≡ true) × (length (now b) ≡ baseOf layouts.ssns) × (length (now e) ≡ baseOf layouts.extended) ⌝ }
-    requires { ⌜ (length (now address) ≤ 65535) × (length (now service) ≤ 65535) × (length (now others) ≤ 65535) × (length (now nqn) ≤ 65535) × (length (under (ownNeed (imageIn layouts.ssns (now b) 0)) [] (now path)) ≤ 65535) ⌝ }
-    ensures { λ r. ⌜ (r ≡ laidSsns s (now (out .entry)) (now (b .entry)) (now (e .entry)) (now (address .entry)) (now (service .entry)) (now (others .entry)) (now (nqn .entry)) (now (path .entry)) .step) × (now (out .exit) ≡ laidSsns s (now (out .entry)) (now (b .entry)) (now (e .entry)) (now (address .entry)) (now (service .entry)) (now (others .entry)) (now (nqn .entry)) (now (path .entry)) .buffer) ⌝ }
+    requires { ⌜ (waits state 4 ≡ true) × (length (now marked) ≡ baseOf layouts.ssns) × (length (now extended) ≡ baseOf layouts.extended) ⌝ }
+    requires { ⌜ (length (now address) ≤ 65535) × (length (now service) ≤ 65535) × (length (now others) ≤ 65535) × (length (now nqn) ≤ 65535) × (length (under (ownNeed (imageIn layouts.ssns (now marked) 0)) [] (now path)) ≤ 65535) ⌝ }
+    ensures { λ r. ⌜ Gives (laidSsns state (now (out .entry)) (now (marked .entry)) (now (extended .entry)) (now (address .entry)) (now (service .entry)) (now (others .entry)) (now (nqn .entry)) (now (path .entry))) r (now (out .exit)) ⌝ }
 {
-    let used = s.used;
-    let need = own_need(b);
+    let used = state.used;
+    let need = own_need(marked);
     let size = own_size(need);
     let own = kept(need, path);
     let front = address.len() + service.len() + others.len() + nqn.len();
-    let n = front + size + own.len();
-    let f = room_fault(used + n, out.len());
-    if f.number != 0 {
-        return refused(f, s);
+    let written = front + size + own.len();
+    let room = room_fault(used + written, out.len());
+    if room.number != 0 {
+        return refused(room, state);
     }
-    let at = turns::place_of(s, Ssns::ID);
+    let at = turns::place_of(state, Ssns::ID);
     let end = at + Ssns::SIZE;
     write_ssns(
         &mut out[at..end],
-        b,
+        marked,
         used,
         address.len(),
         service.len(),
@@ -191,15 +192,25 @@ fn lay_ssns(
         size,
         own.len(),
     );
-    lay_named(out, used, address, service, others, nqn, size, e, own);
-    stepped(f, s, n)
+    lay_named(
+        out,
+        used,
+        address,
+        service,
+        others,
+        nqn,
+        size,
+        extended,
+        own,
+    );
+    stepped(room, state, written)
 }
 
 // An SSNS record: address, service, secondary HFI indexes, NQN; its extended info, and the DHCP root path that this names.
 pub fn ssns(
     out: &mut [u8],
-    s: State,
-    x: Ssns,
+    state: State,
+    told: Ssns,
     address: &[u8],
     service: &[u8],
     others: &[u8],
@@ -207,16 +218,26 @@ pub fn ssns(
     extended: Extended,
     path: &[u8],
 ) -> Step
-    ensures { λ r. ⌜ (r ≡ tellSsns s (now (out .entry)) (x .bytes) (now (address .entry)) (now (service .entry)) (now (others .entry)) (now (nqn .entry)) (extended .bytes) (now (path .entry)) .step) × (now (out .exit) ≡ tellSsns s (now (out .entry)) (x .bytes) (now (address .entry)) (now (service .entry)) (now (others .entry)) (now (nqn .entry)) (extended .bytes) (now (path .entry)) .buffer) ⌝ }
+    ensures { λ r. ⌜ Gives (tellSsns state (now (out .entry)) (told .bytes) (now (address .entry)) (now (service .entry)) (now (others .entry)) (now (nqn .entry)) (extended .bytes) (now (path .entry))) r (now (out .exit)) ⌝ }
 {
-    let bytes = x.bytes;
-    let b = mark_128(bytes, Ssns::ID, s.position as usize);
+    let bytes = told.bytes;
+    let marked = mark_128(bytes, Ssns::ID, state.position as usize);
     let extended_bytes = extended.bytes;
-    let e = mark_18(extended_bytes, Extended::ID, s.position as usize);
-    let fault = ssns_fault(&b, address, service, others, nqn, path);
-    let a = judged(s, Ssns::ID, &b, 0, fault);
-    if a.number != 0 {
-        return refused(a, s);
+    let marked_extended = mark_18(extended_bytes, Extended::ID, state.position as usize);
+    let fault = ssns_fault(&marked, address, service, others, nqn, path);
+    let answer = judged(state, Ssns::ID, &marked, 0, fault);
+    if answer.number != 0 {
+        return refused(answer, state);
     }
-    lay_ssns(out, s, &b, &e, address, service, others, nqn, path)
+    lay_ssns(
+        out,
+        state,
+        &marked,
+        &marked_extended,
+        address,
+        service,
+        others,
+        nqn,
+        path,
+    )
 }

@@ -15,10 +15,10 @@ use Rattle.nested_calls.proofs.hfi.Statement.{statement}
 use Rattle.nested_calls.proofs.hfi.Tie as tie
 
 -- what was answered, by the objects
-judged-is : (c : tie.After-judged) → c .judged .result ≡ firstFail (judgeTests (layoutOf 3) (c .before .before .before .before .before .before .before .before .before .before .before .args .s)
+judged-is : (c : tie.After-judged) → c .judged .result ≡ firstFail (judgeTests (layoutOf 3) (c .before .before .before .before .before .before .before .before .before .before .before .args .state)
     (imageIn (layoutOf 3) (c .before .before .before .before .before .before .mark-32 .result) 0) 0 (objectFault Optional
     (c .before .before .before .before .before .before .before .before .before .before .before .args .name .now)))
-judged-is c = c .judged .ensures ∙ ap (λ (f : ℕ). firstFail (judgeTests (layoutOf 3) (c .before .before .before .before .before .before .before .before .before .before .before .args .s) (imageIn
+judged-is c = c .judged .ensures ∙ ap (λ (f : ℕ). firstFail (judgeTests (layoutOf 3) (c .before .before .before .before .before .before .before .before .before .before .before .args .state) (imageIn
     (layoutOf 3) (c .before .before .before .before .before .before .mark-32 .result) 0) 0 f)) (c .before .fits2 .ensures)
 
 cast-mark-32 : tie.Need-cast-mark-32
@@ -50,9 +50,9 @@ refused-requires c κs = search needs
 
 returns : tie.Need-returns
 returns c =
-    let t = hfi-refused (c .before .before .before .before .before .before .before .before .before .before .before .before .before .before .args .s)
+    let t = hfi-refused (c .before .before .before .before .before .before .before .before .before .before .before .before .before .before .args .state)
     (c .before .before .before .before .before .before .before .before .before .before .before .before .before .before .args .out .now)
-    (c .before .before .before .before .before .before .before .before .before .before .before .before .before .before .args .x .bytes)
+    (c .before .before .before .before .before .before .before .before .before .before .before .before .before .before .args .told .bytes)
     (c .before .before .before .before .before .before .before .before .before .mark-32 .result)
     (c .before .before .before .before .before .before .before .before .before .before .before .before .before .before .args .info .bytes)
     (c .before .before .before .before .before .before .mark-128 .result)
@@ -60,7 +60,7 @@ returns c =
     (c .before .before .before .before .before .before .before .before .before .mark-32 .ensures .0) (c .before .before .before .before .before .before .mark-128 .ensures .0) (judged-is
     (c .before .before .before)) (c .before .if1 .taken) in (
       step-is (c .refused .result) (c .before .before .before .judged .result)
-          (c .before .before .before .before .before .before .before .before .before .before .before .before .before .before .args .s) (c .refused .ensures .0) (c .refused .ensures .1) ∙ t .0,
+          (c .before .before .before .before .before .before .before .before .before .before .before .before .before .before .args .state) (c .refused .ensures .0) (c .refused .ensures .1) ∙ t .0,
       t .1,
     )
 
@@ -73,9 +73,9 @@ slice-aggregate-lay-hfi-2 c = search needs
 lay-hfi-requires : tie.Need-lay-hfi-requires
 unfolding hfi info
 lay-hfi-requires c κs =
-    let p = hfi-passed (c .before .before .before .before .before .before .before .before .before .before .before .before .before .before .before .before .args .s)
+    let p = hfi-passed (c .before .before .before .before .before .before .before .before .before .before .before .before .before .before .before .before .args .state)
     (c .before .before .before .before .before .before .before .before .before .before .before .before .before .before .before .before .args .out .now)
-    (c .before .before .before .before .before .before .before .before .before .before .before .before .before .before .before .before .args .x .bytes)
+    (c .before .before .before .before .before .before .before .before .before .before .before .before .before .before .before .before .args .told .bytes)
     (c .before .before .before .before .before .before .before .before .before .before .before .mark-32 .result)
     (c .before .before .before .before .before .before .before .before .before .before .before .before .before .before .before .before .args .info .bytes)
     (c .before .before .before .before .before .before .before .before .mark-128 .result)
@@ -93,9 +93,9 @@ same-length c = search needs
 
 returns-2 : tie.Need-returns-2
 returns-2 c =
-    let d = hfi-done (c .before .before .before .before .before .before .before .before .before .before .before .before .before .before .before .before .before .before .before .args .s)
+    let d = hfi-done (c .before .before .before .before .before .before .before .before .before .before .before .before .before .before .before .before .before .before .before .args .state)
     (c .before .before .before .before .before .before .before .before .before .before .before .before .before .before .before .before .before .before .before .args .out .now)
-    (c .before .before .before .before .before .before .before .before .before .before .before .before .before .before .before .before .before .before .before .args .x .bytes)
+    (c .before .before .before .before .before .before .before .before .before .before .before .before .before .before .before .before .before .before .before .args .told .bytes)
     (c .before .before .before .before .before .before .before .before .before .before .before .before .before .before .mark-32 .result)
     (c .before .before .before .before .before .before .before .before .before .before .before .before .before .before .before .before .before .before .before .args .info .bytes)
     (c .before .before .before .before .before .before .before .before .before .before .before .mark-128 .result)

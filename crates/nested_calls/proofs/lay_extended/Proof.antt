@@ -16,7 +16,7 @@ use Rattle.nested_calls.proofs.lay_extended.Tie as tie
 returns : tie.Need-returns
 returns c =
     let a = c .before .before .before .before .args in
-    splice-none (a .out .now) (a .at) ∙ ap (splice (a .out .now) (a .at)) (sym (extended-none (a .e .now) (a .at) (a .size) (a .path .now) (c .if1 .taken)))
+    splice-none (a .out .now) (a .at) ∙ ap (splice (a .out .now) (a .at)) (sym (extended-none (a .extended .now) (a .at) (a .size) (a .path .now) (c .if1 .taken)))
 
 add-end : tie.Need-add-end
 unfolding limit
@@ -70,7 +70,7 @@ returns-2 c =
         refl,
       ),
     ) ∙ ap (splice (a .out .now) (a .at)) (extended-some (a .size) (a .path .now) (c .before .before .before .before .before .before .before .before .if1 .left)
-    (a .e .now) (a .at) (w .last .0) (w .ensures))
+    (a .extended .now) (a .at) (w .last .0) (w .ensures))
 
 pub lay-extended-spec : {M : Type 1} → statement M
 lay-extended-spec =

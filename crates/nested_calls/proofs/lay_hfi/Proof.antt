@@ -19,23 +19,23 @@ use Rattle.nested_calls.proofs.lay_hfi.Statement.{statement}
 use Rattle.nested_calls.proofs.lay_hfi.Tie as tie
 
 -- where there is room
-roomy-here : (c : tie.After-place-of) → let a = c .before .before .before .before .before .before .before .before .args in (recordsEnd (a .s) ≤ a .s .used) × (a .s .used + (128 + length
-    (a .name .now)) ≤ 65536) × (a .s .used + (128 + length (a .name .now)) ≤ length (a .out .now))
+roomy-here : (c : tie.After-place-of) → let a = c .before .before .before .before .before .before .before .before .args in (recordsEnd (a .state) ≤ a .state .used) × (a .state .used + (128 + length
+    (a .name .now)) ≤ 65536) × (a .state .used + (128 + length (a .name .now)) ≤ length (a .out .now))
 roomy-here c =
     let s = c .before .before .before .before .before .before .before .before in
     let a = s .args in
-    roomy (a .s) 3 (128 + length (a .name .now)) (length (a .out .now)) (c .before .before .before .room-fault .result) (s .pre .0) (c .before .before .before .room-fault .ensures)
+    roomy (a .state) 3 (128 + length (a .name .now)) (length (a .out .now)) (c .before .before .before .room-fault .result) (s .pre .0) (c .before .before .before .room-fault .ensures)
     (c .before .if1 .left)
 
 inside : (c : tie.After-place-of) → c .place-of .result + 32 ≤ length (c .before .before .before .before .before .before .before .before .args .out .now)
 unfolding layoutOf hfi
 inside c = omega (arith, roomy-here c, c .place-of .ensures .1)
 
-add-n : tie.Need-add-n
-add-n c = search needs
+add-written : tie.Need-add-written
+add-written c = search needs
 
 add-room-fault : tie.Need-add-room-fault
-add-room-fault c = let s = c .before .before .before .before in let v = used-bounds (s .args .s) 3 (s .pre .0) in omega (arith, v, s .pre .3)
+add-room-fault c = let s = c .before .before .before .before in let v = used-bounds (s .args .state) 3 (s .pre .0) in omega (arith, v, s .pre .3)
 
 room-fault-requires : tie.Need-room-fault-requires
 room-fault-requires c κs = search needs
@@ -46,8 +46,8 @@ refused-requires c κs = search needs
 returns : tie.Need-returns
 returns c =
     let a = c .before .before .before .before .before .before .before .before .args in
-    laid-refused hfi (a .s) (a .out .now) (a .b .now) (hfiTold (imageIn info (a .i .now) 0) (a .name .now)) (128 + length (a .name .now)) (c .before .before .before .room-fault .result)
-    (c .refused .result) (hfi-size (imageIn info (a .i .now) 0) (a .name .now)) (c .before .before .before .room-fault .ensures) (c .refused .ensures .0) (c .before .if1 .taken)
+    laid-refused hfi (a .state) (a .out .now) (a .marked .now) (hfiTold (imageIn info (a .info .now) 0) (a .name .now)) (128 + length (a .name .now)) (c .before .before .before .room-fault .result)
+    (c .refused .result) (hfi-size (imageIn info (a .info .now) 0) (a .name .now)) (c .before .before .before .room-fault .ensures) (c .refused .ensures .0) (c .before .if1 .taken)
     (c .refused .ensures .1)
 
 place-of-requires : tie.Need-place-of-requires
@@ -90,7 +90,7 @@ write-info-requires c κs =
     let s = c .before .before .before .before .before .before .before .before .before .before .before .before .before in
     let a = s .args in (
       (
-        part-size _ (a .s .used) 128 (omega (arith, roomy-here (c .before .before .before .before .before), c .before .before .out .given .1)),
+        part-size _ (a .state .used) 128 (omega (arith, roomy-here (c .before .before .before .before .before), c .before .before .out .given .1)),
         s .pre .2,
         omega (
           arith,
@@ -123,42 +123,42 @@ returns-2 c =
     let w = c .before .before .before .before .before .before .before .before .before .before .before .write-hfi in
     let t = c .before .before .before .before .before .before .before .before .before .before .before .before .before .place-of in
     let q = roomy-here (c .before .before .before .before .before .before .before .before .before .before .before .before .before) in
-    let y = part-stored (a .out .now) (t .result) 32 (w .last .0) (recordWith hfi (a .b .now) (a .s .used) (baseOf info ∷ []) ((baseOf info + length (a .name .now)) ∷ [])) (inside
+    let y = part-stored (a .out .now) (t .result) 32 (w .last .0) (recordWith hfi (a .marked .now) (a .state .used) (baseOf info ∷ []) ((baseOf info + length (a .name .now)) ∷ [])) (inside
     (c .before .before .before .before .before .before .before .before .before .before .before .before .before)) (w .kept .0) (w .ensures) in
     let v : length (take (t .result) (a .out .now) ++ (w .last .0 ++ drop (t .result + 32 - t .result) (drop (t .result) (a .out .now)))) ≡ length (a .out .now) =
     c .before .before .before .before .before .before .before .before .before .before .out .given .1 in
     let i = c .before .before .before .before .before .before .before .write-info in
-    let k : a .s .used + 128 ≤ length (take (t .result) (a .out .now) ++ (w .last .0 ++ drop (t .result + 32 - t .result) (drop (t .result) (a .out .now)))) = omega (arith, q, v) in
-    let l : length (i .last .0) ≡ 128 = i .kept .0 ∙ part-size (take (t .result) (a .out .now) ++ (w .last .0 ++ drop (t .result + 32 - t .result) (drop (t .result) (a .out .now)))) (a .s .used)
+    let k : a .state .used + 128 ≤ length (take (t .result) (a .out .now) ++ (w .last .0 ++ drop (t .result + 32 - t .result) (drop (t .result) (a .out .now)))) = omega (arith, q, v) in
+    let l : length (i .last .0) ≡ 128 = i .kept .0 ∙ part-size (take (t .result) (a .out .now) ++ (w .last .0 ++ drop (t .result + 32 - t .result) (drop (t .result) (a .out .now)))) (a .state .used)
     128 k in
-    let z = chain-laid (i .last .0 ∷ a .name .now ∷ []) (take (t .result) (a .out .now) ++ (w .last .0 ++ drop (t .result + 32 - t .result) (drop (t .result) (a .out .now)))) (a .s .used)
+    let z = chain-laid (i .last .0 ∷ a .name .now ∷ []) (take (t .result) (a .out .now) ++ (w .last .0 ++ drop (t .result + 32 - t .result) (drop (t .result) (a .out .now)))) (a .state .used)
     (c .before .before .before .copy-into .last .0) (omega (arith, two-long (i .last .0) (a .name .now), l, q, v)) (
       _,
-      a .s .used,
+      a .state .used,
       part-stored (take (t .result) (a .out .now) ++ (w .last .0 ++
-          drop (t .result + 32 - t .result) (drop (t .result) (a .out .now)))) (a .s .used) 128 (i .last .0) (i .last .0) k (i .kept .0) refl,
+          drop (t .result + 32 - t .result) (drop (t .result) (a .out .now)))) (a .state .used) 128 (i .last .0) (i .last .0) k (i .kept .0) refl,
       refl,
       (
         c .before .before .before .copy-into .last .0,
-        a .s .used + 128,
+        a .state .used + 128,
         c .before .before .before .copy-into .ensures,
-        ap (λ (m : ℕ). a .s .used + m) (sym l),
+        ap (λ (m : ℕ). a .state .used + m) (sym l),
         refl,
       ),
     ) in
-    laid-done hfi (a .s) (a .out .now) (a .b .now) (hfiTold (imageIn info (a .i .now) 0) (a .name .now)) (128 + length (a .name .now))
+    laid-done hfi (a .state) (a .out .now) (a .marked .now) (hfiTold (imageIn info (a .info .now) 0) (a .name .now)) (128 + length (a .name .now))
     (c .before .before .before .before .before .before .before .before .before .before .before .before .before .before .before .before .room-fault .result) (c .stepped .result) (hfi-size
-    (imageIn info (a .i .now) 0) (a .name .now))
+    (imageIn info (a .info .now) 0) (a .name .now))
     (c .before .before .before .before .before .before .before .before .before .before .before .before .before .before .before .before .room-fault .ensures) (c .stepped .ensures .0)
     (c .before .before .before .before .before .before .before .before .before .before .before .before .before .before .if1 .left) (c .stepped .ensures .1) (t .result) _ (take (t .result)
     (a .out .now) ++ (w .last .0 ++ drop (t .result + 32 - t .result) (drop (t .result) (a .out .now)))) (c .before .before .before .copy-into .last .0) (concat (i .last .0 ∷ a .name .now ∷ []))
-    (t .ensures .0) (hfi-record (a .b .now) (a .s .used) (imageIn info (a .i .now) 0) (a .name .now)) y (hfi-heap (a .s .used) (a .i .now) (a .name .now) (i .last .0) (i .ensures)) z
+    (t .ensures .0) (hfi-record (a .marked .now) (a .state .used) (imageIn info (a .info .now) 0) (a .name .now)) y (hfi-heap (a .state .used) (a .info .now) (a .name .now) (i .last .0) (i .ensures)) z
 
 pub lay-hfi-spec : {M : Type 1} → statement M
 lay-hfi-spec =
     tie.close
     (tie.spec
-    add-n
+    add-written
     add-room-fault
     room-fault-requires
     refused-requires

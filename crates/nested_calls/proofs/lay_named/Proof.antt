@@ -59,18 +59,18 @@ returns c =
     let s = c .before .before .before .before .before .before .before .before .before .before .before .before .before .before .before .before in
     let a = s .args in
     let p = concat (a .address .now ∷ a .service .now ∷ a .others .now ∷ a .nqn .now ∷ [] ∷ [] ∷ []) in
-    let l : a .u + length (a .address .now) + length (a .service .now) + length (a .others .now) + length (a .nqn .now) ≡ a .u + length p = omega (
+    let l : a .next + length (a .address .now) + length (a .service .now) + length (a .others .now) + length (a .nqn .now) ≡ a .next + length p = omega (
       arith,
       six-long (a .address .now)
           (a .service .now) (a .others .now) (a .nqn .now) [] [],
     ) in
-    let x : List ℕ = extendedPart (a .e .now) (a .u + length (a .address .now) + length (a .service .now) + length (a .others .now) + length (a .nqn .now)) (a .size) (a .path .now) in
-    c .before .before .lay-extended .ensures ∙ ap (λ (t : List ℕ). splice t (a .u + length (a .address .now) + length (a .service .now) + length (a .others .now) + length (a .nqn .now)) x)
-    (c .before .before .before .before .before .before .lay-pieces .ensures) ∙ ap (λ (m : ℕ). splice (splice (a .out .now) (a .u) p) m x) l ∙ splice-join (a .out .now) (a .u) p x (omega (
+    let x : List ℕ = extendedPart (a .extended .now) (a .next + length (a .address .now) + length (a .service .now) + length (a .others .now) + length (a .nqn .now)) (a .size) (a .path .now) in
+    c .before .before .lay-extended .ensures ∙ ap (λ (t : List ℕ). splice t (a .next + length (a .address .now) + length (a .service .now) + length (a .others .now) + length (a .nqn .now)) x)
+    (c .before .before .before .before .before .before .lay-pieces .ensures) ∙ ap (λ (m : ℕ). splice (splice (a .out .now) (a .next) p) m x) l ∙ splice-join (a .out .now) (a .next) p x (omega (
       arith,
       s .pre .1,
       six-long (a .address .now) (a .service .now) (a .others .now) (a .nqn .now) [] [],
-    )) ∙ ap (splice (a .out .now) (a .u)) (four-then (a .address .now) (a .service .now)
+    )) ∙ ap (splice (a .out .now) (a .next)) (four-then (a .address .now) (a .service .now)
     (a .others .now) (a .nqn .now) x)
 
 pub lay-named-spec : {M : Type 1} → statement M

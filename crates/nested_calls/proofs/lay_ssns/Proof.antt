@@ -25,24 +25,24 @@ path-short c = rw (c .kept .ensures ∙ ap (λ (n : Need). under n [] (c .before
     (c .before .before .own-need .ensures)) (c .before .before .before .before .before .before .before .before .before .before .before .pre .1 .4)
 
 -- and of all that the record names
-named : (c : tie.After-kept) → let a = c .before .before .before .before .before .before .before .before .before .before .before .args in Laid (a .b .now) (a .e .now) (a .address .now)
-    (a .service .now) (a .others .now) (a .nqn .now) (a .path .now) (a .s .used) (ssnsSlots (imageIn ssns (a .b .now) 0) (a .address .now) (a .service .now) (a .others .now) (a .nqn .now)
-    (imageIn extended (a .e .now) 0) (a .path .now)) (c .before .own-size .result) (c .kept .result .now)
+named : (c : tie.After-kept) → let a = c .before .before .before .before .before .before .before .before .before .before .before .args in Laid (a .marked .now) (a .extended .now) (a .address .now)
+    (a .service .now) (a .others .now) (a .nqn .now) (a .path .now) (a .state .used) (ssnsSlots (imageIn ssns (a .marked .now) 0) (a .address .now) (a .service .now) (a .others .now) (a .nqn .now)
+    (imageIn extended (a .extended .now) 0) (a .path .now)) (c .before .own-size .result) (c .kept .result .now)
 named c =
     let a = c .before .before .before .before .before .before .before .before .before .before .before .args in
-    ssns-laid (a .b .now) (a .e .now) (a .address .now) (a .service .now) (a .others .now) (a .nqn .now) (a .path .now) (a .s .used) (c .before .before .own-need .result)
+    ssns-laid (a .marked .now) (a .extended .now) (a .address .now) (a .service .now) (a .others .now) (a .nqn .now) (a .path .now) (a .state .used) (c .before .before .own-need .result)
     (c .before .own-size .result) (c .kept .result .now) (c .before .before .own-need .ensures) (c .before .own-size .ensures .0) (c .kept .ensures)
 
 -- where there is room
 roomy-here : (c : tie.After-place-of) → let a = c .before .before .before .before .before .before .before .before .before .before .before .before .before .before .before .args in (recordsEnd
-    (a .s) ≤ a .s .used) × (a .s .used + (length (a .address .now) + length (a .service .now) + length (a .others .now) + length (a .nqn .now) +
-    c .before .before .before .before .before .own-size .result + length (c .before .before .before .before .kept .result .now)) ≤ 65536) × (a .s .used + (length (a .address .now) + length
+    (a .state) ≤ a .state .used) × (a .state .used + (length (a .address .now) + length (a .service .now) + length (a .others .now) + length (a .nqn .now) +
+    c .before .before .before .before .before .own-size .result + length (c .before .before .before .before .kept .result .now)) ≤ 65536) × (a .state .used + (length (a .address .now) + length
     (a .service .now) + length (a .others .now) + length (a .nqn .now) + c .before .before .before .before .before .own-size .result + length
     (c .before .before .before .before .kept .result .now)) ≤ length (a .out .now))
 roomy-here c =
     let s = c .before .before .before .before .before .before .before .before .before .before .before .before .before .before .before in
     let a = s .args in
-    roomy (a .s) 4 (length (a .address .now) + length (a .service .now) + length (a .others .now) + length (a .nqn .now) + c .before .before .before .before .before .own-size .result + length
+    roomy (a .state) 4 (length (a .address .now) + length (a .service .now) + length (a .others .now) + length (a .nqn .now) + c .before .before .before .before .before .own-size .result + length
     (c .before .before .before .before .kept .result .now)) (length (a .out .now)) (c .before .before .before .room-fault .result) (s .pre .0 .0) (c .before .before .before .room-fault .ensures)
     (c .before .if1 .left)
 
@@ -70,16 +70,16 @@ add-front-2 c = omega (arith, c .before .before .before .before .before .before 
 add-front-3 : tie.Need-add-front-3
 add-front-3 c = omega (arith, c .before .before .before .before .before .before .before .before .before .before .before .pre .1)
 
-add-n : tie.Need-add-n
-add-n c = omega (arith, c .before .before .before .before .before .before .before .before .before .before .before .pre .1, c .before .own-size .ensures .1)
+add-written : tie.Need-add-written
+add-written c = omega (arith, c .before .before .before .before .before .before .before .before .before .before .before .pre .1, c .before .own-size .ensures .1)
 
-add-n-2 : tie.Need-add-n-2
-add-n-2 c = omega (arith, c .before .before .before .before .before .before .before .before .before .before .before .pre .1, c .before .own-size .ensures .1, path-short c)
+add-written-2 : tie.Need-add-written-2
+add-written-2 c = omega (arith, c .before .before .before .before .before .before .before .before .before .before .before .pre .1, c .before .own-size .ensures .1, path-short c)
 
 add-room-fault : tie.Need-add-room-fault
 add-room-fault c =
     let s = c .before .before .before .before .before .before .before .before .before .before .before in
-    let v = used-bounds (s .args .s) 4 (s .pre .0 .0) in
+    let v = used-bounds (s .args .state) 4 (s .pre .0 .0) in
     omega (arith, v, s .pre .1, c .before .own-size .ensures .1, path-short c)
 
 room-fault-requires : tie.Need-room-fault-requires
@@ -92,7 +92,7 @@ returns : tie.Need-returns
 unfolding laidSsns
 returns c =
     let a = c .before .before .before .before .before .before .before .before .before .before .before .before .before .before .before .args in
-    laid-refused ssns (a .s) (a .out .now) (a .b .now) (ssnsSlots (imageIn ssns (a .b .now) 0) (a .address .now) (a .service .now) (a .others .now) (a .nqn .now) (imageIn extended (a .e .now) 0)
+    laid-refused ssns (a .state) (a .out .now) (a .marked .now) (ssnsSlots (imageIn ssns (a .marked .now) 0) (a .address .now) (a .service .now) (a .others .now) (a .nqn .now) (imageIn extended (a .extended .now) 0)
     (a .path .now)) (length (a .address .now) + length (a .service .now) + length (a .others .now) + length (a .nqn .now) + c .before .before .before .before .before .own-size .result + length
     (c .before .before .before .before .kept .result .now)) (c .before .before .before .room-fault .result) (c .refused .result) (named (c .before .before .before .before) .0)
     (c .before .before .before .room-fault .ensures) (c .refused .ensures .0) (c .before .if1 .taken) (c .refused .ensures .1)
@@ -159,17 +159,17 @@ returns-2 c =
     let m = c .before .before .before .before .before .before .before .before .before .before .before .before .before .before .own-size .result in
     let own = c .before .before .before .before .before .before .before .before .before .before .before .before .before .kept .result .now in
     let f = named (c .before .before .before .before .before .before .before .before .before .before .before .before .before) in
-    let y = part-stored (a .out .now) (t .result) 128 (w .last .0) (recordWith ssns (a .b .now) (a .s .used) (length (a .address .now) ∷ length (a .service .now) ∷ length (a .others .now) ∷
+    let y = part-stored (a .out .now) (t .result) 128 (w .last .0) (recordWith ssns (a .marked .now) (a .state .used) (length (a .address .now) ∷ length (a .service .now) ∷ length (a .others .now) ∷
     length (a .nqn .now) ∷ m ∷ []) (length (a .address .now) ∷ length (a .service .now) ∷ length (a .others .now) ∷ length (a .nqn .now) ∷ (m + length own) ∷ [])) (inside
     (c .before .before .before .before .before .before .before .before .before)) (w .kept .0) (w .ensures) in
-    laid-done ssns (a .s) (a .out .now) (a .b .now) (ssnsSlots (imageIn ssns (a .b .now) 0) (a .address .now) (a .service .now) (a .others .now) (a .nqn .now) (imageIn extended (a .e .now) 0)
+    laid-done ssns (a .state) (a .out .now) (a .marked .now) (ssnsSlots (imageIn ssns (a .marked .now) 0) (a .address .now) (a .service .now) (a .others .now) (a .nqn .now) (imageIn extended (a .extended .now) 0)
     (a .path .now)) (length (a .address .now) + length (a .service .now) + length (a .others .now) + length (a .nqn .now) +
     c .before .before .before .before .before .before .before .before .before .before .before .before .before .before .own-size .result + length
     (c .before .before .before .before .before .before .before .before .before .before .before .before .before .kept .result .now))
     (c .before .before .before .before .before .before .before .before .before .before .before .before .room-fault .result) (c .stepped .result) (f .0)
     (c .before .before .before .before .before .before .before .before .before .before .before .before .room-fault .ensures) (c .stepped .ensures .0)
     (c .before .before .before .before .before .before .before .before .before .before .if1 .left) (c .stepped .ensures .1) (t .result) _ _ (c .before .before .before .lay-named .last .0)
-    (namedPart (a .s .used) (a .address .now) (a .service .now) (a .others .now) (a .nqn .now) m (a .e .now) own) (t .ensures .0) (f .1) y (f .2) (c .before .before .before .lay-named .ensures)
+    (namedPart (a .state .used) (a .address .now) (a .service .now) (a .others .now) (a .nqn .now) m (a .extended .now) own) (t .ensures .0) (f .1) y (f .2) (c .before .before .before .lay-named .ensures)
 
 pub lay-ssns-spec : {M : Type 1} → statement M
 lay-ssns-spec =
@@ -181,8 +181,8 @@ lay-ssns-spec =
     add-front
     add-front-2
     add-front-3
-    add-n
-    add-n-2
+    add-written
+    add-written-2
     add-room-fault
     room-fault-requires
     refused-requires

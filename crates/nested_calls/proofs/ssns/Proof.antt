@@ -15,7 +15,7 @@ use Rattle.nested_calls.proofs.ssns.Tie as tie
 
 -- what was answered, by the objects
 judged-is : (c : tie.After-judged) → c .judged .result ≡ firstFail (judgeTests (layoutOf 4)
-    (c .before .before .before .before .before .before .before .before .before .before .before .before .before .before .before .before .args .s) (imageIn (layoutOf 4)
+    (c .before .before .before .before .before .before .before .before .before .before .before .before .before .before .before .before .args .state) (imageIn (layoutOf 4)
     (c .before .before .before .before .before .before .before .mark-128 .result) 0) 0 (ssnsFault (imageIn ssns (c .before .before .before .before .before .before .before .mark-128 .result) 0)
     (c .before .before .before .before .before .before .before .before .before .before .before .before .before .before .before .before .args .address .now)
     (c .before .before .before .before .before .before .before .before .before .before .before .before .before .before .before .before .args .service .now)
@@ -23,7 +23,7 @@ judged-is : (c : tie.After-judged) → c .judged .result ≡ firstFail (judgeTes
     (c .before .before .before .before .before .before .before .before .before .before .before .before .before .before .before .before .args .nqn .now)
     (c .before .before .before .before .before .before .before .before .before .before .before .before .before .before .before .before .args .path .now)))
 judged-is c = c .judged .ensures ∙ ap (λ (f : ℕ). firstFail (judgeTests (layoutOf 4)
-    (c .before .before .before .before .before .before .before .before .before .before .before .before .before .before .before .before .args .s) (imageIn (layoutOf 4)
+    (c .before .before .before .before .before .before .before .before .before .before .before .before .before .before .before .before .args .state) (imageIn (layoutOf 4)
     (c .before .before .before .before .before .before .before .mark-128 .result) 0) 0 f)) (c .before .before .ssns-fault .ensures)
 
 cast-mark-128 : tie.Need-cast-mark-128
@@ -58,9 +58,9 @@ refused-requires c κs = search needs
 
 returns : tie.Need-returns
 returns c =
-    let t = ssns-refused (c .before .before .before .before .before .before .before .before .before .before .before .before .before .before .before .before .before .before .before .args .s)
+    let t = ssns-refused (c .before .before .before .before .before .before .before .before .before .before .before .before .before .before .before .before .before .before .before .args .state)
     (c .before .before .before .before .before .before .before .before .before .before .before .before .before .before .before .before .before .before .before .args .out .now)
-    (c .before .before .before .before .before .before .before .before .before .before .before .before .before .before .before .before .before .before .before .args .x .bytes)
+    (c .before .before .before .before .before .before .before .before .before .before .before .before .before .before .before .before .before .before .before .args .told .bytes)
     (c .before .before .before .before .before .before .before .before .before .before .mark-128 .result)
     (c .before .before .before .before .before .before .before .before .before .before .before .before .before .before .before .before .before .before .before .args .address .now)
     (c .before .before .before .before .before .before .before .before .before .before .before .before .before .before .before .before .before .before .before .args .service .now)
@@ -72,7 +72,7 @@ returns c =
     (c .before .before .before .judged .result) (c .before .before .before .before .before .before .before .before .before .before .mark-128 .ensures .0)
     (c .before .before .before .before .before .before .before .mark-18 .ensures .0) (judged-is (c .before .before .before)) (c .before .if1 .taken) in (
       step-is (c .refused .result) (c .before .before .before .judged .result)
-          (c .before .before .before .before .before .before .before .before .before .before .before .before .before .before .before .before .before .before .before .args .s) (c .refused .ensures .0)
+          (c .before .before .before .before .before .before .before .before .before .before .before .before .before .before .before .before .before .before .before .args .state) (c .refused .ensures .0)
           (c .refused .ensures .1) ∙ t .0,
       t .1,
     )
@@ -87,8 +87,8 @@ lay-ssns-requires : tie.Need-lay-ssns-requires
 unfolding ssns extended
 lay-ssns-requires c κs =
     let p = ssns-passed (c .before .before .before .before .before .before .before .before .before .before .before .before .before .before .before .before .before .before .before .before .before
-    .args .s) (c .before .before .before .before .before .before .before .before .before .before .before .before .before .before .before .before .before .before .before .before .before .args
-    .out .now) (c .before .before .before .before .before .before .before .before .before .before .before .before .before .before .before .before .before .before .before .before .before .args .x
+    .args .state) (c .before .before .before .before .before .before .before .before .before .before .before .before .before .before .before .before .before .before .before .before .before .args
+    .out .now) (c .before .before .before .before .before .before .before .before .before .before .before .before .before .before .before .before .before .before .before .before .before .args .told
     .bytes) (c .before .before .before .before .before .before .before .before .before .before .before .before .mark-128 .result)
     (c .before .before .before .before .before .before .before .before .before .before .before .before .before .before .before .before .before .before .before .before .before .args .address
     .now) (c .before .before .before .before .before .before .before .before .before .before .before .before .before .before .before .before .before .before .before .before .before .args
@@ -114,11 +114,11 @@ same-length c = search needs
 returns-2 : tie.Need-returns-2
 returns-2 c =
     let d = ssns-done (c .before .before .before .before .before .before .before .before .before .before .before .before .before .before .before .before .before .before .before .before .before
-    .before .before .before .args .s)
+    .before .before .before .args .state)
     (c .before .before .before .before .before .before .before .before .before .before .before .before .before .before .before .before .before .before .before .before .before .before .before
     .before .args .out .now)
     (c .before .before .before .before .before .before .before .before .before .before .before .before .before .before .before .before .before .before .before .before .before .before .before
-    .before .args .x .bytes) (c .before .before .before .before .before .before .before .before .before .before .before .before .before .before .before .mark-128 .result)
+    .before .args .told .bytes) (c .before .before .before .before .before .before .before .before .before .before .before .before .before .before .before .mark-128 .result)
     (c .before .before .before .before .before .before .before .before .before .before .before .before .before .before .before .before .before .before .before .before .before .before .before
     .before .args .address .now)
     (c .before .before .before .before .before .before .before .before .before .before .before .before .before .before .before .before .before .before .before .before .before .before .before
