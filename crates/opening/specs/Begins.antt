@@ -11,8 +11,8 @@ unfoldable pub headerTold : List ℕ → Slots (header .refs)
 unfolding header
 headerTold signature = bytes signature nil
 
-unfoldable pub beginWith : State → (b oem cs signature : List ℕ) → Outcome
-beginWith s b oem cs signature = begin s b oem cs (headerTold signature)
+unfoldable pub beginWith : State → (buffer oem counts signature : List ℕ) → Outcome
+beginWith s buffer oem counts signature = begin s buffer oem counts (headerTold signature)
 
 -- counts are bytes
 abbrev pub SmallCounts : Counts → Type 0

@@ -17,80 +17,80 @@ ghost use Prim.Native.Nat.{_+_, _≤_};
 ghost use lib.ListN.{length};
 ghost use Rattle.table.specs.Bytes.{splice};
 ghost use Rattle.table.specs.Meaning.{laidOut};
-ghost use Rattle.table.specs.Builder.{opened, begun, recordsEnd, sameState, empty};
+ghost use Rattle.table.specs.Builder.{opened, begun, recordsEnd, sameState, empty, Gives};
 ghost use Rattle.opening.specs.Begins.{headerTold, beginWith, SmallCounts};
 
 // Whether nothing is begun.
-fn is_empty(s: State) -> bool
-    ensures { λ r. ⌜ r ≡ sameState s empty ⌝ }
+fn is_empty(state: State) -> bool
+    ensures { λ r. ⌜ r ≡ sameState state empty ⌝ }
 {
-    if s.turn != 0 {
+    if state.turn != 0 {
         return false;
     }
-    if s.position != 0 {
+    if state.position != 0 {
         return false;
     }
-    if s.hfi != 0 {
+    if state.hfi != 0 {
         return false;
     }
-    if s.ssns != 0 {
+    if state.ssns != 0 {
         return false;
     }
-    if s.security != 0 {
+    if state.security != 0 {
         return false;
     }
-    if s.discovery != 0 {
+    if state.discovery != 0 {
         return false;
     }
-    s.used == 0
+    state.used == 0
 }
 
-// The table of which nothing but this is told; `h` is where its heap starts.
-fn lay_opened(out: &mut [u8], oem: [u8; 26], c: Counts, h: usize, signature: &[u8])
-    requires { ⌜ (h ≡ recordsEnd (begun (c .hfi ∷ c .ssns ∷ c .security ∷ c .discovery ∷ []) 0)) × (160 ≤ h) × (h + length (now signature) ≤ length (now out)) × SmallCounts c ⌝ }
-    ensures { λ r. ⌜ now (out .exit) ≡ splice (now (out .entry)) 0 (laidOut (opened oem (c .hfi ∷ c .ssns ∷ c .security ∷ c .discovery ∷ []) (headerTold (now (signature .entry)))) 0 0 0) ⌝ }
+// The table of which nothing but this is told; `heap` is where its heap starts.
+fn lay_opened(out: &mut [u8], oem: [u8; 26], counts: Counts, heap: usize, signature: &[u8])
+    requires { ⌜ (heap ≡ recordsEnd (begun (counts .hfi ∷ counts .ssns ∷ counts .security ∷ counts .discovery ∷ []) 0)) × (160 ≤ heap) × (heap + length (now signature) ≤ length (now out)) × SmallCounts counts ⌝ }
+    ensures { λ r. ⌜ now (out .exit) ≡ splice (now (out .entry)) 0 (laidOut (opened oem (counts .hfi ∷ counts .ssns ∷ counts .security ∷ counts .discovery ∷ []) (headerTold (now (signature .entry)))) 0 0 0) ⌝ }
 {
-    write_front(out, &oem, c, 0, h, 0, signature.len());
-    fill_zero(out, FRONT, h - FRONT);
-    copy_into(out, h, signature);
+    write_front(out, &oem, counts, 0, heap, 0, signature.len());
+    fill_zero(out, FRONT, heap - FRONT);
+    copy_into(out, heap, signature);
 }
 
-fn begun_state(c: Counts, used: usize) -> State
-    ensures { λ r. ⌜ (r ≡ begun (c .hfi ∷ c .ssns ∷ c .security ∷ c .discovery ∷ []) used) × SmallCounts c ⌝ }
+fn begun_state(counts: Counts, used: usize) -> State
+    ensures { λ r. ⌜ (r ≡ begun (counts .hfi ∷ counts .ssns ∷ counts .security ∷ counts .discovery ∷ []) used) × SmallCounts counts ⌝ }
 {
     State {
         turn: Host::ID as u16,
         position: 0,
-        hfi: c.hfi,
-        ssns: c.ssns,
-        security: c.security,
-        discovery: c.discovery,
+        hfi: counts.hfi,
+        ssns: counts.ssns,
+        security: counts.security,
+        discovery: counts.discovery,
         used: used,
     }
 }
 
-// `oem` is the table's bytes 10 to 35, `c` how many records each list is to have.
-pub fn begin(out: &mut [u8], s: State, oem: [u8; 26], c: Counts, signature: &[u8]) -> Step
-    ensures { λ r. ⌜ (r ≡ beginWith s (now (out .entry)) oem (c .hfi ∷ c .ssns ∷ c .security ∷ c .discovery ∷ []) (now (signature .entry)) .step) × (now (out .exit) ≡ beginWith s (now (out .entry)) oem (c .hfi ∷ c .ssns ∷ c .security ∷ c .discovery ∷ []) (now (signature .entry)) .buffer) ⌝ }
+// `oem` is the table's bytes 10 to 35, `counts` how many records each list is to have.
+pub fn begin(out: &mut [u8], state: State, oem: [u8; 26], counts: Counts, signature: &[u8]) -> Step
+    ensures { λ r. ⌜ Gives (beginWith state (now (out .entry)) oem (counts .hfi ∷ counts .ssns ∷ counts .security ∷ counts .discovery ∷ []) (now (signature .entry))) r (now (out .exit)) ⌝ }
 {
-    if !is_empty(s) {
-        return refused(table::refuse(15, 0, 0), s);
+    if !is_empty(state) {
+        return refused(table::refuse(15, 0, 0), state);
     }
     let fault = fits(Need::Optional, signature);
     if fault != 0 {
-        return refused(table::refuse(fault, 0, 0), s);
+        return refused(table::refuse(fault, 0, 0), state);
     }
     // The heap starts where the records end, whatever will be used.
-    let h = turns::records_end(begun_state(c, 0));
-    let n = h + signature.len();
-    let f = room_fault(n, out.len());
-    if f.number != 0 {
-        return refused(f, s);
+    let heap = turns::records_end(begun_state(counts, 0));
+    let used = heap + signature.len();
+    let room = room_fault(used, out.len());
+    if room.number != 0 {
+        return refused(room, state);
     }
-    lay_opened(out, oem, c, h, signature);
-    let state = begun_state(c, n);
+    lay_opened(out, oem, counts, heap, signature);
+    let begun = begun_state(counts, used);
     Step {
-        answer: f,
-        state: state,
+        answer: room,
+        state: begun,
     }
 }

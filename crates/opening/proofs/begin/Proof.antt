@@ -26,9 +26,9 @@ returns : tie.Need-returns
 returns c =
     let a = c .before .before .before .before .before .before .args in
     let b = a .out .now in
-    let t = begin-again (a .s) b (a .oem) (a .c .hfi ∷ a .c .ssns ∷ a .c .security ∷ a .c .discovery ∷ []) (a .signature .now) (sym (c .before .before .before .is-empty .ensures) ∙ not-true
+    let t = begin-again (a .state) b (a .oem) (a .counts .hfi ∷ a .counts .ssns ∷ a .counts .security ∷ a .counts .discovery ∷ []) (a .signature .now) (sym (c .before .before .before .is-empty .ensures) ∙ not-true
     (c .before .before .before .is-empty .result) (c .before .before .if1 .taken)) in (
-      step-is (c .refused .result) (c .before .refuse .result) (a .s) (c .refused .ensures .0) (c .refused .ensures .1) ∙ ap (λ (x : Answer). record { answer = x; state = a .s })
+      step-is (c .refused .result) (c .before .refuse .result) (a .state) (c .refused .ensures .0) (c .refused .ensures .1) ∙ ap (λ (x : Answer). record { answer = x; state = a .state })
           (c .before .refuse .ensures) ∙ t .0,
       t .1,
     )
@@ -45,10 +45,10 @@ refused-requires-2 c κs = search needs
 returns-2 : tie.Need-returns-2
 returns-2 c =
     let a = c .before .before .before .before .before .before .before .before .args in
-    let t = begin-faulty (a .s) (a .out .now) (a .oem) (a .c .hfi ∷ a .c .ssns ∷ a .c .security ∷ a .c .discovery ∷ []) (a .signature .now) (sym
+    let t = begin-faulty (a .state) (a .out .now) (a .oem) (a .counts .hfi ∷ a .counts .ssns ∷ a .counts .security ∷ a .counts .discovery ∷ []) (a .signature .now) (sym
     (c .before .before .before .before .before .is-empty .ensures) ∙ not-false (c .before .before .before .before .before .is-empty .result) (c .before .before .before .before .if1 .left))
     (c .before .before .before .fits2 .result) (c .before .before .before .fits2 .ensures) (c .before .before .if2 .taken) in (
-      step-is (c .refused2 .result) (c .before .refuse2 .result) (a .s) (c .refused2 .ensures .0) (c .refused2 .ensures .1) ∙ ap (λ (x : Answer). record { answer = x; state = a .s })
+      step-is (c .refused2 .result) (c .before .refuse2 .result) (a .state) (c .refused2 .ensures .0) (c .refused2 .ensures .1) ∙ ap (λ (x : Answer). record { answer = x; state = a .state })
           (c .before .refuse2 .ensures) ∙ t .0,
       t .1,
     )
@@ -59,8 +59,8 @@ begun-state-requires c κs = search needs
 records-end-requires : tie.Need-records-end-requires
 records-end-requires c κs = search needs
 
-add-n : tie.Need-add-n
-add-n c = search needs
+add-used : tie.Need-add-used
+add-used c = search needs
 
 room-fault-requires : tie.Need-room-fault-requires
 room-fault-requires c κs = search needs
@@ -72,14 +72,14 @@ returns-3 : tie.Need-returns-3
 returns-3 c =
     let a = c .before .before .before .before .before .before .before .before .before .before .before .before .args in
     let he = c .before .before .before .before .records-end .ensures .0 ∙ ap recordsEnd (c .before .before .before .before .before .begun-state .ensures .0) in
-    let n = opened-length (a .oem) (a .c) (c .before .before .before .before .before .begun-state .ensures .1) (a .signature .now) (c .before .before .before .before .records-end .result) he in
-    let t = begin-refused (a .s) (a .out .now) (a .oem) (a .c .hfi ∷ a .c .ssns ∷ a .c .security ∷ a .c .discovery ∷ []) (a .signature .now) (sym
+    let n = opened-length (a .oem) (a .counts) (c .before .before .before .before .before .begun-state .ensures .1) (a .signature .now) (c .before .before .before .before .records-end .result) he in
+    let t = begin-refused (a .state) (a .out .now) (a .oem) (a .counts .hfi ∷ a .counts .ssns ∷ a .counts .security ∷ a .counts .discovery ∷ []) (a .signature .now) (sym
     (c .before .before .before .before .before .before .before .before .before .is-empty .ensures) ∙ not-false
     (c .before .before .before .before .before .before .before .before .before .is-empty .result) (c .before .before .before .before .before .before .before .before .if1 .left)) (sym
     (c .before .before .before .before .before .before .before .fits2 .ensures) ∙ c .before .before .before .before .before .before .if2 .left)
     (c .before .before .before .before .records-end .result + length (a .signature .now)) n (c .before .before .before .room-fault .result) (c .before .before .before .room-fault .ensures)
     (c .before .if3 .taken) in
-    (step-is (c .refused3 .result) (c .before .before .before .room-fault .result) (a .s) (c .refused3 .ensures .0) (c .refused3 .ensures .1) ∙ t .0, t .1)
+    (step-is (c .refused3 .result) (c .before .before .before .room-fault .result) (a .state) (c .refused3 .ensures .0) (c .refused3 .ensures .1) ∙ t .0, t .1)
 
 lay-opened-requires : tie.Need-lay-opened-requires
 lay-opened-requires c κs =
@@ -101,9 +101,9 @@ returns-4 c =
     let a = c .before .before .before .before .before .before .before .before .before .before .before .before .before .before .before .before .args in
     let he = c .before .before .before .before .before .before .before .before .records-end .ensures .0 ∙ ap recordsEnd
     (c .before .before .before .before .before .before .before .before .before .begun-state .ensures .0) in
-    let n = opened-length (a .oem) (a .c) (c .before .before .before .before .before .before .before .before .before .begun-state .ensures .1) (a .signature .now)
+    let n = opened-length (a .oem) (a .counts) (c .before .before .before .before .before .before .before .before .before .begun-state .ensures .1) (a .signature .now)
     (c .before .before .before .before .before .before .before .before .records-end .result) he in
-    let t = begin-done (a .s) (a .out .now) (a .oem) (a .c .hfi ∷ a .c .ssns ∷ a .c .security ∷ a .c .discovery ∷ []) (a .signature .now) (sym
+    let t = begin-done (a .state) (a .out .now) (a .oem) (a .counts .hfi ∷ a .counts .ssns ∷ a .counts .security ∷ a .counts .discovery ∷ []) (a .signature .now) (sym
     (c .before .before .before .before .before .before .before .before .before .before .before .before .before .is-empty .ensures) ∙ not-false
     (c .before .before .before .before .before .before .before .before .before .before .before .before .before .is-empty .result)
     (c .before .before .before .before .before .before .before .before .before .before .before .before .if1 .left)) (sym
@@ -129,7 +129,7 @@ begin-spec =
     returns-2
     begun-state-requires
     records-end-requires
-    add-n
+    add-used
     room-fault-requires
     refused-requires-3
     returns-3
