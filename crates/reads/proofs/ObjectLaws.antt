@@ -69,28 +69,23 @@ plain-fits k q h = plain-in (baseOf (layoutOf k)) q (layoutOf k .refs) (kinds-or
 
 -- ---- whether a reference counts
 
-pub only-one : (c : Bool) → pick c true false ≡ true → Optional ≡ pick c Optional Ignored
-only-one true e = refl
-only-one false e = absurd (subst T (sym e) tt)
-
 no-plain : (k q : ℕ) (img : List ℕ) → (layoutOf k .refs ≡ none) → hasPlain q (layoutOf k .refs) ≡ true → plainNeed k q ≡ needAt q (layoutOf k .refs) img
 no-plain k q img e h = absurd (none-plain q none tt (sym (ap (hasPlain q) e) ∙ h))
 
-pub plain-need : (q : ℕ) (img : List ℕ) (k : ℕ) → (k ≡ 4 → ⊥) → (k ≡ 5 → ⊥) → (k ≡ 7 → ⊥) → (k ≡ 9 → ⊥) → hasPlain q (layoutOf k .refs) ≡ true
-    → plainNeed k q ≡ needAt q (layoutOf k .refs) img
-unfolding layoutOf plainNeed header control host hfi discovery noKind
+pub plain-need : (q : ℕ) (img : List ℕ) (k : ℕ) → (k ≡ 4 → ⊥) → (k ≡ 5 → ⊥) → hasPlain q (layoutOf k .refs) ≡ true → plainNeed k q ≡ needAt q (layoutOf k .refs) img
+unfolding layoutOf plainNeed header control host hfi discovery info extended noKind
 plain-need q img =
-    by-kind (λ k. (k ≡ 4 → ⊥) → (k ≡ 5 → ⊥) → (k ≡ 7 → ⊥) → (k ≡ 9 → ⊥) → hasPlain q (layoutOf k .refs) ≡ true → plainNeed k q ≡ needAt q (layoutOf k .refs) img)
-    (λ a b c d h. refl)
-    (λ a b c d h. refl)
-    (λ a b c d h. refl)
-    (λ a b c d h. absurd (none-plain q (hfi .refs) tt h))
-    (λ a b c d h. absurd (a refl))
-    (λ a b c d h. absurd (b refl))
-    (λ a b c d h. refl)
-    (λ a b c d h. absurd (c refl))
-    (λ a b c d h. absurd (d refl))
-    (λ k o a b c d h. no-plain k q img (ap (λ (l : Layout). l .refs) (other-layout k o)) h)
+    by-kind (λ k. (k ≡ 4 → ⊥) → (k ≡ 5 → ⊥) → hasPlain q (layoutOf k .refs) ≡ true → plainNeed k q ≡ needAt q (layoutOf k .refs) img)
+    (λ a b h. refl)
+    (λ a b h. refl)
+    (λ a b h. refl)
+    (λ a b h. absurd (none-plain q (hfi .refs) tt h))
+    (λ a b h. absurd (a refl))
+    (λ a b h. absurd (b refl))
+    (λ a b h. refl)
+    (λ a b h. refl)
+    (λ a b h. refl)
+    (λ k o a b h. no-plain k q img (ap (λ (l : Layout). l .refs) (other-layout k o)) h)
 
 -- ---- an object is a part of the table
 

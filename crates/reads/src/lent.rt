@@ -43,15 +43,15 @@ pub fn heap_part(t: &[u8], at: usize, len: usize) -> &[u8]
     part_of(heap, at - region.at, len)
 }
 
-// The bytes of the record of a kind at `a`: a heap record is a part of the heap, any other a part of the table.
-pub fn record_at(t: &[u8], kind: u8, a: usize) -> &[u8]
-    requires { ⌜ Accepted (now t) × Standing (now t) (layoutOf kind) a ⌝ }
-    ensures { λ r. ⌜ now r ≡ part (now (t .entry)) a (baseOf (layoutOf kind)) ⌝ }
+// The bytes of the record of a kind at a place: a heap record is a part of the heap, any other a part of the table.
+pub fn record_at(t: &[u8], kind: u8, at: usize) -> &[u8]
+    requires { ⌜ Accepted (now t) × Standing (now t) (layoutOf kind) at ⌝ }
+    ensures { λ r. ⌜ now r ≡ part (now (t .entry)) at (baseOf (layoutOf kind)) ⌝ }
 {
-    let n = kinds::base_size(kind);
+    let size = kinds::base_size(kind);
     match kind {
-        Info::ID => heap_part(t, a, n),
-        Extended::ID => heap_part(t, a, n),
-        _ => part_of(t, a, n),
+        Info::ID => heap_part(t, at, size),
+        Extended::ID => heap_part(t, at, size),
+        _ => part_of(t, at, size),
     }
 }

@@ -1,7 +1,5 @@
 // The object of a reference of a record, by the record's own bytes: where it stands.
 use table::Answer;
-use table::Extended;
-use table::Info;
 use table::Need;
 use table::Place;
 use table::Security;
@@ -18,23 +16,23 @@ ghost use Rattle.table.specs.Reads.{seat, hasPlain, needAt, noPlace, refPlace, 
 ghost use Rattle.laws.specs.Fields.{imageIn};
 
 // None, with the answer that says why.
-pub fn no_place(a: Answer) -> Place
-    ensures { λ r. ⌜ r ≡ noPlace a ⌝ }
+pub fn no_place(answer: Answer) -> Place
+    ensures { λ r. ⌜ r ≡ noPlace answer ⌝ }
 {
     Place {
-        answer: a,
+        answer: answer,
         present: false,
         at: 0,
         len: 0,
     }
 }
 
-// What the reference at `r` of a record names; `x` are the record's bytes.
-fn ref_place(x: &[u8], r: usize) -> Place
-    requires { ⌜ r + 6 ≤ length (now x) ⌝ }
-    ensures { λ p. ⌜ p ≡ refPlace (now (x .entry)) r ⌝ }
+// What a reference of the record with these bytes names.
+fn ref_place(bytes: &[u8], offset: usize) -> Place
+    requires { ⌜ offset + 6 ≤ length (now bytes) ⌝ }
+    ensures { λ r. ⌜ r ≡ refPlace (now (bytes .entry)) offset ⌝ }
 {
-    let named = wire::reference_at(x, r);
+    let named = wire::reference_at(bytes, offset);
     let answer = table::done();
     let at = named.at;
     let len = named.len;
@@ -49,38 +47,36 @@ fn ref_place(x: &[u8], r: usize) -> Place
     }
 }
 
-fn named_place(x: &[u8], r: usize, need: Need) -> Place
-    requires { ⌜ r + 6 ≤ length (now x) ⌝ }
-    ensures { λ p. ⌜ p ≡ under need (noPlace answers.done) (refPlace (now (x .entry)) r) ⌝ }
+fn named_place(bytes: &[u8], offset: usize, need: Need) -> Place
+    requires { ⌜ offset + 6 ≤ length (now bytes) ⌝ }
+    ensures { λ r. ⌜ r ≡ under need (noPlace answers.done) (refPlace (now (bytes .entry)) offset) ⌝ }
 {
     match need {
         Need::Ignored => no_place(table::done()),
-        Need::Optional => ref_place(x, r),
-        Need::Required => ref_place(x, r),
+        Need::Optional => ref_place(bytes, offset),
+        Need::Required => ref_place(bytes, offset),
     }
 }
 
-// Whether the reference at `off` of the record of a kind counts.
-fn object_need(x: &[u8], kind: u8, off: usize) -> Need
-    requires { ⌜ (baseOf (layoutOf kind) ≤ length (now x)) × (hasPlain off (layoutOf kind .refs) ≡ true) ⌝ }
-    ensures { λ r. ⌜ r ≡ needAt off (layoutOf kind .refs) (imageIn (layoutOf kind) (now (x .entry)) 0) ⌝ }
+// Whether a reference of the record of a kind counts.
+fn object_need(bytes: &[u8], kind: u8, offset: usize) -> Need
+    requires { ⌜ (baseOf (layoutOf kind) ≤ length (now bytes)) × (hasPlain offset (layoutOf kind .refs) ≡ true) ⌝ }
+    ensures { λ r. ⌜ r ≡ needAt offset (layoutOf kind .refs) (imageIn (layoutOf kind) (now (bytes .entry)) 0) ⌝ }
 {
     match kind {
-        Ssns::ID => needs::ssns_need(flags::ssns_flags(x, 0), off),
-        Security::ID => needs::security_need(x, 0, off),
-        Info::ID => Need::Optional,
-        Extended::ID => Need::Optional,
-        _ => needs::plain_need(kind, off),
+        Ssns::ID => needs::ssns_need(flags::ssns_flags(bytes, 0), offset),
+        Security::ID => needs::security_need(bytes, 0, offset),
+        _ => needs::plain_need(kind, offset),
     }
 }
 
 // Where the object of that reference stands. An unused record has none.
-pub fn object_of(x: &[u8], kind: u8, used: bool, off: usize) -> Place
-    requires { ⌜ (baseOf (layoutOf kind) ≤ length (now x)) × (hasPlain off (layoutOf kind .refs) ≡ true) ⌝ }
-    ensures { λ r. ⌜ r ≡ placeAt (now (x .entry)) off (seat (layoutOf kind) 0 used) ⌝ }
+pub fn object_of(bytes: &[u8], kind: u8, used: bool, offset: usize) -> Place
+    requires { ⌜ (baseOf (layoutOf kind) ≤ length (now bytes)) × (hasPlain offset (layoutOf kind .refs) ≡ true) ⌝ }
+    ensures { λ r. ⌜ r ≡ placeAt (now (bytes .entry)) offset (seat (layoutOf kind) 0 used) ⌝ }
 {
     if used {
-        return named_place(x, off, object_need(x, kind, off));
+        return named_place(bytes, offset, object_need(bytes, kind, offset));
     }
     no_place(table::done())
 }

@@ -27,43 +27,43 @@ pub enum Seat {
     At { at: usize, used: bool },
 }
 
-// Whether the record of a kind whose bytes are `x` is used.
-fn is_used(x: &[u8], kind: u8) -> bool
-    requires { ⌜ (2 ≤ kind) × (kind ≤ 6) × (baseOf (layoutOf kind) ≤ length (now x)) ⌝ }
-    ensures { λ r. ⌜ r ≡ isValid (layoutOf kind .shape) (imageIn (layoutOf kind) (now (x .entry)) 0) ⌝ }
+// Whether the record of a kind with these bytes is used.
+fn is_used(bytes: &[u8], kind: u8) -> bool
+    requires { ⌜ (2 ≤ kind) × (kind ≤ 6) × (baseOf (layoutOf kind) ≤ length (now bytes)) ⌝ }
+    ensures { λ r. ⌜ r ≡ isValid (layoutOf kind .shape) (imageIn (layoutOf kind) (now (bytes .entry)) 0) ⌝ }
 {
     let flags = kinds::flags_at(kind);
-    x[flags] % 2 == 1
+    bytes[flags] % 2 == 1
 }
 
-// Position `n` of the list whose entry in the control record stands at `c`. Its records may be longer than their kind.
-fn list_seat(t: &[u8], kind: u8, c: usize, n: usize) -> Seat
-    requires { ⌜ (2 ≤ kind) × (kind ≤ 6) × (c + 8 ≤ length (now t)) × ListIn (now t) c (baseOf (layoutOf kind)) ⌝ }
-    ensures { λ r. ⌜ (asSeat (layoutOf kind) r ≡ listSeat (layoutOf kind) (now (t .entry)) c n) × InTable (now (t .entry)) (baseOf (layoutOf kind)) r ⌝ }
+// A position of the list whose entry in the control record stands at `list`. Its records may be longer than their kind.
+fn list_seat(t: &[u8], kind: u8, list: usize, position: usize) -> Seat
+    requires { ⌜ (2 ≤ kind) × (kind ≤ 6) × (list + 8 ≤ length (now t)) × ListIn (now t) list (baseOf (layoutOf kind)) ⌝ }
+    ensures { λ r. ⌜ (asSeat (layoutOf kind) r ≡ listSeat (layoutOf kind) (now (t .entry)) list position) × InTable (now (t .entry)) (baseOf (layoutOf kind)) r ⌝ }
 {
-    if n == 0 {
+    if position == 0 {
         return Seat::Nowhere;
     }
-    if wire::wide(t[c + 7]) < n {
+    if wire::wide(t[list + 7]) < position {
         return Seat::Nowhere;
     }
-    let i = n - 1;
+    let index = position - 1;
     let base = kinds::base_size(kind);
-    let step = wire::u16_at(t, c + 4);
-    let d = i * step;
-    let at = wire::u32_at(t, c) + d;
+    let step = wire::u16_at(t, list + 4);
+    let distance = index * step;
+    let at = wire::u32_at(t, list) + distance;
     let used = is_used(part_of(t, at, base), kind);
     Seat::At { at: at, used: used }
 }
 
-// The heap record that the reference at `p` of a record names, if it names one; `x` are the record's bytes.
-fn heap_seat(x: &[u8], p: usize) -> Seat
-    requires { ⌜ p + 6 ≤ length (now x) ⌝ }
-    ensures { λ s. ⌜ s ≡ heapAt (now (x .entry)) p ⌝ }
+// The heap record that a reference of the record with these bytes names, if it names one.
+fn heap_seat(bytes: &[u8], offset: usize) -> Seat
+    requires { ⌜ offset + 6 ≤ length (now bytes) ⌝ }
+    ensures { λ r. ⌜ r ≡ heapAt (now (bytes .entry)) offset ⌝ }
 {
-    let r = wire::reference_at(x, p);
-    let at = r.at;
-    let len = r.len;
+    let named = wire::reference_at(bytes, offset);
+    let at = named.at;
+    let len = named.len;
     if len == 0 {
         return Seat::Nowhere;
     }
@@ -71,34 +71,34 @@ fn heap_seat(x: &[u8], p: usize) -> Seat
 }
 
 // The extended info of an SSNS: flag 4 says whether there is one.
-fn extended_seat(x: &[u8]) -> Seat
-    requires { ⌜ 128 ≤ length (now x) ⌝ }
-    ensures { λ r. ⌜ r ≡ extendedAt (now (x .entry)) 0 ⌝ }
+fn extended_seat(bytes: &[u8]) -> Seat
+    requires { ⌜ 128 ≤ length (now bytes) ⌝ }
+    ensures { λ r. ⌜ r ≡ extendedAt (now (bytes .entry)) 0 ⌝ }
 {
-    if ssns_flags(x, 0) / 16 % 2 == 0 {
+    if ssns_flags(bytes, 0) / 16 % 2 == 0 {
         return Seat::Nowhere;
     }
-    heap_seat(x, 60)
+    heap_seat(bytes, 60)
 }
 
-// The heap record of the record of a kind whose bytes are `x`.
-fn inner_seat(x: &[u8], kind: u8) -> Seat
-    requires { ⌜ baseOf (layoutOf kind) ≤ length (now x) ⌝ }
-    ensures { λ r. ⌜ r ≡ heapRecord (now (x .entry)) kind 0 ⌝ }
+// The heap record of the record of a kind with these bytes.
+fn inner_seat(bytes: &[u8], kind: u8) -> Seat
+    requires { ⌜ baseOf (layoutOf kind) ≤ length (now bytes) ⌝ }
+    ensures { λ r. ⌜ r ≡ heapRecord (now (bytes .entry)) kind 0 ⌝ }
 {
     match kind {
-        Hfi::ID => heap_seat(x, 16),
-        Ssns::ID => extended_seat(x),
+        Hfi::ID => heap_seat(bytes, 16),
+        Ssns::ID => extended_seat(bytes),
         _ => Seat::Nowhere,
     }
 }
 
-// The same of the record at `a`, which is used. It is the seat that the definitions have: `heap-record-is` and `heap-record-of` in proofs/Laws.antt.
-pub fn heap_record(t: &[u8], kind: u8, a: usize) -> Seat
-    requires { ⌜ a + baseOf (layoutOf kind) ≤ length (now t) ⌝ }
-    ensures { λ r. ⌜ r ≡ heapRecord (now (t .entry)) kind a ⌝ }
+// The same of the record at a place, which is used. It is the seat that the definitions have: `heap-record-is` and `heap-record-of` in proofs/Laws.antt.
+pub fn heap_record(t: &[u8], kind: u8, at: usize) -> Seat
+    requires { ⌜ at + baseOf (layoutOf kind) ≤ length (now t) ⌝ }
+    ensures { λ r. ⌜ r ≡ heapRecord (now (t .entry)) kind at ⌝ }
 {
-    inner_seat(part_of(t, a, kinds::base_size(kind)), kind)
+    inner_seat(part_of(t, at, kinds::base_size(kind)), kind)
 }
 
 // The heap record of an owner of a kind.
@@ -116,30 +116,38 @@ fn owned_seat(t: &[u8], kind: u8, owner: Seat) -> Seat
     }
 }
 
-fn single_seat(n: usize, at: usize) -> Seat
-    ensures { λ r. ⌜ r ≡ singleAt n at ⌝ }
+fn single_seat(position: usize, at: usize) -> Seat
+    ensures { λ r. ⌜ r ≡ singleAt position at ⌝ }
 {
-    if n != 0 {
+    if position != 0 {
         return Seat::Nowhere;
     }
     Seat::At { at: at, used: true }
 }
 
 // Where the record of a kind and position stands.
-pub fn seat_of(t: &[u8], kind: u8, n: usize) -> Seat
+pub fn seat_of(t: &[u8], kind: u8, position: usize) -> Seat
     requires { ⌜ Accepted (now t) ⌝ }
-    ensures { λ r. ⌜ asSeat (layoutOf kind) r ≡ seatOf (now (t .entry)) kind n ⌝ }
+    ensures { λ r. ⌜ asSeat (layoutOf kind) r ≡ seatOf (now (t .entry)) kind position ⌝ }
 {
     match kind {
-        Header::ID => single_seat(n, 0),
-        Control::ID => single_seat(n, 0),
-        Host::ID => single_seat(n, wire::reference_at(t, Control::HOST).at),
-        Hfi::ID => list_seat(t, Hfi::ID, Control::HFI_LIST, n),
-        Ssns::ID => list_seat(t, Ssns::ID, Control::SSNS_LIST, n),
-        Security::ID => list_seat(t, Security::ID, Control::SECURITY_LIST, n),
-        Discovery::ID => list_seat(t, Discovery::ID, Control::DISCOVERY_LIST, n),
-        Info::ID => owned_seat(t, Hfi::ID, list_seat(t, Hfi::ID, Control::HFI_LIST, n)),
-        Extended::ID => owned_seat(t, Ssns::ID, list_seat(t, Ssns::ID, Control::SSNS_LIST, n)),
+        Header::ID => single_seat(position, 0),
+        Control::ID => single_seat(position, 0),
+        Host::ID => single_seat(position, wire::reference_at(t, Control::HOST).at),
+        Hfi::ID => list_seat(t, Hfi::ID, Control::HFI_LIST, position),
+        Ssns::ID => list_seat(t, Ssns::ID, Control::SSNS_LIST, position),
+        Security::ID => list_seat(t, Security::ID, Control::SECURITY_LIST, position),
+        Discovery::ID => list_seat(t, Discovery::ID, Control::DISCOVERY_LIST, position),
+        Info::ID => owned_seat(
+            t,
+            Hfi::ID,
+            list_seat(t, Hfi::ID, Control::HFI_LIST, position),
+        ),
+        Extended::ID => owned_seat(
+            t,
+            Ssns::ID,
+            list_seat(t, Ssns::ID, Control::SSNS_LIST, position),
+        ),
         _ => Seat::Nowhere,
     }
 }

@@ -20,13 +20,13 @@ part-of-requires : tie.Need-part-of-requires
 part-of-requires c κs = search needs
 
 returns : tie.Need-returns
-returns c = let a = c .before .before .before .before .args in c .heap-part .ensures .0 ∙ ap (part (a .t .now) (a .a)) (c .before .before .base-size .ensures)
+returns c = let a = c .before .before .before .before .args in c .heap-part .ensures .0 ∙ ap (part (a .t .now) (a .at)) (c .before .before .base-size .ensures)
 
 returns-2 : tie.Need-returns-2
-returns-2 c = let a = c .before .before .before .before .args in c .heap-part2 .ensures .0 ∙ ap (part (a .t .now) (a .a)) (c .before .before .base-size .ensures)
+returns-2 c = let a = c .before .before .before .before .args in c .heap-part2 .ensures .0 ∙ ap (part (a .t .now) (a .at)) (c .before .before .base-size .ensures)
 
 returns-3 : tie.Need-returns-3
-returns-3 c = let a = c .before .before .before .before .args in c .part-of .ensures .0 ∙ ap (part (a .t .now) (a .a)) (c .before .before .base-size .ensures)
+returns-3 c = let a = c .before .before .before .before .args in c .part-of .ensures .0 ∙ ap (part (a .t .now) (a .at)) (c .before .before .base-size .ensures)
 
 pub record-at-spec : {M : Type 1} → statement M
 record-at-spec =

@@ -1,9 +1,8 @@
-use lib.Dec.{eqb}
 use Rattle.needs.specs.Needs.{ssnsNeed}
-use Rattle.reads.proofs.ObjectLaws.{only-one, plain-need}
+use Rattle.reads.proofs.ObjectLaws.{plain-need}
 use Rattle.needs.proofs.Laws.{ssns-need}
 use Rattle.laws.specs.Fields.{imageIn}
-use Rattle.table.specs.FixedLayouts.{layoutOf, ssns, security, info, extended}
+use Rattle.table.specs.FixedLayouts.{layoutOf, ssns, security}
 use native.Mathlib.Omega.{arith}
 use Prim.Native.Nat.{ℕ}
 use mathlib.Core.Path.{ap, _∙_}
@@ -27,24 +26,16 @@ plain-need-requires c κs = search needs
 
 returns : tie.Need-returns
 unfolding layoutOf
-returns c = rw (c .before .before .match .keys1) (c .ssns-need .ensures ∙ ap (λ (f : ℕ). ssnsNeed f (c .before .before .before .before .args .off)) (c .before .ssns-flags .ensures)
-    ∙ ssns-need (imageIn ssns (c .before .before .before .before .args .x .now) 0) (c .before .before .before .before .args .off))
+returns c = rw (c .before .before .match .keys1) (c .ssns-need .ensures ∙ ap (λ (f : ℕ). ssnsNeed f (c .before .before .before .before .args .offset)) (c .before .ssns-flags .ensures)
+    ∙ ssns-need (imageIn ssns (c .before .before .before .before .args .bytes .now) 0) (c .before .before .before .before .args .offset))
 
 returns-2 : tie.Need-returns-2
 unfolding layoutOf
 returns-2 c = rw (c .before .match .keys2) (c .security-need .ensures)
 
 returns-3 : tie.Need-returns-3
-unfolding layoutOf info
-returns-3 c = rw (c .match .keys3) (only-one (eqb (c .before .before .args .off) 104) (rw (c .match .keys3) at (c .before .before .pre .1)))
-
-returns-4 : tie.Need-returns-4
-unfolding layoutOf extended
-returns-4 c = rw (c .match .keys4) (only-one (eqb (c .before .before .args .off) 12) (rw (c .match .keys4) at (c .before .before .pre .1)))
-
-returns-5 : tie.Need-returns-5
-returns-5 c = let a = c .before .before .before .args in let m = c .before .match .rest in
-    c .plain-need .ensures ∙ plain-need (a .off) (imageIn (layoutOf (a .kind)) (a .x .now) 0) (a .kind) (m .0 .0 .0 .1) (m .0 .0 .1) (m .0 .1) (m .1) (c .before .before .before .pre .1)
+returns-3 c = let a = c .before .before .before .args in let m = c .before .match .rest in
+    c .plain-need .ensures ∙ plain-need (a .offset) (imageIn (layoutOf (a .kind)) (a .bytes .now) 0) (a .kind) (m .0 .1) (m .1) (c .before .before .before .pre .1)
 
 pub object-need-spec : {M : Type 1} → statement M
 object-need-spec =
@@ -56,6 +47,4 @@ object-need-spec =
     plain-need-requires
     returns
     returns-2
-    returns-3
-    returns-4
-    returns-5)
+    returns-3)

@@ -16,11 +16,11 @@ object-need-requires : tie.Need-object-need-requires
 object-need-requires c κs = search needs
 
 named-place-requires : tie.Need-named-place-requires
-named-place-requires c κs = let a = c .before .before .before .args in omega (arith, plain-fits (a .kind) (a .off) (c .before .before .before .pre .1), c .before .before .before .pre .0)
+named-place-requires c κs = let a = c .before .before .before .args in omega (arith, plain-fits (a .kind) (a .offset) (c .before .before .before .pre .1), c .before .before .before .pre .0)
 
 returns : tie.Need-returns
 unfolding imageIn
-returns c = let s = c .before .before .before .before in let x = s .args .x .now in let off = s .args .off in
+returns c = let s = c .before .before .before .before in let x = s .args .bytes .now in let off = s .args .offset in
     rw (s .pre .1, c .before .before .if1 .taken)
     (c .named-place .ensures
     ∙ ap₂ (λ (n : Need) (i : ℕ). under n (noPlace done) (refPlace x i)) (c .before .object-need .ensures) (sym (zero-add off)))

@@ -18,14 +18,14 @@ part-of-requires : tie.Need-part-of-requires
 part-of-requires c κs = search needs
 
 inner-seat-requires : tie.Need-inner-seat-requires
-inner-seat-requires c κs = let s = c .before .before .before in let n = c .before .base-size in let l = part-long (s .args .t .now) (s .args .a) (n .result) (omega (arith, n .ensures, s .pre)) in
+inner-seat-requires c κs = let s = c .before .before .before in let n = c .before .base-size in let l = part-long (s .args .t .now) (s .args .at) (n .result) (omega (arith, n .ensures, s .pre)) in
     omega (arith, ap length (c .part-of .ensures .0), l, n .ensures)
 
 returns : tie.Need-returns
 returns c = let a = c .before .before .before .before .args in
     c .inner-seat .ensures
-    ∙ ap (λ (x : List ℕ). heapRecord x (a .kind) 0) (c .before .part-of .ensures .0 ∙ ap (part (a .t .now) (a .a)) (c .before .before .base-size .ensures))
-    ∙ heap-record-own (a .t .now) (a .a) (a .kind)
+    ∙ ap (λ (x : List ℕ). heapRecord x (a .kind) 0) (c .before .part-of .ensures .0 ∙ ap (part (a .t .now) (a .at)) (c .before .before .base-size .ensures))
+    ∙ heap-record-own (a .t .now) (a .at) (a .kind)
 
 pub heap-record-spec : {M : Type 1} → statement M
 heap-record-spec =

@@ -18,7 +18,7 @@ shared-slice-read-result : tie.Need-shared-slice-read-result
 shared-slice-read-result c = let s = c .before .before .before in omega (arith, c .before .flags-at .ensures, flag-within (s .args .kind) (s .pre .0) (s .pre .1), s .pre .2)
 
 returns : tie.Need-returns
-returns c = let s = c .before .before .before in let x = s .args .x .now in let l = layoutOf (s .args .kind) in
+returns c = let s = c .before .before .before in let x = s .args .bytes .now in let l = layoutOf (s .args .kind) in
     rw (c .before .flags-at .ensures) (sym (flag-is l x 0 (flags-stand (s .args .kind) (s .pre .0) (s .pre .1)) ∙ ap (λ (i : ℕ). odd (getD x i 0)) (zero-add (l .shape .flags .at))))
 
 pub is-used-spec : {M : Type 1} → statement M

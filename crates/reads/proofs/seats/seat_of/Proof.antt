@@ -57,16 +57,16 @@ owned-seat-requires-2 c κs = c .list-seat6 .ensures .1
 
 returns : tie.Need-returns
 unfolding seatOf layoutOf
-returns c = rw (c .before .match .keys1, c .single-seat .ensures) (single-is header (c .before .before .before .args .n) 0)
+returns c = rw (c .before .match .keys1, c .single-seat .ensures) (single-is header (c .before .before .before .args .position) 0)
 
 returns-2 : tie.Need-returns-2
 unfolding seatOf layoutOf
-returns-2 c = rw (c .before .match .keys2, c .single-seat2 .ensures) (single-is control (c .before .before .before .args .n) 0)
+returns-2 c = rw (c .before .match .keys2, c .single-seat2 .ensures) (single-is control (c .before .before .before .args .position) 0)
 
 returns-3 : tie.Need-returns-3
 unfolding seatOf layoutOf
 returns-3 c = rw (c .before .before .match .keys3, c .single-seat3 .ensures, ← ap (λ (r : Region). r .at) (c .before .reference-at .ensures .0)) (single-is host
-    (c .before .before .before .before .args .n) (c .before .reference-at .result .at))
+    (c .before .before .before .before .args .position) (c .before .reference-at .result .at))
 
 returns-4 : tie.Need-returns-4
 unfolding seatOf layoutOf
