@@ -14,17 +14,17 @@ ghost use lib.ListN.{length, take};
 ghost use lib.Dec.{eqb};
 ghost use Rattle.table.specs.Bytes.{pick};
 ghost use Rattle.table.specs.Numbers.{check};
-ghost use Rattle.table.specs.Builder.{waits, finishing, sealed};
+ghost use Rattle.table.specs.Builder.{waits, finishing, sealed, Gives};
 ghost use Rattle.table.specs.Builder as definition;
 
 // What the reader says of the finished bytes; they stay only where it accepts them.
-fn judge_finished(out: &mut [u8], s: State) -> Answer
-    requires { ⌜ (waits s finishing ≡ true) × (s .used ≤ length (now out)) ⌝ }
-    ensures { λ r. ⌜ (r ≡ check (take (s .used) (sealed s (now (out .entry))))) × (now (out .exit) ≡ pick (eqb (r .number) 0) (sealed s (now (out .entry))) (now (out .entry))) ⌝ }
+fn judge_finished(out: &mut [u8], state: State) -> Answer
+    requires { ⌜ (waits state finishing ≡ true) × (state .used ≤ length (now out)) ⌝ }
+    ensures { λ r. ⌜ (r ≡ check (take (state .used) (sealed state (now (out .entry))))) × (now (out .exit) ≡ pick (eqb (r .number) 0) (sealed state (now (out .entry))) (now (out .entry))) ⌝ }
 {
-    let used = s.used;
+    let used = state.used;
     let heap = wire::u32_at(&out[0..SHORTEST], 40);
-    put_u32(out, 40, used - turns::records_end(s));
+    put_u32(out, 40, used - turns::records_end(state));
     let length = wire::u32_at(&out[0..SHORTEST], 4);
     put_u32(out, 4, used);
     let sum = out[9];
@@ -39,22 +39,22 @@ fn judge_finished(out: &mut [u8], s: State) -> Answer
     judged
 }
 
-pub fn finish(out: &mut [u8], s: State) -> Step
-    ensures { λ r. ⌜ (r ≡ definition.finish s (now (out .entry)) .step) × (now (out .exit) ≡ definition.finish s (now (out .entry)) .buffer) ⌝ }
+pub fn finish(out: &mut [u8], state: State) -> Step
+    ensures { λ r. ⌜ Gives (definition.finish state (now (out .entry))) r (now (out .exit)) ⌝ }
 {
-    if !turns::waits(s, turns::FINISHING) {
-        return refused(table::refuse(15, 0, 0), s);
+    if !turns::waits(state, turns::FINISHING) {
+        return refused(table::refuse(15, 0, 0), state);
     }
-    if s.used > out.len() {
-        return refused(table::refuse(14, 0, 0), s);
+    if state.used > out.len() {
+        return refused(table::refuse(14, 0, 0), state);
     }
-    let state = turns::finished(s);
-    let a = judge_finished(out, s);
-    if a.number != 0 {
-        return refused(a, s);
+    let finished = turns::finished(state);
+    let answer = judge_finished(out, state);
+    if answer.number != 0 {
+        return refused(answer, state);
     }
     Step {
-        answer: a,
-        state: state,
+        answer: answer,
+        state: finished,
     }
 }

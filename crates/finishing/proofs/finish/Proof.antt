@@ -26,8 +26,8 @@ returns : tie.Need-returns
 returns c =
     let a = c .before .before .before .before .before .args in
     let b = a .out .now in
-    let t = finish-early (a .s) b (sym (c .before .before .before .waits .ensures) ∙ not-true (c .before .before .before .waits .result) (c .before .before .if1 .taken)) in (
-      step-is (c .refused .result) (c .before .refuse .result) (a .s) (c .refused .ensures .0) (c .refused .ensures .1) ∙ ap (λ (x : Answer). record { answer = x; state = a .s })
+    let t = finish-early (a .state) b (sym (c .before .before .before .waits .ensures) ∙ not-true (c .before .before .before .waits .result) (c .before .before .if1 .taken)) in (
+      step-is (c .refused .result) (c .before .refuse .result) (a .state) (c .refused .ensures .0) (c .refused .ensures .1) ∙ ap (λ (x : Answer). record { answer = x; state = a .state })
           (c .before .refuse .ensures) ∙ t .0,
       t .1,
     )
@@ -42,9 +42,9 @@ returns-2 : tie.Need-returns-2
 returns-2 c =
     let a = c .before .before .before .before .before .before .before .args in
     let b = a .out .now in
-    let t = finish-short (a .s) b (sym (c .before .before .before .before .before .waits .ensures) ∙ not-false (c .before .before .before .before .before .waits .result)
+    let t = finish-short (a .state) b (sym (c .before .before .before .before .before .waits .ensures) ∙ not-false (c .before .before .before .before .before .waits .result)
     (c .before .before .before .before .if1 .left)) (omega (arith, c .before .before .if2 .taken)) in (
-      step-is (c .refused2 .result) (c .before .refuse2 .result) (a .s) (c .refused2 .ensures .0) (c .refused2 .ensures .1) ∙ ap (λ (x : Answer). record { answer = x; state = a .s })
+      step-is (c .refused2 .result) (c .before .refuse2 .result) (a .state) (c .refused2 .ensures .0) (c .refused2 .ensures .1) ∙ ap (λ (x : Answer). record { answer = x; state = a .state })
           (c .before .refuse2 .ensures) ∙ t .0,
       t .1,
     )
@@ -72,13 +72,13 @@ returns-3 c =
     let a = c .before .before .before .before .before .before .before .before .before .before .before .before .before .args in
     let b = a .out .now in
     let j = c .before .before .before .before .before .judge-finished .ensures in
-    let t = finish-refused (a .s) b (sym (c .before .before .before .before .before .before .before .before .before .before .before .waits .ensures) ∙ not-false
+    let t = finish-refused (a .state) b (sym (c .before .before .before .before .before .before .before .before .before .before .before .waits .ensures) ∙ not-false
     (c .before .before .before .before .before .before .before .before .before .before .before .waits .result)
     (c .before .before .before .before .before .before .before .before .before .before .if1 .left)) (omega (arith, c .before .before .before .before .before .before .before .before .if2 .left))
     (c .before .before .before .before .before .judge-finished .result) (j .0) (c .before .if3 .taken) in (
-      step-is (c .refused3 .result) (c .before .before .before .before .before .judge-finished .result) (a .s) (c .refused3 .ensures .0) (c .refused3 .ensures .1) ∙ t .0,
+      step-is (c .refused3 .result) (c .before .before .before .before .before .judge-finished .result) (a .state) (c .refused3 .ensures .0) (c .refused3 .ensures .1) ∙ t .0,
       j .1 ∙ ap (λ (c : Bool).
-          pick c (sealed (a .s) b) b) (ne-eqb (c .before .before .before .before .before .judge-finished .result .number) 0 (c .before .if3 .taken)) ∙ t .1,
+          pick c (sealed (a .state) b) b) (ne-eqb (c .before .before .before .before .before .judge-finished .result .number) 0 (c .before .if3 .taken)) ∙ t .1,
     )
 
 same-length-2 : tie.Need-same-length-2
@@ -89,11 +89,11 @@ returns-4 c =
     let a = c .before .before .before .before .before .before .before .before .before .before .before .before .args in
     let b = a .out .now in
     let j = c .before .before .before .before .judge-finished .ensures in
-    let t = finish-done (a .s) b (sym (c .before .before .before .before .before .before .before .before .before .before .waits .ensures) ∙ not-false
+    let t = finish-done (a .state) b (sym (c .before .before .before .before .before .before .before .before .before .before .waits .ensures) ∙ not-false
     (c .before .before .before .before .before .before .before .before .before .before .waits .result) (c .before .before .before .before .before .before .before .before .before .if1 .left))
     (omega (arith, c .before .before .before .before .before .before .before .if2 .left)) (c .before .before .before .before .judge-finished .result) (j .0) (c .if3 .left) in (
       ap (λ (y : State). record { answer = c .before .before .before .before .judge-finished .result; state = y }) (c .before .before .before .before .before .before .finished .ensures) ∙ t .0,
-      j .1 ∙ ap (λ (c : Bool). pick c (sealed (a .s) b) b) (eq-eqb (c .before .before .before .before .judge-finished .result .number) 0 (c .if3 .left)) ∙ t .1,
+      j .1 ∙ ap (λ (c : Bool). pick c (sealed (a .state) b) b) (eq-eqb (c .before .before .before .before .judge-finished .result .number) 0 (c .if3 .left)) ∙ t .1,
     )
 
 pub finish-spec : {M : Type 1} → statement M
