@@ -2,25 +2,25 @@
 use steps::judging::refused;
 use table::State;
 use table::Step;
-ghost use mathlib.Core.Path.{_≡_};
+ghost use Rattle.table.specs.Builder.{Gives};
 ghost use Rattle.table.specs.Builder as definition;
 
-pub fn leave(out: &mut [u8], s: State) -> Step
-    ensures { λ r. ⌜ (r ≡ definition.leave s (now (out .entry)) .step) × (now (out .exit) ≡ definition.leave s (now (out .entry)) .buffer) ⌝ }
+pub fn leave(out: &mut [u8], state: State) -> Step
+    ensures { λ r. ⌜ Gives (definition.leave state (now (out .entry))) r (now (out .exit)) ⌝ }
 {
-    if !turns::waits(s, s.turn) {
-        return refused(table::refuse(15, 0, 0), s);
+    if !turns::waits(state, state.turn) {
+        return refused(table::refuse(15, 0, 0), state);
     }
-    if s.position == 0 {
-        return refused(table::refuse(15, 0, 0), s);
+    if state.position == 0 {
+        return refused(table::refuse(15, 0, 0), state);
     }
-    if s.used > out.len() {
-        return refused(table::refuse(14, 0, 0), s);
+    if state.used > out.len() {
+        return refused(table::refuse(14, 0, 0), state);
     }
     let answer = table::done();
-    let state = turns::next(s, 0);
+    let after = turns::next(state, 0);
     Step {
         answer: answer,
-        state: state,
+        state: after,
     }
 }

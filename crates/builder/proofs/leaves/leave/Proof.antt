@@ -22,8 +22,8 @@ returns : tie.Need-returns
 returns c =
     let a = c .before .before .before .before .before .args in
     let b = a .out .now in
-    let t = leave-early (a .s) b (sym (c .before .before .before .waits .ensures) ∙ not-true (c .before .before .before .waits .result) (c .before .before .if1 .taken)) in (
-      step-is (c .refused .result) (c .before .refuse .result) (a .s) (c .refused .ensures .0) (c .refused .ensures .1) ∙ ap (λ (x : Answer). record { answer = x; state = a .s })
+    let t = leave-early (a .state) b (sym (c .before .before .before .waits .ensures) ∙ not-true (c .before .before .before .waits .result) (c .before .before .if1 .taken)) in (
+      step-is (c .refused .result) (c .before .refuse .result) (a .state) (c .refused .ensures .0) (c .refused .ensures .1) ∙ ap (λ (x : Answer). record { answer = x; state = a .state })
           (c .before .refuse .ensures) ∙ t .0,
       t .1,
     )
@@ -38,9 +38,9 @@ returns-2 : tie.Need-returns-2
 returns-2 c =
     let a = c .before .before .before .before .before .before .before .args in
     let b = a .out .now in
-    let t = leave-nowhere (a .s) b (sym (c .before .before .before .before .before .waits .ensures) ∙ not-false (c .before .before .before .before .before .waits .result)
+    let t = leave-nowhere (a .state) b (sym (c .before .before .before .before .before .waits .ensures) ∙ not-false (c .before .before .before .before .before .waits .result)
     (c .before .before .before .before .if1 .left)) (c .before .before .if2 .taken) in (
-      step-is (c .refused2 .result) (c .before .refuse2 .result) (a .s) (c .refused2 .ensures .0) (c .refused2 .ensures .1) ∙ ap (λ (x : Answer). record { answer = x; state = a .s })
+      step-is (c .refused2 .result) (c .before .refuse2 .result) (a .state) (c .refused2 .ensures .0) (c .refused2 .ensures .1) ∙ ap (λ (x : Answer). record { answer = x; state = a .state })
           (c .before .refuse2 .ensures) ∙ t .0,
       t .1,
     )
@@ -55,10 +55,10 @@ returns-3 : tie.Need-returns-3
 returns-3 c =
     let a = c .before .before .before .before .before .before .before .before .before .args in
     let b = a .out .now in
-    let t = leave-short (a .s) b (sym (c .before .before .before .before .before .before .before .waits .ensures) ∙ not-false
+    let t = leave-short (a .state) b (sym (c .before .before .before .before .before .before .before .waits .ensures) ∙ not-false
     (c .before .before .before .before .before .before .before .waits .result) (c .before .before .before .before .before .before .if1 .left)) (c .before .before .before .before .if2 .left)
     (omega (arith, c .before .before .if3 .taken)) in (
-      step-is (c .refused3 .result) (c .before .refuse3 .result) (a .s) (c .refused3 .ensures .0) (c .refused3 .ensures .1) ∙ ap (λ (x : Answer). record { answer = x; state = a .s })
+      step-is (c .refused3 .result) (c .before .refuse3 .result) (a .state) (c .refused3 .ensures .0) (c .refused3 .ensures .1) ∙ ap (λ (x : Answer). record { answer = x; state = a .state })
           (c .before .refuse3 .ensures) ∙ t .0,
       t .1,
     )
@@ -70,7 +70,7 @@ next-requires : tie.Need-next-requires
 next-requires c κs =
     let a = c .before .before .before .before .before .before .before .before .args in
     let b = a .out .now in
-    let v = used-bounds (a .s) (a .s .turn) (sym (c .before .before .before .before .before .before .waits .ensures) ∙ not-false
+    let v = used-bounds (a .state) (a .state .turn) (sym (c .before .before .before .before .before .before .waits .ensures) ∙ not-false
     (c .before .before .before .before .before .before .waits .result) (c .before .before .before .before .before .if1 .left)) in
     in-limit _ (omega (arith, v))
 
@@ -78,7 +78,7 @@ returns-4 : tie.Need-returns-4
 returns-4 c =
     let a = c .before .before .before .before .before .before .before .before .before .args in
     let b = a .out .now in
-    let t = leave-done (a .s) b (sym (c .before .before .before .before .before .before .before .waits .ensures) ∙ not-false
+    let t = leave-done (a .state) b (sym (c .before .before .before .before .before .before .before .waits .ensures) ∙ not-false
     (c .before .before .before .before .before .before .before .waits .result) (c .before .before .before .before .before .before .if1 .left)) (c .before .before .before .before .if2 .left)
     (omega (arith, c .before .before .if3 .left)) in
     (ap₂ (λ (x : Answer) (y : State). record { answer = x; state = y }) (c .before .done .ensures) (c .next .ensures) ∙ t .0, t .1)
