@@ -1,4 +1,4 @@
-// The image of the used record of a kind that stands at `a`.
+// The image of a used record of a kind.
 use reads::lent::record_at;
 ghost use mathlib.Core.Path.{_≡_};
 ghost use mathlib.Core.Bool.{true};
@@ -11,9 +11,9 @@ ghost use Rattle.reads.specs.Seats.{Seated};
 ghost use Rattle.reads.specs.Told.{bytesOf};
 
 // Into `part`, which it fills.
-pub fn image_into(part: &mut [u8], t: &[u8], kind: u8, a: usize)
-    requires { ⌜ Accepted (now t) × Seated (now t) (layoutOf kind) a true × (length (now part) ≡ baseOf (layoutOf kind)) ⌝ }
-    ensures { λ r. ⌜ now (part .exit) ≡ bytesOf (imageAt (now (t .entry)) (seat (layoutOf kind) a true)) ⌝ }
+pub fn image_into(part: &mut [u8], t: &[u8], kind: u8, at: usize)
+    requires { ⌜ Accepted (now t) × Seated (now t) (layoutOf kind) at true × (length (now part) ≡ baseOf (layoutOf kind)) ⌝ }
+    ensures { λ r. ⌜ now (part .exit) ≡ bytesOf (imageAt (now (t .entry)) (seat (layoutOf kind) at true)) ⌝ }
 {
-    images::put_image(part, 0, record_at(t, kind, a), kind);
+    images::put_image(part, 0, record_at(t, kind, at), kind);
 }

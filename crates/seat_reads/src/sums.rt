@@ -10,21 +10,21 @@ ghost use Rattle.reader.specs.Accepted.{Accepted};
 ghost use Rattle.seat_reads.specs.Driver.{driverOf};
 
 // The sum of all bytes.
-pub fn sum_of(b: &[u8]) -> u8
-    ensures { λ r. ⌜ r ≡ total (now (b .entry)) % 256 ⌝ }
+pub fn sum_of(bytes: &[u8]) -> u8
+    ensures { λ r. ⌜ r ≡ total (now (bytes .entry)) % 256 ⌝ }
 {
-    wire::sum8(b)
+    wire::sum8(bytes)
 }
 
 // The sum of all bytes but `len` of them from `at` on.
-pub fn sum_but(b: &[u8], at: usize, len: usize) -> u8
-    requires { ⌜ at + len ≤ length (now b) ⌝ }
-    ensures { λ r. ⌜ (r + total (part (now (b .entry)) at len)) % 256 ≡ total (now (b .entry)) % 256 ⌝ }
+pub fn sum_but(bytes: &[u8], at: usize, len: usize) -> u8
+    requires { ⌜ at + len ≤ length (now bytes) ⌝ }
+    ensures { λ r. ⌜ (r + total (part (now (bytes .entry)) at len)) % 256 ≡ total (now (bytes .entry)) % 256 ⌝ }
 {
     let end = at + len;
-    let n = b.len();
-    let before = wire::sum8(&b[0..at]);
-    let behind = wire::sum8(&b[end..n]);
+    let size = bytes.len();
+    let before = wire::sum8(&bytes[0..at]);
+    let behind = wire::sum8(&bytes[end..size]);
     std::num::wrapping_add_u8(before, behind)
 }
 
@@ -33,17 +33,17 @@ pub fn driver_sum(t: &[u8]) -> u8
     requires { ⌜ Accepted (now t) ⌝ }
     ensures { λ r. ⌜ r ≡ total (driverOf (now (t .entry))) % 256 ⌝ }
 {
-    let x = object_part(t, Header::ID, 0, 44);
-    let d = x.len();
-    let n = wire::u32_at(t, 4);
+    let driver = object_part(t, Header::ID, 0, 44);
+    let len = driver.len();
+    let size = wire::u32_at(t, 4);
     let at = wire::reference_at(t, 44).at;
     // Never so in an accepted table: its objects lie within its own length. What inner calls know of them is that they lie in the caller's bytes.
-    if at + d > n {
-        return wire::sum8(x);
+    if at + len > size {
+        return wire::sum8(driver);
     }
-    if d <= n - d {
-        return wire::sum8(x);
+    if len <= size - len {
+        return wire::sum8(driver);
     }
-    let rest = sum_but(&t[0..n], at, d);
+    let rest = sum_but(&t[0..size], at, len);
     std::num::wrapping_sub_u8(0, rest)
 }

@@ -16,11 +16,11 @@ use Rattle.seat_reads.proofs.image.image_into.Statement.{statement}
 use Rattle.seat_reads.proofs.image.image_into.Tie as tie
 
 record-at-requires : tie.Need-record-at-requires
-record-at-requires c κs = let s = c .before .before .before in (s .pre .0, standing (s .args .t .now) (layoutOf (s .args .kind)) (s .args .a) true (s .pre .1))
+record-at-requires c κs = let s = c .before .before .before in (s .pre .0, standing (s .args .t .now) (layoutOf (s .args .kind)) (s .args .at) true (s .pre .1))
 
 put-image-requires : tie.Need-put-image-requires
 put-image-requires c κs = let s = c .before .before .before .before in let a = s .args in
-    (omega (arith, ap length (c .record-at .ensures), own-long (a .kind) (a .t .now) (a .a) (s .pre .1 .within)), omega (arith, s .pre .2))
+    (omega (arith, ap length (c .record-at .ensures), own-long (a .kind) (a .t .now) (a .at) (s .pre .1 .within)), omega (arith, s .pre .2))
 
 same-length : tie.Need-same-length
 same-length c = search needs
@@ -31,8 +31,8 @@ returns c = let s = c .before .before .before .before .before .before .before in
     c .before .before .put-image .ensures
     ∙ splice-all (a .part .now) (imageIn l x 0) (length-imageIn l x 0 ∙ sym (s .pre .2))
     ∙ ap (λ (y : List ℕ). imageIn l y 0) (c .before .before .before .record-at .ensures)
-    ∙ image-own (a .kind) (a .t .now) (a .a)
-    ∙ sym (image-front l (a .t .now) (a .a))
+    ∙ image-own (a .kind) (a .t .now) (a .at)
+    ∙ sym (image-front l (a .t .now) (a .at))
 
 pub image-into-spec : {M : Type 1} → statement M
 image-into-spec = tie.close (tie.spec record-at-requires put-image-requires same-length returns)

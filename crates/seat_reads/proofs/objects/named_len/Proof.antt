@@ -12,12 +12,12 @@ use Rattle.seat_reads.proofs.objects.named_len.Statement.{statement}
 use Rattle.seat_reads.proofs.objects.named_len.Tie as tie
 
 reference-at-requires : tie.Need-reference-at-requires
-reference-at-requires c κs = let s = c .before .before in omega (arith, plain-fits (s .args .kind) (s .args .p) (s .pre .1), s .pre .0)
+reference-at-requires c κs = let s = c .before .before in omega (arith, plain-fits (s .args .kind) (s .args .offset) (s .pre .1), s .pre .0)
 
 returns : tie.Need-returns
-returns c = let s = c .before .before .before in let a = s .args in let l = layoutOf (a .kind) in let x = a .x .now in let r = c .reference-at in (
+returns c = let s = c .before .before .before in let a = s .args in let l = layoutOf (a .kind) in let x = a .bytes .now in let r = c .reference-at in (
   ap (λ (n : Region). n .len) (r .ensures .0)
-      ∙ sym (place-len x l (a .p) (s .pre .1) ∙ never-ignored (a .kind) (a .p) (image (l .shape .keep) x) 0 _ (ne-eqb _ _ (c .before .if1 .taken)) (s .pre .1)),
+      ∙ sym (place-len x l (a .offset) (s .pre .1) ∙ never-ignored (a .kind) (a .offset) (image (l .shape .keep) x) 0 _ (ne-eqb _ _ (c .before .if1 .taken)) (s .pre .1)),
   omega (arith, r .ensures .2),
 )
 
@@ -26,18 +26,18 @@ unfolding layoutOf security
 counts-requires c κs = let s = c .before .before in let b : 64 ≡ baseOf (layoutOf (s .args .kind)) = rw (c .if1 .left) refl in omega (arith, b, s .pre .0)
 
 reference-at-requires-2 : tie.Need-reference-at-requires-2
-reference-at-requires-2 c κs = let s = c .before .before .before .before in omega (arith, plain-fits (s .args .kind) (s .args .p) (s .pre .1), s .pre .0)
+reference-at-requires-2 c κs = let s = c .before .before .before .before in omega (arith, plain-fits (s .args .kind) (s .args .offset) (s .pre .1), s .pre .0)
 
 returns-2 : tie.Need-returns-2
 returns-2 c = let s = c .before .before .before .before .before in let a = s .args in let r = c .reference-at2 in (
   ap (λ (n : Region). n .len) (r .ensures .0)
-      ∙ sym (security-len (a .x .now) (a .kind) (a .p) (c .before .before .before .if1 .left) (s .pre .1) true (sym (c .before .if2 .taken) ∙ c .before .before .counts .ensures)),
+      ∙ sym (security-len (a .bytes .now) (a .kind) (a .offset) (c .before .before .before .if1 .left) (s .pre .1) true (sym (c .before .if2 .taken) ∙ c .before .before .counts .ensures)),
   omega (arith, r .ensures .2),
 )
 
 returns-3 : tie.Need-returns-3
 returns-3 c = let s = c .before .before .before .before in let a = s .args in
-    (sym (security-len (a .x .now) (a .kind) (a .p) (c .before .before .if1 .left) (s .pre .1) false (sym (c .if2 .left) ∙ c .before .counts .ensures)), lit≤ tt)
+    (sym (security-len (a .bytes .now) (a .kind) (a .offset) (c .before .before .if1 .left) (s .pre .1) false (sym (c .if2 .left) ∙ c .before .counts .ensures)), lit≤ tt)
 
 pub named-len-spec : {M : Type 1} → statement M
 named-len-spec =

@@ -17,22 +17,22 @@ use Rattle.seat_reads.proofs.objects.object_bytes.Statement.{statement}
 use Rattle.seat_reads.proofs.objects.object_bytes.Tie as tie
 
 -- the object starts where its reference says
-start : (c : tie.After-reference-at) → let a = c .before .before .before .args in c .reference-at .result .at ≡ placeAt (a .t .now) (a .p) (seat (layoutOf (a .kind)) (a .a) true) .at
+start : (c : tie.After-reference-at) → let a = c .before .before .before .args in c .reference-at .result .at ≡ placeAt (a .t .now) (a .offset) (seat (layoutOf (a .kind)) (a .at) true) .at
 start c = let s = c .before .before .before in let a = s .args in
     ap (λ (r : Region). r .at) (c .reference-at .ensures .0)
-    ∙ ap (λ (x : List ℕ). referenceAt x (a .p) .at) (c .before .record-at .ensures)
-    ∙ own-start (a .t .now) (a .kind) (a .a) (a .p) (s .pre .0 .2) (λ e. omega (arith, s .pre .1, e))
+    ∙ ap (λ (x : List ℕ). referenceAt x (a .offset) .at) (c .before .record-at .ensures)
+    ∙ own-start (a .t .now) (a .kind) (a .at) (a .offset) (s .pre .0 .2) (λ e. omega (arith, s .pre .1, e))
 
 record-at-requires : tie.Need-record-at-requires
-record-at-requires c κs = let s = c .before in (s .pre .0 .0, standing (s .args .t .now) (layoutOf (s .args .kind)) (s .args .a) true (s .pre .0 .1))
+record-at-requires c κs = let s = c .before in (s .pre .0 .0, standing (s .args .t .now) (layoutOf (s .args .kind)) (s .args .at) true (s .pre .0 .1))
 
 reference-at-requires : tie.Need-reference-at-requires
 reference-at-requires c κs = let s = c .before .before in let a = s .args in
-    omega (arith, plain-fits (a .kind) (a .p) (s .pre .0 .2), ap length (c .record-at .ensures), own-long (a .kind) (a .t .now) (a .a) (s .pre .0 .1 .within))
+    omega (arith, plain-fits (a .kind) (a .offset) (s .pre .0 .2), ap length (c .record-at .ensures), own-long (a .kind) (a .t .now) (a .at) (s .pre .0 .1 .within))
 
 heap-part-requires : tie.Need-heap-part-requires
-heap-part-requires c κs = let s = c .before .before .before in let a = s .args in let t = a .t .now in let q = seat (layoutOf (a .kind)) (a .a) true in
-    let i = seat-heap t (s .pre .0 .0) (a .p) (a .kind) q (refl, s .pre .0 .1) (omega (arith, s .pre .1)) in
+heap-part-requires c κs = let s = c .before .before .before in let a = s .args in let t = a .t .now in let q = seat (layoutOf (a .kind)) (a .at) true in
+    let i = seat-heap t (s .pre .0 .0) (a .offset) (a .kind) q (refl, s .pre .0 .1) (omega (arith, s .pre .1)) in
     (s .pre .0 .0, λ h. record { above = omega (arith, i, start c); below = omega (arith, i, start c, s .pre .1 .0) })
 
 returns : tie.Need-returns
