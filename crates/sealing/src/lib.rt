@@ -14,25 +14,25 @@ ghost use Rattle.seat_reads.specs.Driver.{driverOf};
 // The header's byte that makes the sum of all bytes 0.
 const CHECKSUM: usize = 9;
 
-// The sum of `x`, which has the driver signature of `t` as its `d` bytes from `h` on.
-fn form_sum(x: &[u8], t: &[u8], h: usize, d: usize) -> u8
-    requires { ⌜ Accepted (now t) × (h + d ≤ length (now x)) × (part (now x) h d ≡ driverOf (now t)) ⌝ }
-    ensures { λ r. ⌜ r ≡ total (now (x .entry)) % 256 ⌝ }
+// The sum of `form`, which has the driver signature of `t` as its `signature` bytes from `heap` on.
+fn form_sum(form: &[u8], t: &[u8], heap: usize, signature: usize) -> u8
+    requires { ⌜ Accepted (now t) × (heap + signature ≤ length (now form)) × (part (now form) heap signature ≡ driverOf (now t)) ⌝ }
+    ensures { λ r. ⌜ r ≡ total (now (form .entry)) % 256 ⌝ }
 {
-    if d <= x.len() - d {
-        return sum_of(x);
+    if signature <= form.len() - signature {
+        return sum_of(form);
     }
-    let whole = sum_but(x, h, d);
+    let whole = sum_but(form, heap, signature);
     let rest = driver_sum(t);
     std::num::wrapping_add_u8(whole, rest)
 }
 
-// The checksum of the first `n` bytes, stored among them; `d` of them from `h` on are the driver signature of `t`.
-pub fn seal(out: &mut [u8], n: usize, t: &[u8], h: usize, d: usize)
-    requires { ⌜ (9 < n) × (n ≤ length (now out)) × Accepted (now t) ⌝ }
-    requires { ⌜ (h + d ≤ n) × (part (take n (now out)) h d ≡ driverOf (now t)) ⌝ }
-    ensures { λ r. ⌜ now (out .exit) ≡ splice (now (out .entry)) 9 (checksum (take n (now (out .entry))) ∷ []) ⌝ }
+// The checksum of the first `size` bytes, stored among them; `signature` of them from `heap` on are the driver signature of `t`.
+pub fn seal(out: &mut [u8], size: usize, t: &[u8], heap: usize, signature: usize)
+    requires { ⌜ (9 < size) × (size ≤ length (now out)) × Accepted (now t) ⌝ }
+    requires { ⌜ (heap + signature ≤ size) × (part (take size (now out)) heap signature ≡ driverOf (now t)) ⌝ }
+    ensures { λ r. ⌜ now (out .exit) ≡ splice (now (out .entry)) 9 (checksum (take size (now (out .entry))) ∷ []) ⌝ }
 {
-    let sum = form_sum(&out[0..n], t, h, d);
+    let sum = form_sum(&out[0..size], t, heap, signature);
     put_u8(out, CHECKSUM, std::num::wrapping_sub_u8(0, sum));
 }
