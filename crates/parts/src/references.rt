@@ -14,28 +14,28 @@ ghost use Rattle.reads.specs.Seats.{Seated, Held};
 ghost use Rattle.reads.specs.Told.{innerKind};
 ghost use Rattle.parts.specs.Parts.{allPlain, slotsIn, recordPart, partAt};
 
-// The bytes of all objects that the record at `a` names; it names nothing else.
-fn objects_size(t: &[u8], kind: u8, a: usize) -> usize
-    requires { ⌜ Accepted (now t) × Seated (now t) (layoutOf kind) a true × (allPlain kind ≡ true) ⌝ }
-    ensures { λ r. ⌜ (r ≡ sizeOf (slotsIn (layoutOf kind) (now (t .entry)) a)) × (r ≤ 393210) ⌝ }
+// The bytes of all objects that a record names; it names nothing else.
+fn objects_size(t: &[u8], kind: u8, at: usize) -> usize
+    requires { ⌜ Accepted (now t) × Seated (now t) (layoutOf kind) at true × (allPlain kind ≡ true) ⌝ }
+    ensures { λ r. ⌜ (r ≡ sizeOf (slotsIn (layoutOf kind) (now (t .entry)) at)) × (r ≤ 393210) ⌝ }
 {
     let refs = kinds::reference_offsets(kind);
-    let n = refs.count;
+    let count = refs.count;
     let mut total: usize = 0;
     let mut i: usize = 0;
-    while i < n {
-        total += object_len(t, kind, a, refs.at[i]);
+    while i < count {
+        total += object_len(t, kind, at, refs.at[i]);
         i += 1;
     }
     total
 }
 
 // A heap record with its objects, which are laid behind it.
-fn record_span(t: &[u8], kind: u8, s: Seat) -> usize
-    requires { ⌜ Accepted (now t) × Held (now t) kind s × (allPlain kind ≡ true) ⌝ }
-    ensures { λ r. ⌜ (r ≡ recordPart (now (t .entry)) kind s .span) × (r ≤ 400000) ⌝ }
+fn record_span(t: &[u8], kind: u8, seat: Seat) -> usize
+    requires { ⌜ Accepted (now t) × Held (now t) kind seat × (allPlain kind ≡ true) ⌝ }
+    ensures { λ r. ⌜ (r ≡ recordPart (now (t .entry)) kind seat .span) × (r ≤ 400000) ⌝ }
 {
-    match s {
+    match seat {
         Seat::Nowhere => 0,
         Seat::At { at, used } => {
             let size = kinds::base_size(kind);
@@ -55,28 +55,28 @@ pub fn inner_kind(kind: u8) -> u8
     Extended::ID
 }
 
-// The bytes that what the reference at `p` names takes, with all that it names itself.
-fn span_at(t: &[u8], kind: u8, a: usize, p: usize) -> usize
-    requires { ⌜ Accepted (now t) × Seated (now t) (layoutOf kind) a true ⌝ }
-    ensures { λ r. ⌜ (r ≡ partAt (now (t .entry)) kind a p .span) × (r ≤ 400000) ⌝ }
+// The bytes that what a reference names takes, with all that it names itself.
+fn span_at(t: &[u8], kind: u8, at: usize, offset: usize) -> usize
+    requires { ⌜ Accepted (now t) × Seated (now t) (layoutOf kind) at true ⌝ }
+    ensures { λ r. ⌜ (r ≡ partAt (now (t .entry)) kind at offset .span) × (r ≤ 400000) ⌝ }
 {
-    if layouts::has_object(kind, p) {
-        return object_len(t, kind, a, p);
+    if layouts::has_object(kind, offset) {
+        return object_len(t, kind, at, offset);
     }
-    record_span(t, inner_kind(kind), reads::seats::heap_record(t, kind, a))
+    record_span(t, inner_kind(kind), reads::seats::heap_record(t, kind, at))
 }
 
-// The bytes of all that the record at `a` names.
-pub fn named_size(t: &[u8], kind: u8, a: usize) -> usize
-    requires { ⌜ Accepted (now t) × Seated (now t) (layoutOf kind) a true ⌝ }
-    ensures { λ r. ⌜ (r ≡ sizeOf (slotsIn (layoutOf kind) (now (t .entry)) a)) × (r ≤ 2400000) ⌝ }
+// The bytes of all that a record names.
+pub fn named_size(t: &[u8], kind: u8, at: usize) -> usize
+    requires { ⌜ Accepted (now t) × Seated (now t) (layoutOf kind) at true ⌝ }
+    ensures { λ r. ⌜ (r ≡ sizeOf (slotsIn (layoutOf kind) (now (t .entry)) at)) × (r ≤ 2400000) ⌝ }
 {
     let refs = kinds::reference_offsets(kind);
-    let n = refs.count;
+    let count = refs.count;
     let mut total: usize = 0;
     let mut i: usize = 0;
-    while i < n {
-        total += span_at(t, kind, a, refs.at[i]);
+    while i < count {
+        total += span_at(t, kind, at, refs.at[i]);
         i += 1;
     }
     total

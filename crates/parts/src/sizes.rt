@@ -20,12 +20,12 @@ ghost use Rattle.reads.specs.Told.{toldEntry, countOf};
 ghost use Rattle.parts.specs.Parts.{listOf};
 
 // The heap bytes of the record of a kind and position; an unused one takes none.
-pub fn entry_size(t: &[u8], kind: u8, n: usize) -> usize
+pub fn entry_size(t: &[u8], kind: u8, position: usize) -> usize
     requires { ⌜ Accepted (now t) ⌝ }
-    ensures { λ r. ⌜ (r ≡ sizeEntry (toldEntry (layoutOf kind) (now (t .entry)) kind n)) × (r ≤ 2400000) ⌝ }
+    ensures { λ r. ⌜ (r ≡ sizeEntry (toldEntry (layoutOf kind) (now (t .entry)) kind position)) × (r ≤ 2400000) ⌝ }
 {
-    let s = seat_of(t, kind, n);
-    match s {
+    let seat = seat_of(t, kind, position);
+    match seat {
         Seat::Nowhere => 0,
         Seat::At { at, used } => if used { named_size(t, kind, at) } else { 0 },
     }
@@ -36,12 +36,12 @@ pub fn list_size(t: &[u8], kind: u8) -> usize
     requires { ⌜ Accepted (now t) ⌝ }
     ensures { λ r. ⌜ (r ≡ sizeList (listOf (now (t .entry)) kind)) × (r ≤ 612000000) ⌝ }
 {
-    let n = count_of(t, kind);
+    let count = count_of(t, kind);
     let mut sum: usize = 0;
-    let mut i: usize = 0;
-    while i < n {
-        i += 1;
-        sum += entry_size(t, kind, i);
+    let mut position: usize = 0;
+    while position < count {
+        position += 1;
+        sum += entry_size(t, kind, position);
     }
     sum
 }

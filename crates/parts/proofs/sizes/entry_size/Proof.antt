@@ -17,23 +17,23 @@ seat-of-requires c κs = search needs
 enum-told : tie.Need-enum-told
 enum-told c = search needs
 
-enum-known-s : tie.Need-enum-known-s
-enum-known-s c = search needs
+enum-known-seat : tie.Need-enum-known-seat
+enum-known-seat c = search needs
 
 named-size-requires : tie.Need-named-size-requires
-named-size-requires c κs = let s = c .before .before .before .before .before .before in (s .pre, seated-at (s .args .t .now) (s .pre) (s .args .kind) (s .args .n) (c .before .before .s .given .0 .0) true (sym (c .before .before .before .before .seat-of .ensures) ∙ ap (asSeat (layoutOf (s .args .kind))) (c .before .before .s .given .1) ∙ ap (seat (layoutOf (s .args .kind)) (c .before .before .s .given .0 .0)) (c .if1 .taken)))
+named-size-requires c κs = let s = c .before .before .before .before .before .before in (s .pre, seated-at (s .args .t .now) (s .pre) (s .args .kind) (s .args .position) (c .before .before .seat .given .0 .0) true (sym (c .before .before .before .before .seat-of .ensures) ∙ ap (asSeat (layoutOf (s .args .kind))) (c .before .before .seat .given .1) ∙ ap (seat (layoutOf (s .args .kind)) (c .before .before .seat .given .0 .0)) (c .if1 .taken)))
 
 returns : tie.Need-returns
 unfolding sizeEntry
-returns c = let s = c .before .before .before .before in (sym (ap sizeEntry (entry-nowhere (s .args .t .now) (s .args .kind) (s .args .n) (sym (c .before .before .seat-of .ensures) ∙ ap (asSeat (layoutOf (s .args .kind))) (c .enum-told .given .1)))), lit≤ tt)
+returns c = let s = c .before .before .before .before in (sym (ap sizeEntry (entry-nowhere (s .args .t .now) (s .args .kind) (s .args .position) (sym (c .before .before .seat-of .ensures) ∙ ap (asSeat (layoutOf (s .args .kind))) (c .enum-told .given .1)))), lit≤ tt)
 
 returns-2 : tie.Need-returns-2
 unfolding sizeEntry slotsIn
-returns-2 c = let s = c .before .before .before .before .before .before .before in (c .named-size .ensures .0 ∙ sym (ap sizeEntry (entry-on (s .args .t .now) (s .args .kind) (s .args .n) (c .before .before .before .s .given .0 .0) (sym (c .before .before .before .before .before .seat-of .ensures) ∙ ap (asSeat (layoutOf (s .args .kind))) (c .before .before .before .s .given .1) ∙ ap (seat (layoutOf (s .args .kind)) (c .before .before .before .s .given .0 .0)) (c .before .if1 .taken)))), c .named-size .ensures .1)
+returns-2 c = let s = c .before .before .before .before .before .before .before in (c .named-size .ensures .0 ∙ sym (ap sizeEntry (entry-on (s .args .t .now) (s .args .kind) (s .args .position) (c .before .before .before .seat .given .0 .0) (sym (c .before .before .before .before .before .seat-of .ensures) ∙ ap (asSeat (layoutOf (s .args .kind))) (c .before .before .before .seat .given .1) ∙ ap (seat (layoutOf (s .args .kind)) (c .before .before .before .seat .given .0 .0)) (c .before .if1 .taken)))), c .named-size .ensures .1)
 
 returns-3 : tie.Need-returns-3
 unfolding sizeEntry
-returns-3 c = let s = c .before .before .before .before .before .before in (sym (ap sizeEntry (entry-off (s .args .t .now) (s .args .kind) (s .args .n) (c .before .before .s .given .0 .0) (sym (c .before .before .before .before .seat-of .ensures) ∙ ap (asSeat (layoutOf (s .args .kind))) (c .before .before .s .given .1) ∙ ap (seat (layoutOf (s .args .kind)) (c .before .before .s .given .0 .0)) (c .if1 .left)))), lit≤ tt)
+returns-3 c = let s = c .before .before .before .before .before .before in (sym (ap sizeEntry (entry-off (s .args .t .now) (s .args .kind) (s .args .position) (c .before .before .seat .given .0 .0) (sym (c .before .before .before .before .seat-of .ensures) ∙ ap (asSeat (layoutOf (s .args .kind))) (c .before .before .seat .given .1) ∙ ap (seat (layoutOf (s .args .kind)) (c .before .before .seat .given .0 .0)) (c .if1 .left)))), lit≤ tt)
 
 pub entry-size-spec : {M : Type 1} → statement M
 entry-size-spec =
@@ -41,7 +41,7 @@ entry-size-spec =
     (tie.spec
     seat-of-requires
     enum-told
-    enum-known-s
+    enum-known-seat
     named-size-requires
     returns
     returns-2
