@@ -5,15 +5,15 @@ use Rattle.table.specs.Bytes.{splice, Edit}
 use Rattle.table.specs.Layout.{Refs, Slots}
 use Rattle.table.specs.Objects.{stores, heapOf}
 
--- t with r from a on and g from h on
-abbrev pub laid : List ℕ → ℕ → List ℕ → ℕ → List ℕ → List ℕ
-laid t a r h g = splice (splice t a r) h g
+-- an output with records from place on, and with their heap from next on
+abbrev pub laid : (out : List ℕ) (place : ℕ) (records : List ℕ) (next : ℕ) (heap : List ℕ) → List ℕ
+laid out place records next heap = splice (splice out place records) next heap
 
--- t with the stores es into the record that stands at d
-unfoldable pub applyAt : List ℕ → ℕ → List Edit → List ℕ
-applyAt t d [] = t
-applyAt t d (e ∷ es) = applyAt (splice t (d + e .at) (e .put)) d es
+-- an output with the stores into the record that stands at place
+unfoldable pub applyAt : (out : List ℕ) (place : ℕ) → List Edit → List ℕ
+applyAt out place [] = out
+applyAt out place (e ∷ es) = applyAt (splice out (place + e .at) (e .put)) place es
 
--- t with the references to the slots ss stored in the record that stands at d, and what they name from u on
-abbrev pub named : {rs : Refs} → List ℕ → ℕ → ℕ → Slots rs → List ℕ
-named t d u ss = splice (applyAt t d (stores u ss)) u (heapOf u ss)
+-- an output with the references to the slots stored in the record that stands at place, and what they name from next on
+abbrev pub named : {rs : Refs} → (out : List ℕ) (place next : ℕ) → Slots rs → List ℕ
+named out place next slots = splice (applyAt out place (stores next slots)) next (heapOf next slots)

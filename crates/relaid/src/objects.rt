@@ -24,96 +24,110 @@ ghost use Rattle.parts.specs.Parts.{allPlain, slotsIn, recordPart, partAt, reco
 ghost use Rattle.relaid.specs.Laid.{laid, named};
 
 // The image of a used record, into its own part of `out`.
-pub fn put_record(out: &mut [u8], d: usize, t: &[u8], kind: u8, a: usize)
-    requires { ⌜ Accepted (now t) × Seated (now t) (layoutOf kind) a true × (d + baseOf (layoutOf kind) ≤ length (now out)) ⌝ }
-    ensures { λ r. ⌜ now (out .exit) ≡ splice (now (out .entry)) d (imageIn (layoutOf kind) (now (t .entry)) a) ⌝ }
+pub fn put_record(out: &mut [u8], place: usize, t: &[u8], kind: u8, source: usize)
+    requires { ⌜ Accepted (now t) × Seated (now t) (layoutOf kind) source true × (place + baseOf (layoutOf kind) ≤ length (now out)) ⌝ }
+    ensures { λ r. ⌜ now (out .exit) ≡ splice (now (out .entry)) place (imageIn (layoutOf kind) (now (t .entry)) source) ⌝ }
 {
-    let end = d + kinds::base_size(kind);
-    image_into(&mut out[d..end], t, kind, a);
+    let end = place + kinds::base_size(kind);
+    image_into(&mut out[place..end], t, kind, source);
 }
 
-// The object that the reference at `p` of the record at `a` names, from `h` on, and the reference in the record laid at `d`; the first byte behind the object.
-fn lay_object(out: &mut [u8], d: usize, h: usize, t: &[u8], kind: u8, a: usize, p: usize) -> usize
-    requires { ⌜ Accepted (now t) × Seated (now t) (layoutOf kind) a true × (hasPlain p (layoutOf kind .refs) ≡ true) ⌝ }
-    requires { ⌜ (d + p + 6 ≤ h) × (h + partAt (now t) kind a p .span ≤ length (now out)) ⌝ }
-    ensures { λ u. ⌜ (u ≡ h + partAt (now (t .entry)) kind a p .span) × (now (out .exit) ≡ laid (now (out .entry)) (d + p) (refNum h (partAt (now (t .entry)) kind a p .len)) h (bytesAt (now (t .entry)) kind a h p)) ⌝ }
-{
-    let len = object_len(t, kind, a, p);
-    put_slot(out, d + p, h, len);
-    if len == 0 {
-        return h;
-    }
-    copy_into(out, h, object_bytes(t, kind, a, p, len));
-    h + len
-}
-
-// The objects that the record at `a` names, one behind the other from `u` on, and the references in the record laid at `d`; the first byte behind them. It names
-// nothing else.
-fn lay_objects(out: &mut [u8], d: usize, u: usize, t: &[u8], kind: u8, a: usize) -> usize
-    requires { ⌜ Accepted (now t) × Seated (now t) (layoutOf kind) a true × (allPlain kind ≡ true) ⌝ }
-    requires { ⌜ (d + baseOf (layoutOf kind) ≤ u) × (u + sizeOf (slotsIn (layoutOf kind) (now t) a) ≤ length (now out)) ⌝ }
-    ensures { λ r. ⌜ (r ≡ u + sizeOf (slotsIn (layoutOf kind) (now (t .entry)) a)) × (now (out .exit) ≡ named (now (out .entry)) d u (slotsIn (layoutOf kind) (now (t .entry)) a)) ⌝ }
-{
-    let refs = kinds::reference_offsets(kind);
-    let n = refs.count;
-    let mut h = u;
-    let mut i: usize = 0;
-    while i < n {
-        h = lay_object(out, d, h, t, kind, a, refs.at[i]);
-        i += 1;
-    }
-    h
-}
-
-// The heap record of a kind at `a`, from `h` on, with its objects right behind it, and the reference to it at `r`.
-fn lay_held(out: &mut [u8], r: usize, h: usize, t: &[u8], kind: u8, a: usize) -> usize
-    requires { ⌜ Accepted (now t) × Seated (now t) (layoutOf kind) a true × (allPlain kind ≡ true) ⌝ }
-    requires { ⌜ (r + 6 ≤ h) × (h + recordPart (now t) kind (At a true) .span ≤ length (now out)) ⌝ }
-    ensures { λ u. ⌜ (u ≡ h + recordPart (now (t .entry)) kind (At a true) .span) × (now (out .exit) ≡ laid (now (out .entry)) r (refNum h (recordPart (now (t .entry)) kind (At a true) .len)) h (recordBytes (now (t .entry)) kind h (At a true))) ⌝ }
-{
-    let size = kinds::base_size(kind);
-    put_slot(out, r, h, size);
-    put_record(out, h, t, kind, a);
-    lay_objects(out, h, h + size, t, kind, a)
-}
-
-fn lay_record(out: &mut [u8], r: usize, h: usize, t: &[u8], kind: u8, s: Seat) -> usize
-    requires { ⌜ Accepted (now t) × Held (now t) kind s × (allPlain kind ≡ true) ⌝ }
-    requires { ⌜ (r + 6 ≤ h) × (h + recordPart (now t) kind s .span ≤ length (now out)) ⌝ }
-    ensures { λ u. ⌜ (u ≡ h + recordPart (now (t .entry)) kind s .span) × (now (out .exit) ≡ laid (now (out .entry)) r (refNum h (recordPart (now (t .entry)) kind s .len)) h (recordBytes (now (t .entry)) kind h s)) ⌝ }
-{
-    match s {
-        Seat::Nowhere => {
-            put_slot(out, r, h, 0);
-            h
-        }
-        Seat::At { at, used } => lay_held(out, r, h, t, kind, at),
-    }
-}
-
-// What the reference at `p` of the record at `a` names, from `h` on, and the reference in the record laid at `d`.
-pub fn lay_reference(
+// The object that a reference names, and the reference in the record laid.
+fn lay_object(
     out: &mut [u8],
-    d: usize,
-    h: usize,
+    place: usize,
+    next: usize,
     t: &[u8],
     kind: u8,
-    a: usize,
-    p: usize,
+    source: usize,
+    offset: usize,
 ) -> usize
-    requires { ⌜ Accepted (now t) × Seated (now t) (layoutOf kind) a true ⌝ }
-    requires { ⌜ (d + p + 6 ≤ h) × (h + partAt (now t) kind a p .span ≤ length (now out)) ⌝ }
-    ensures { λ u. ⌜ (u ≡ h + partAt (now (t .entry)) kind a p .span) × (now (out .exit) ≡ laid (now (out .entry)) (d + p) (refNum h (partAt (now (t .entry)) kind a p .len)) h (bytesAt (now (t .entry)) kind a h p)) ⌝ }
+    requires { ⌜ Accepted (now t) × Seated (now t) (layoutOf kind) source true × (hasPlain offset (layoutOf kind .refs) ≡ true) ⌝ }
+    requires { ⌜ (place + offset + 6 ≤ next) × (next + partAt (now t) kind source offset .span ≤ length (now out)) ⌝ }
+    ensures { λ r. ⌜ (r ≡ next + partAt (now (t .entry)) kind source offset .span) × (now (out .exit) ≡ laid (now (out .entry)) (place + offset) (refNum next (partAt (now (t .entry)) kind source offset .len)) next (bytesAt (now (t .entry)) kind source next offset)) ⌝ }
 {
-    if layouts::has_object(kind, p) {
-        return lay_object(out, d, h, t, kind, a, p);
+    let len = object_len(t, kind, source, offset);
+    put_slot(out, place + offset, next, len);
+    if len == 0 {
+        return next;
+    }
+    copy_into(out, next, object_bytes(t, kind, source, offset, len));
+    next + len
+}
+
+// The objects that a record names, one behind the other, and its references. It names nothing else.
+fn lay_objects(
+    out: &mut [u8],
+    place: usize,
+    next: usize,
+    t: &[u8],
+    kind: u8,
+    source: usize,
+) -> usize
+    requires { ⌜ Accepted (now t) × Seated (now t) (layoutOf kind) source true × (allPlain kind ≡ true) ⌝ }
+    requires { ⌜ (place + baseOf (layoutOf kind) ≤ next) × (next + sizeOf (slotsIn (layoutOf kind) (now t) source) ≤ length (now out)) ⌝ }
+    ensures { λ r. ⌜ (r ≡ next + sizeOf (slotsIn (layoutOf kind) (now (t .entry)) source)) × (now (out .exit) ≡ named (now (out .entry)) place next (slotsIn (layoutOf kind) (now (t .entry)) source)) ⌝ }
+{
+    let refs = kinds::reference_offsets(kind);
+    let count = refs.count;
+    let mut cursor = next;
+    let mut i: usize = 0;
+    while i < count {
+        cursor = lay_object(out, place, cursor, t, kind, source, refs.at[i]);
+        i += 1;
+    }
+    cursor
+}
+
+// A heap record, with its objects right behind it, and the reference to it at `slot` of the output.
+fn lay_held(out: &mut [u8], slot: usize, next: usize, t: &[u8], kind: u8, source: usize) -> usize
+    requires { ⌜ Accepted (now t) × Seated (now t) (layoutOf kind) source true × (allPlain kind ≡ true) ⌝ }
+    requires { ⌜ (slot + 6 ≤ next) × (next + recordPart (now t) kind (At source true) .span ≤ length (now out)) ⌝ }
+    ensures { λ r. ⌜ (r ≡ next + recordPart (now (t .entry)) kind (At source true) .span) × (now (out .exit) ≡ laid (now (out .entry)) slot (refNum next (recordPart (now (t .entry)) kind (At source true) .len)) next (recordBytes (now (t .entry)) kind next (At source true))) ⌝ }
+{
+    let size = kinds::base_size(kind);
+    put_slot(out, slot, next, size);
+    put_record(out, next, t, kind, source);
+    lay_objects(out, next, next + size, t, kind, source)
+}
+
+fn lay_record(out: &mut [u8], slot: usize, next: usize, t: &[u8], kind: u8, seat: Seat) -> usize
+    requires { ⌜ Accepted (now t) × Held (now t) kind seat × (allPlain kind ≡ true) ⌝ }
+    requires { ⌜ (slot + 6 ≤ next) × (next + recordPart (now t) kind seat .span ≤ length (now out)) ⌝ }
+    ensures { λ r. ⌜ (r ≡ next + recordPart (now (t .entry)) kind seat .span) × (now (out .exit) ≡ laid (now (out .entry)) slot (refNum next (recordPart (now (t .entry)) kind seat .len)) next (recordBytes (now (t .entry)) kind next seat)) ⌝ }
+{
+    match seat {
+        Seat::Nowhere => {
+            put_slot(out, slot, next, 0);
+            next
+        }
+        Seat::At { at, used } => lay_held(out, slot, next, t, kind, at),
+    }
+}
+
+// What a reference names, object or heap record, and the reference in the record laid.
+pub fn lay_reference(
+    out: &mut [u8],
+    place: usize,
+    next: usize,
+    t: &[u8],
+    kind: u8,
+    source: usize,
+    offset: usize,
+) -> usize
+    requires { ⌜ Accepted (now t) × Seated (now t) (layoutOf kind) source true ⌝ }
+    requires { ⌜ (place + offset + 6 ≤ next) × (next + partAt (now t) kind source offset .span ≤ length (now out)) ⌝ }
+    ensures { λ r. ⌜ (r ≡ next + partAt (now (t .entry)) kind source offset .span) × (now (out .exit) ≡ laid (now (out .entry)) (place + offset) (refNum next (partAt (now (t .entry)) kind source offset .len)) next (bytesAt (now (t .entry)) kind source next offset)) ⌝ }
+{
+    if layouts::has_object(kind, offset) {
+        return lay_object(out, place, next, t, kind, source, offset);
     }
     lay_record(
         out,
-        d + p,
-        h,
+        place + offset,
+        next,
         t,
         inner_kind(kind),
-        reads::seats::heap_record(t, kind, a),
+        reads::seats::heap_record(t, kind, source),
     )
 }

@@ -19,84 +19,98 @@ ghost use Rattle.reads.specs.Told.{toldEntry};
 ghost use Rattle.parts.specs.Parts.{slotsIn};
 ghost use Rattle.relaid.specs.Laid.{laid, named};
 
-// The references of the record at `a` in the record laid at `d`, and what they name from `u` on; the first byte behind that.
-fn lay_named(out: &mut [u8], d: usize, u: usize, t: &[u8], kind: u8, a: usize) -> usize
-    requires { ⌜ Accepted (now t) × Seated (now t) (layoutOf kind) a true ⌝ }
-    requires { ⌜ (d + baseOf (layoutOf kind) ≤ u) × (u + sizeOf (slotsIn (layoutOf kind) (now t) a) ≤ length (now out)) ⌝ }
-    ensures { λ r. ⌜ (r ≡ u + sizeOf (slotsIn (layoutOf kind) (now (t .entry)) a)) × (now (out .exit) ≡ named (now (out .entry)) d u (slotsIn (layoutOf kind) (now (t .entry)) a)) ⌝ }
+// The references of a record in the record laid, and what they name.
+fn lay_named(out: &mut [u8], place: usize, next: usize, t: &[u8], kind: u8, source: usize) -> usize
+    requires { ⌜ Accepted (now t) × Seated (now t) (layoutOf kind) source true ⌝ }
+    requires { ⌜ (place + baseOf (layoutOf kind) ≤ next) × (next + sizeOf (slotsIn (layoutOf kind) (now t) source) ≤ length (now out)) ⌝ }
+    ensures { λ r. ⌜ (r ≡ next + sizeOf (slotsIn (layoutOf kind) (now (t .entry)) source)) × (now (out .exit) ≡ named (now (out .entry)) place next (slotsIn (layoutOf kind) (now (t .entry)) source)) ⌝ }
 {
     let refs = kinds::reference_offsets(kind);
-    let n = refs.count;
-    let mut h = u;
+    let count = refs.count;
+    let mut cursor = next;
     let mut i: usize = 0;
-    while i < n {
-        h = lay_reference(out, d, h, t, kind, a, refs.at[i]);
+    while i < count {
+        cursor = lay_reference(out, place, cursor, t, kind, source, refs.at[i]);
         i += 1;
     }
-    h
+    cursor
 }
 
-// A used record at `d`, and what it names from `u` on; the first byte behind that.
-fn lay_used(out: &mut [u8], d: usize, u: usize, t: &[u8], kind: u8, a: usize) -> usize
-    requires { ⌜ Accepted (now t) × Seated (now t) (layoutOf kind) a true ⌝ }
-    requires { ⌜ (d + baseOf (layoutOf kind) ≤ u) × (u + sizeOf (slotsIn (layoutOf kind) (now t) a) ≤ length (now out)) ⌝ }
-    ensures { λ r. ⌜ (r ≡ u + sizeOf (slotsIn (layoutOf kind) (now (t .entry)) a)) × (now (out .exit) ≡ laid (now (out .entry)) d (patched u (imageIn (layoutOf kind) (now (t .entry)) a) (slotsIn (layoutOf kind) (now (t .entry)) a)) u (heapOf u (slotsIn (layoutOf kind) (now (t .entry)) a))) ⌝ }
+// A used record, and what it names.
+fn lay_used(out: &mut [u8], place: usize, next: usize, t: &[u8], kind: u8, source: usize) -> usize
+    requires { ⌜ Accepted (now t) × Seated (now t) (layoutOf kind) source true ⌝ }
+    requires { ⌜ (place + baseOf (layoutOf kind) ≤ next) × (next + sizeOf (slotsIn (layoutOf kind) (now t) source) ≤ length (now out)) ⌝ }
+    ensures { λ r. ⌜ (r ≡ next + sizeOf (slotsIn (layoutOf kind) (now (t .entry)) source)) × (now (out .exit) ≡ laid (now (out .entry)) place (patched next (imageIn (layoutOf kind) (now (t .entry)) source) (slotsIn (layoutOf kind) (now (t .entry)) source)) next (heapOf next (slotsIn (layoutOf kind) (now (t .entry)) source))) ⌝ }
 {
-    put_record(out, d, t, kind, a);
-    lay_named(out, d, u, t, kind, a)
+    put_record(out, place, t, kind, source);
+    lay_named(out, place, next, t, kind, source)
 }
 
 // An unused record is zeros and names nothing.
-fn lay_unused(out: &mut [u8], d: usize, u: usize, kind: u8) -> usize
-    requires { ⌜ d + baseOf (layoutOf kind) ≤ length (now out) ⌝ }
-    ensures { λ r. ⌜ (r ≡ u) × (now (out .exit) ≡ splice (now (out .entry)) d (replicate (baseOf (layoutOf kind)) 0)) ⌝ }
+fn lay_unused(out: &mut [u8], place: usize, next: usize, kind: u8) -> usize
+    requires { ⌜ place + baseOf (layoutOf kind) ≤ length (now out) ⌝ }
+    ensures { λ r. ⌜ (r ≡ next) × (now (out .exit) ≡ splice (now (out .entry)) place (replicate (baseOf (layoutOf kind)) 0)) ⌝ }
 {
     let size = kinds::base_size(kind);
-    fill_zero(out, d, size);
-    u
+    fill_zero(out, place, size);
+    next
 }
 
-// The record of a kind and position at `d`, and what it names from `u` on.
-pub fn lay_entry(out: &mut [u8], d: usize, u: usize, t: &[u8], kind: u8, n: usize) -> usize
+// The record of a kind and position, and what it names.
+pub fn lay_entry(
+    out: &mut [u8],
+    place: usize,
+    next: usize,
+    t: &[u8],
+    kind: u8,
+    position: usize,
+) -> usize
     requires { ⌜ Accepted (now t) ⌝ }
-    requires { ⌜ (d + baseOf (layoutOf kind) ≤ u) × (u + sizeEntry (toldEntry (layoutOf kind) (now t) kind n) ≤ length (now out)) ⌝ }
-    ensures { λ r. ⌜ (r ≡ u + sizeEntry (toldEntry (layoutOf kind) (now (t .entry)) kind n)) × (now (out .exit) ≡ laid (now (out .entry)) d (recEntry u (toldEntry (layoutOf kind) (now (t .entry)) kind n)) u (heapEntry u (toldEntry (layoutOf kind) (now (t .entry)) kind n))) ⌝ }
+    requires { ⌜ (place + baseOf (layoutOf kind) ≤ next) × (next + sizeEntry (toldEntry (layoutOf kind) (now t) kind position) ≤ length (now out)) ⌝ }
+    ensures { λ r. ⌜ (r ≡ next + sizeEntry (toldEntry (layoutOf kind) (now (t .entry)) kind position)) × (now (out .exit) ≡ laid (now (out .entry)) place (recEntry next (toldEntry (layoutOf kind) (now (t .entry)) kind position)) next (heapEntry next (toldEntry (layoutOf kind) (now (t .entry)) kind position))) ⌝ }
 {
-    let s = seat_of(t, kind, n);
-    match s {
-        Seat::Nowhere => lay_unused(out, d, u, kind),
+    let seat = seat_of(t, kind, position);
+    match seat {
+        Seat::Nowhere => lay_unused(out, place, next, kind),
         Seat::At { at, used } => if used {
-            lay_used(out, d, u, t, kind, at)
+            lay_used(out, place, next, t, kind, at)
         } else {
-            lay_unused(out, d, u, kind)
+            lay_unused(out, place, next, kind)
         },
     }
 }
 
 // The same of a list, by functions of its own: with two callers the walk over references stays a function by itself, of which the compiler
 // then makes a copy for each list, with that kind's constants (docs/PERFORMANCE.md).
-fn lay_listed(out: &mut [u8], d: usize, u: usize, t: &[u8], kind: u8, a: usize) -> usize
-    requires { ⌜ Accepted (now t) × Seated (now t) (layoutOf kind) a true ⌝ }
-    requires { ⌜ (d + baseOf (layoutOf kind) ≤ u) × (u + sizeOf (slotsIn (layoutOf kind) (now t) a) ≤ length (now out)) ⌝ }
-    ensures { λ r. ⌜ (r ≡ u + sizeOf (slotsIn (layoutOf kind) (now (t .entry)) a)) × (now (out .exit) ≡ laid (now (out .entry)) d (patched u (imageIn (layoutOf kind) (now (t .entry)) a) (slotsIn (layoutOf kind) (now (t .entry)) a)) u (heapOf u (slotsIn (layoutOf kind) (now (t .entry)) a))) ⌝ }
+fn lay_listed(out: &mut [u8], place: usize, next: usize, t: &[u8], kind: u8, source: usize) -> usize
+    requires { ⌜ Accepted (now t) × Seated (now t) (layoutOf kind) source true ⌝ }
+    requires { ⌜ (place + baseOf (layoutOf kind) ≤ next) × (next + sizeOf (slotsIn (layoutOf kind) (now t) source) ≤ length (now out)) ⌝ }
+    ensures { λ r. ⌜ (r ≡ next + sizeOf (slotsIn (layoutOf kind) (now (t .entry)) source)) × (now (out .exit) ≡ laid (now (out .entry)) place (patched next (imageIn (layoutOf kind) (now (t .entry)) source) (slotsIn (layoutOf kind) (now (t .entry)) source)) next (heapOf next (slotsIn (layoutOf kind) (now (t .entry)) source))) ⌝ }
 {
-    put_record(out, d, t, kind, a);
-    lay_named(out, d, u, t, kind, a)
+    put_record(out, place, t, kind, source);
+    lay_named(out, place, next, t, kind, source)
 }
 
 // The record at a position of a list.
-pub fn lay_position(out: &mut [u8], d: usize, u: usize, t: &[u8], kind: u8, n: usize) -> usize
+pub fn lay_position(
+    out: &mut [u8],
+    place: usize,
+    next: usize,
+    t: &[u8],
+    kind: u8,
+    position: usize,
+) -> usize
     requires { ⌜ Accepted (now t) ⌝ }
-    requires { ⌜ (d + baseOf (layoutOf kind) ≤ u) × (u + sizeEntry (toldEntry (layoutOf kind) (now t) kind n) ≤ length (now out)) ⌝ }
-    ensures { λ r. ⌜ (r ≡ u + sizeEntry (toldEntry (layoutOf kind) (now (t .entry)) kind n)) × (now (out .exit) ≡ laid (now (out .entry)) d (recEntry u (toldEntry (layoutOf kind) (now (t .entry)) kind n)) u (heapEntry u (toldEntry (layoutOf kind) (now (t .entry)) kind n))) ⌝ }
+    requires { ⌜ (place + baseOf (layoutOf kind) ≤ next) × (next + sizeEntry (toldEntry (layoutOf kind) (now t) kind position) ≤ length (now out)) ⌝ }
+    ensures { λ r. ⌜ (r ≡ next + sizeEntry (toldEntry (layoutOf kind) (now (t .entry)) kind position)) × (now (out .exit) ≡ laid (now (out .entry)) place (recEntry next (toldEntry (layoutOf kind) (now (t .entry)) kind position)) next (heapEntry next (toldEntry (layoutOf kind) (now (t .entry)) kind position))) ⌝ }
 {
-    let s = seat_of(t, kind, n);
-    match s {
-        Seat::Nowhere => lay_unused(out, d, u, kind),
+    let seat = seat_of(t, kind, position);
+    match seat {
+        Seat::Nowhere => lay_unused(out, place, next, kind),
         Seat::At { at, used } => if used {
-            lay_listed(out, d, u, t, kind, at)
+            lay_listed(out, place, next, t, kind, at)
         } else {
-            lay_unused(out, d, u, kind)
+            lay_unused(out, place, next, kind)
         },
     }
 }

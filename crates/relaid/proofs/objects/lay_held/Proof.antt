@@ -38,8 +38,8 @@ returns : tie.Need-returns
 unfolding recordPart
 returns c = let s = c .before .before .before .before .before .before .before .before .before .before .before .before .before .before .before in let a = s .args in let t = a .t .now in let k = a .kind in let x = a .out .now in let b = c .before .before .before .before .before .before .before .before .before .before .before .before .base-size .ensures in let l = c .before .before .lay-objects .ensures in (
   omega (arith, l .0, b),
-  held-laid t (s .pre .0 .0) k (a .a) (s .pre .0 .1) x (c .before .before .lay-objects .last .0) (a .r) (a .h) (s .pre .1 .0) (s .pre .1 .1)
-      (l .1 ∙ ap₂ (λ (y : List ℕ) (v : ℕ). named y (a .h) (a .h + v) (slotsIn (layoutOf k) t (a .a))) (c .before .before .before .before .before .before .put-record .ensures ∙ ap (λ (y : List ℕ). splice y (a .h) (imageIn (layoutOf k) t (a .a))) (c .before .before .before .before .before .before .before .before .before .before .put-slot .ensures ∙ ap (λ (m : ℕ). splice x (a .r) (refNum (a .h) m)) b)) b),
+  held-laid t (s .pre .0 .0) k (a .source) (s .pre .0 .1) x (c .before .before .lay-objects .last .0) (a .slot) (a .next) (s .pre .1 .0) (s .pre .1 .1)
+      (l .1 ∙ ap₂ (λ (y : List ℕ) (v : ℕ). named y (a .next) (a .next + v) (slotsIn (layoutOf k) t (a .source))) (c .before .before .before .before .before .before .put-record .ensures ∙ ap (λ (y : List ℕ). splice y (a .next) (imageIn (layoutOf k) t (a .source))) (c .before .before .before .before .before .before .before .before .before .before .put-slot .ensures ∙ ap (λ (m : ℕ). splice x (a .slot) (refNum (a .next) m)) b)) b),
 )
 
 pub lay-held-spec : {M : Type 1} → statement M

@@ -14,26 +14,26 @@ enum-told c = search needs
 put-slot-requires : tie.Need-put-slot-requires
 put-slot-requires c κs = search needs
 
-enum-known-s : tie.Need-enum-known-s
-enum-known-s c = search needs
+enum-known-seat : tie.Need-enum-known-seat
+enum-known-seat c = search needs
 
 lay-held-requires : tie.Need-lay-held-requires
 unfolding recordPart
-lay-held-requires c κs = let s = c .before .before .before .before .before .before in ((s .pre .0 .0, rw (c .before .before .s .given .1) at (s .pre .0 .1), s .pre .0 .2), rw (c .before .before .s .given .1) at (s .pre .1))
+lay-held-requires c κs = let s = c .before .before .before .before .before .before in ((s .pre .0 .0, rw (c .before .before .seat .given .1) at (s .pre .0 .1), s .pre .0 .2), rw (c .before .before .seat .given .1) at (s .pre .1))
 
 same-length : tie.Need-same-length
 same-length c = search needs
 
 returns : tie.Need-returns
 unfolding recordPart recordBytes
-returns c = let a = c .before .before .before .before .before .before .before .before .args in rw (c .before .before .before .before .enum-told .given .1) (sym (add-zero (a .h)), c .before .before .put-slot .ensures ∙ splice-none (splice (a .out .now) (a .r) (refNum (a .h) 0)) (a .h))
+returns c = let a = c .before .before .before .before .before .before .before .before .args in rw (c .before .before .before .before .enum-told .given .1) (sym (add-zero (a .next)), c .before .before .put-slot .ensures ∙ splice-none (splice (a .out .now) (a .slot) (refNum (a .next) 0)) (a .next))
 
 same-length-2 : tie.Need-same-length-2
 same-length-2 c = search needs
 
 returns-2 : tie.Need-returns-2
 unfolding recordPart recordBytes
-returns-2 c = rw (c .before .before .before .before .before .s .given .1) (c .before .before .lay-held .ensures)
+returns-2 c = rw (c .before .before .before .before .before .seat .given .1) (c .before .before .lay-held .ensures)
 
 pub lay-record-spec : {M : Type 1} → statement M
 lay-record-spec =
@@ -41,7 +41,7 @@ lay-record-spec =
     (tie.spec
     enum-told
     put-slot-requires
-    enum-known-s
+    enum-known-seat
     lay-held-requires
     same-length
     returns

@@ -28,8 +28,8 @@ part-image-into-end : tie.Need-part-image-into-end
 part-image-into-end c = search needs
 
 image-into-requires : tie.Need-image-into-requires
-image-into-requires c κs = let s = c .before .before .before .before in let a = s .args in let b = c .before .base-size in let x = a .out .now in let k : ℕ = a .d + b .result - a .d in
-    let l : length (take k (drop (a .d) x)) ≡ k = length-take-le k (drop (a .d) x) (rw length-drop (omega (arith, b .ensures, s .pre .2))) in
+image-into-requires c κs = let s = c .before .before .before .before in let a = s .args in let b = c .before .base-size in let x = a .out .now in let k : ℕ = a .place + b .result - a .place in
+    let l : length (take k (drop (a .place) x)) ≡ k = length-take-le k (drop (a .place) x) (rw length-drop (omega (arith, b .ensures, s .pre .2))) in
     (s .pre .0, s .pre .1, omega (arith, l, b .ensures))
 
 same-length : tie.Need-same-length
@@ -39,9 +39,9 @@ returns : tie.Need-returns
 unfolding imageIn
 returns c = let s = c .before .before .before .before .before .before .before in let a = s .args in let x = a .out .now in let b = c .before .before .before .before .base-size in
     let y = c .before .before .image-into in
-    let k : ℕ = a .d + b .result - a .d in
-    let l : length (take k (drop (a .d) x)) ≡ k = length-take-le k (drop (a .d) x) (rw length-drop (omega (arith, b .ensures, s .pre .2))) in
-    lent x (a .d) k (y .last .0) (y .kept .0 ∙ l) ∙ ap (splice x (a .d)) (y .ensures ∙ image-front (layoutOf (a .kind)) (a .t .now) (a .a))
+    let k : ℕ = a .place + b .result - a .place in
+    let l : length (take k (drop (a .place) x)) ≡ k = length-take-le k (drop (a .place) x) (rw length-drop (omega (arith, b .ensures, s .pre .2))) in
+    lent x (a .place) k (y .last .0) (y .kept .0 ∙ l) ∙ ap (splice x (a .place)) (y .ensures ∙ image-front (layoutOf (a .kind)) (a .t .now) (a .source))
 
 pub put-record-spec : {M : Type 1} → statement M
 put-record-spec =

@@ -25,12 +25,12 @@ enum-told c = search needs
 lay-unused-requires : tie.Need-lay-unused-requires
 lay-unused-requires c κs = search needs
 
-enum-known-s : tie.Need-enum-known-s
-enum-known-s c = search needs
+enum-known-seat : tie.Need-enum-known-seat
+enum-known-seat c = search needs
 
 lay-listed-requires : tie.Need-lay-listed-requires
 unfolding sizeEntry slotsIn
-lay-listed-requires c κs = let s = c .before .before .before .before .before .before .before .before in let a = s .args in let t = a .t .now in let k = a .kind in let e = (sym (c .before .before .before .before .before .seat-of .ensures) ∙ ap (asSeat (layoutOf (s .args .kind))) (c .before .before .before .s .given .1) ∙ ap (seat (layoutOf (s .args .kind)) (c .before .before .before .s .given .0 .0)) (c .before .if1 .taken)) in let z = ap sizeEntry (entry-on t k (a .n) (c .before .before .before .s .given .0 .0) e) in ((s .pre .0, seated-at t (s .pre .0) k (a .n) (c .before .before .before .s .given .0 .0) true e), (s .pre .1 .0, omega (arith, z, s .pre .1)))
+lay-listed-requires c κs = let s = c .before .before .before .before .before .before .before .before in let a = s .args in let t = a .t .now in let k = a .kind in let e = (sym (c .before .before .before .before .before .seat-of .ensures) ∙ ap (asSeat (layoutOf (s .args .kind))) (c .before .before .before .seat .given .1) ∙ ap (seat (layoutOf (s .args .kind)) (c .before .before .before .seat .given .0 .0)) (c .before .if1 .taken)) in let z = ap sizeEntry (entry-on t k (a .position) (c .before .before .before .seat .given .0 .0) e) in ((s .pre .0, seated-at t (s .pre .0) k (a .position) (c .before .before .before .seat .given .0 .0) true e), (s .pre .1 .0, omega (arith, z, s .pre .1)))
 
 lay-unused-requires-2 : tie.Need-lay-unused-requires-2
 lay-unused-requires-2 c κs = search needs
@@ -40,21 +40,21 @@ same-length c = search needs
 
 returns : tie.Need-returns
 unfolding sizeEntry recEntry heapEntry
-returns c = let s = c .before .before .before .before .before .before .before .before .before in let a = s .args in let t = a .t .now in let k = a .kind in rw (entry-nowhere t k (a .n) (sym (c .before .before .before .before .before .before .seat-of .ensures) ∙ ap (asSeat (layoutOf (s .args .kind))) (c .before .before .before .before .enum-told .given .1))) (c .before .before .lay-unused .ensures .0 ∙ sym (add-zero (a .u)), c .before .before .lay-unused .ensures .1 ∙ splice-none (splice (a .out .now) (a .d) (replicate (baseOf (layoutOf k)) 0)) (a .u))
+returns c = let s = c .before .before .before .before .before .before .before .before .before in let a = s .args in let t = a .t .now in let k = a .kind in rw (entry-nowhere t k (a .position) (sym (c .before .before .before .before .before .before .seat-of .ensures) ∙ ap (asSeat (layoutOf (s .args .kind))) (c .before .before .before .before .enum-told .given .1))) (c .before .before .lay-unused .ensures .0 ∙ sym (add-zero (a .next)), c .before .before .lay-unused .ensures .1 ∙ splice-none (splice (a .out .now) (a .place) (replicate (baseOf (layoutOf k)) 0)) (a .next))
 
 same-length-2 : tie.Need-same-length-2
 same-length-2 c = search needs
 
 returns-2 : tie.Need-returns-2
 unfolding sizeEntry recEntry heapEntry slotsIn
-returns-2 c = let s = c .before .before .before .before .before .before .before .before .before .before .before in let a = s .args in let t = a .t .now in let k = a .kind in rw (entry-on t k (a .n) (c .before .before .before .before .before .before .s .given .0 .0) (sym (c .before .before .before .before .before .before .before .before .seat-of .ensures) ∙ ap (asSeat (layoutOf (s .args .kind))) (c .before .before .before .before .before .before .s .given .1) ∙ ap (seat (layoutOf (s .args .kind)) (c .before .before .before .before .before .before .s .given .0 .0)) (c .before .before .before .before .if1 .taken))) (c .before .before .lay-listed .ensures)
+returns-2 c = let s = c .before .before .before .before .before .before .before .before .before .before .before in let a = s .args in let t = a .t .now in let k = a .kind in rw (entry-on t k (a .position) (c .before .before .before .before .before .before .seat .given .0 .0) (sym (c .before .before .before .before .before .before .before .before .seat-of .ensures) ∙ ap (asSeat (layoutOf (s .args .kind))) (c .before .before .before .before .before .before .seat .given .1) ∙ ap (seat (layoutOf (s .args .kind)) (c .before .before .before .before .before .before .seat .given .0 .0)) (c .before .before .before .before .if1 .taken))) (c .before .before .lay-listed .ensures)
 
 same-length-3 : tie.Need-same-length-3
 same-length-3 c = search needs
 
 returns-3 : tie.Need-returns-3
 unfolding sizeEntry recEntry heapEntry
-returns-3 c = let s = c .before .before .before .before .before .before .before .before .before .before .before in let a = s .args in let t = a .t .now in let k = a .kind in rw (entry-off t k (a .n) (c .before .before .before .before .before .before .s .given .0 .0) (sym (c .before .before .before .before .before .before .before .before .seat-of .ensures) ∙ ap (asSeat (layoutOf (s .args .kind))) (c .before .before .before .before .before .before .s .given .1) ∙ ap (seat (layoutOf (s .args .kind)) (c .before .before .before .before .before .before .s .given .0 .0)) (c .before .before .before .before .if1 .left))) (c .before .before .lay-unused2 .ensures .0 ∙ sym (add-zero (a .u)), c .before .before .lay-unused2 .ensures .1 ∙ splice-none (splice (a .out .now) (a .d) (replicate (baseOf (layoutOf k)) 0)) (a .u))
+returns-3 c = let s = c .before .before .before .before .before .before .before .before .before .before .before in let a = s .args in let t = a .t .now in let k = a .kind in rw (entry-off t k (a .position) (c .before .before .before .before .before .before .seat .given .0 .0) (sym (c .before .before .before .before .before .before .before .before .seat-of .ensures) ∙ ap (asSeat (layoutOf (s .args .kind))) (c .before .before .before .before .before .before .seat .given .1) ∙ ap (seat (layoutOf (s .args .kind)) (c .before .before .before .before .before .before .seat .given .0 .0)) (c .before .before .before .before .if1 .left))) (c .before .before .lay-unused2 .ensures .0 ∙ sym (add-zero (a .next)), c .before .before .lay-unused2 .ensures .1 ∙ splice-none (splice (a .out .now) (a .place) (replicate (baseOf (layoutOf k)) 0)) (a .next))
 
 pub lay-position-spec : {M : Type 1} → statement M
 lay-position-spec =
@@ -63,7 +63,7 @@ lay-position-spec =
     seat-of-requires
     enum-told
     lay-unused-requires
-    enum-known-s
+    enum-known-seat
     lay-listed-requires
     lay-unused-requires-2
     same-length
