@@ -1,4 +1,5 @@
-// The lists of an accepted table laid anew, one behind the other.
+// The lists of the accepted table `t` laid anew in `out`, one behind the other from `place` on; what they name is laid from `next` on, where the heap
+// goes on.
 use parts::sizes::list_span;
 use relaid::records::lay_position;
 use seat_reads::counts::count_of;
@@ -18,36 +19,36 @@ ghost use Rattle.reads.specs.Told.{countOf};
 ghost use Rattle.parts.specs.Parts.{listOf};
 ghost use Rattle.relaid.specs.Laid.{laid};
 
-// The list of a kind.
-pub fn lay_list(out: &mut [u8], d: usize, u: usize, t: &[u8], kind: u8) -> usize
+// The list of a kind; where the heap goes on then.
+pub fn lay_list(out: &mut [u8], place: usize, next: usize, t: &[u8], kind: u8) -> usize
     requires { ⌜ Accepted (now t) ⌝ }
-    requires { ⌜ (d + countOf (now t) kind * baseOf (layoutOf kind) ≤ u) × (u + sizeList (listOf (now t) kind) ≤ length (now out)) ⌝ }
-    ensures { λ r. ⌜ (r ≡ u + sizeList (listOf (now (t .entry)) kind)) × (now (out .exit) ≡ laid (now (out .entry)) d (recsList u (listOf (now (t .entry)) kind)) u (heapList u (listOf (now (t .entry)) kind))) ⌝ }
+    requires { ⌜ (place + countOf (now t) kind * baseOf (layoutOf kind) ≤ next) × (next + sizeList (listOf (now t) kind) ≤ length (now out)) ⌝ }
+    ensures { λ r. ⌜ (r ≡ next + sizeList (listOf (now (t .entry)) kind)) × (now (out .exit) ≡ laid (now (out .entry)) place (recsList next (listOf (now (t .entry)) kind)) next (heapList next (listOf (now (t .entry)) kind))) ⌝ }
 {
-    let n = count_of(t, kind);
+    let count = count_of(t, kind);
     let base = kinds::base_size(kind);
-    let mut at = d;
-    let mut h = u;
-    let mut i: usize = 0;
-    while i < n {
-        i += 1;
-        h = lay_position(out, at, h, t, kind, i);
+    let mut at = place;
+    let mut cursor = next;
+    let mut position: usize = 0;
+    while position < count {
+        position += 1;
+        cursor = lay_position(out, at, cursor, t, kind, position);
         at += base;
     }
-    h
+    cursor
 }
 
-// The four lists from `d` on, and what they name from `u` on.
-pub fn lay_lists(out: &mut [u8], d: usize, u: usize, t: &[u8])
+// The four lists.
+pub fn lay_lists(out: &mut [u8], place: usize, next: usize, t: &[u8])
     requires { ⌜ Accepted (now t) ⌝ }
-    requires { ⌜ (d + spanBody (meaning (now t) .lists) ≤ u) × (u + sizeBody (meaning (now t) .lists) ≤ length (now out)) ⌝ }
-    ensures { λ r. ⌜ now (out .exit) ≡ laid (now (out .entry)) d (recsBody u (meaning (now (t .entry)) .lists)) u (heapBody u (meaning (now (t .entry)) .lists)) ⌝ }
+    requires { ⌜ (place + spanBody (meaning (now t) .lists) ≤ next) × (next + sizeBody (meaning (now t) .lists) ≤ length (now out)) ⌝ }
+    ensures { λ r. ⌜ now (out .exit) ≡ laid (now (out .entry)) place (recsBody next (meaning (now (t .entry)) .lists)) next (heapBody next (meaning (now (t .entry)) .lists)) ⌝ }
 {
-    let ssns = d + list_span(t, Hfi::ID);
+    let ssns = place + list_span(t, Hfi::ID);
     let security = ssns + list_span(t, Ssns::ID);
     let discovery = security + list_span(t, Security::ID);
-    let h = lay_list(out, d, u, t, Hfi::ID);
-    let i = lay_list(out, ssns, h, t, Ssns::ID);
-    let j = lay_list(out, security, i, t, Security::ID);
-    lay_list(out, discovery, j, t, Discovery::ID);
+    let ssns_next = lay_list(out, place, next, t, Hfi::ID);
+    let security_next = lay_list(out, ssns, ssns_next, t, Ssns::ID);
+    let discovery_next = lay_list(out, security, security_next, t, Security::ID);
+    lay_list(out, discovery, discovery_next, t, Discovery::ID);
 }
