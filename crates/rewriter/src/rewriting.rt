@@ -29,10 +29,10 @@ ghost use Rattle.reads.specs.Told.{countOf, oemOf};
 ghost use Rattle.seat_reads.specs.Driver.{driverOf};
 ghost use Rattle.front.specs.Front.{headerFor, controlFor};
 
-// Header and control record; `n` is Length, `h` and `k` are place and length of the heap, `d` is the length of the driver signature.
-fn lay_front(out: &mut [u8], t: &[u8], n: usize, h: usize, k: usize, d: usize)
+// Header and control record: a table of `size` bytes, a heap of `heapsize` bytes at `heap`, a driver signature of `signature` bytes first in it.
+fn lay_front(out: &mut [u8], t: &[u8], size: usize, heap: usize, heapsize: usize, signature: usize)
     requires { ⌜ Accepted (now t) × (heapAt (meaning (now t)) ≤ length (now out)) ⌝ }
-    ensures { λ r. ⌜ now (out .exit) ≡ splice (splice (now (out .entry)) 0 (headerFor n (oemOf (now (t .entry))) h k d)) 64 (controlFor (countOf (now (t .entry)) 3 ∷ countOf (now (t .entry)) 4 ∷ countOf (now (t .entry)) 5 ∷ countOf (now (t .entry)) 6 ∷ [])) ⌝ }
+    ensures { λ r. ⌜ now (out .exit) ≡ splice (splice (now (out .entry)) 0 (headerFor size (oemOf (now (t .entry))) heap heapsize signature)) 64 (controlFor (countOf (now (t .entry)) 3 ∷ countOf (now (t .entry)) 4 ∷ countOf (now (t .entry)) 5 ∷ countOf (now (t .entry)) 6 ∷ [])) ⌝ }
 {
     let counts = Counts {
         hfi: count_byte(t, Hfi::ID),
@@ -40,44 +40,50 @@ fn lay_front(out: &mut [u8], t: &[u8], n: usize, h: usize, k: usize, d: usize)
         security: count_byte(t, Security::ID),
         discovery: count_byte(t, Discovery::ID),
     };
-    write_front(out, oem(t), counts, n, h, k, d);
+    write_front(out, oem(t), counts, size, heap, heapsize, signature);
 }
 
 // The one form but for its checksum, which is 0; the length of the driver signature. The header is laid like any record, and written over once it is known how long
 // the driver signature is.
-fn lay_form(out: &mut [u8], t: &[u8], n: usize, h: usize) -> usize
-    requires { ⌜ Accepted (now t) × (n ≡ formLength (meaning (now t))) × (h ≡ heapAt (meaning (now t))) × (n ≤ length (now out)) ⌝ }
-    ensures { λ r. ⌜ (r ≡ length (driverOf (now (t .entry)))) × (now (out .exit) ≡ splice (now (out .entry)) 0 (laidOut (meaning (now (t .entry))) n 0 (heapLen (meaning (now (t .entry)))))) ⌝ }
+fn lay_form(out: &mut [u8], t: &[u8], size: usize, heap: usize) -> usize
+    requires { ⌜ Accepted (now t) × (size ≡ formLength (meaning (now t))) × (heap ≡ heapAt (meaning (now t))) × (size ≤ length (now out)) ⌝ }
+    ensures { λ r. ⌜ (r ≡ length (driverOf (now (t .entry)))) × (now (out .exit) ≡ splice (now (out .entry)) 0 (laidOut (meaning (now (t .entry))) size 0 (heapLen (meaning (now (t .entry)))))) ⌝ }
 {
-    let b = lay_entry(out, 0, h, t, Header::ID, 0);
-    let d = b - h;
-    lay_front(out, t, n, h, n - h, d);
-    let u = lay_entry(out, table::FRONT, b, t, Host::ID, 0);
-    lay_lists(out, table::SHORTEST, u, t);
-    d
+    let after_driver = lay_entry(out, 0, heap, t, Header::ID, 0);
+    let signature = after_driver - heap;
+    lay_front(out, t, size, heap, size - heap, signature);
+    let after_host = lay_entry(out, table::FRONT, after_driver, t, Host::ID, 0);
+    lay_lists(out, table::SHORTEST, after_host, t);
+    signature
 }
 
-fn refused(a: Answer) -> Rewritten
-    ensures { λ r. ⌜ (r .answer ≡ a) × (r .len ≡ 0) ⌝ }
+fn refused(answer: Answer) -> Rewritten
+    ensures { λ r. ⌜ (r .answer ≡ answer) × (r .len ≡ 0) ⌝ }
 {
-    Rewritten { answer: a, len: 0 }
+    Rewritten {
+        answer: answer,
+        len: 0,
+    }
 }
 
 // The table's one form in the first bytes of `out`, and its length. Any bytes may be handed in.
 pub fn rewrite(t: &[u8], out: &mut [u8]) -> Rewritten
     ensures { λ r. ⌜ (r ≡ definition.rewrite (now (t .entry)) (length (now (out .entry)))) × (now (out .exit) ≡ definition.rewriteBytes (now (t .entry)) (now (out .entry))) ⌝ }
 {
-    let a = reader::check(t);
-    if a.number != 0 {
-        return refused(a);
+    let judged = reader::check(t);
+    if judged.number != 0 {
+        return refused(judged);
     }
-    let n = form_length(t);
-    let f = room_fault(n, out.len());
-    if f.number != 0 {
-        return refused(f);
+    let size = form_length(t);
+    let room = room_fault(size, out.len());
+    if room.number != 0 {
+        return refused(room);
     }
-    let h = heap_start(t);
-    let d = lay_form(out, t, n, h);
-    seal(out, n, t, h, d);
-    Rewritten { answer: f, len: n }
+    let heap = heap_start(t);
+    let signature = lay_form(out, t, size, heap);
+    seal(out, size, t, heap, signature);
+    Rewritten {
+        answer: room,
+        len: size,
+    }
 }

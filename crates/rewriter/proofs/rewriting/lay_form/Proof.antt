@@ -16,32 +16,32 @@ use Rattle.rewriter.proofs.rewriting.lay_form.Statement.{statement}
 use Rattle.rewriter.proofs.rewriting.lay_form.Tie as tie
 
 lay-entry-requires : tie.Need-lay-entry-requires
-lay-entry-requires c κs = let s = c .before .before .before in let t = s .args .t .now in let ok = s .pre .0 in let b : Bytes t = λ i. omega (arith, c .before .shared-slice-known .given i) in let z = sizes-are t b ok (s .args .n) (s .args .h) (s .pre .1) (s .pre .2) in (ok, (omega (arith, z .0, base-small 0), omega (arith, z .1, s .pre .3)))
+lay-entry-requires c κs = let s = c .before .before .before in let t = s .args .t .now in let ok = s .pre .0 in let b : Bytes t = λ i. omega (arith, c .before .shared-slice-known .given i) in let z = sizes-are t b ok (s .args .size) (s .args .heap) (s .pre .1) (s .pre .2) in (ok, (omega (arith, z .0, base-small 0), omega (arith, z .1, s .pre .3)))
 
-sub-d : tie.Need-sub-d
-sub-d c = search needs
+sub-signature : tie.Need-sub-signature
+sub-signature c = search needs
 
 sub-lay-front : tie.Need-sub-lay-front
-sub-lay-front c = let s = c .before .before .before .before .before .before .before in let t = s .args .t .now in let ok = s .pre .0 in let b : Bytes t = λ i. omega (arith, c .before .before .before .before .before .shared-slice-known .given i) in let z = sizes-are t b ok (s .args .n) (s .args .h) (s .pre .1) (s .pre .2) in omega (arith, z .1)
+sub-lay-front c = let s = c .before .before .before .before .before .before .before in let t = s .args .t .now in let ok = s .pre .0 in let b : Bytes t = λ i. omega (arith, c .before .before .before .before .before .shared-slice-known .given i) in let z = sizes-are t b ok (s .args .size) (s .args .heap) (s .pre .1) (s .pre .2) in omega (arith, z .1)
 
 lay-front-requires : tie.Need-lay-front-requires
-lay-front-requires c κs = let s = c .before .before .before .before .before .before .before in let t = s .args .t .now in let ok = s .pre .0 in let b : Bytes t = λ i. omega (arith, c .before .before .before .before .before .shared-slice-known .given i) in let z = sizes-are t b ok (s .args .n) (s .args .h) (s .pre .1) (s .pre .2) in (ok, omega (arith, z .1, s .pre .2, s .pre .3, c .before .before .before .lay-entry .kept .0))
+lay-front-requires c κs = let s = c .before .before .before .before .before .before .before in let t = s .args .t .now in let ok = s .pre .0 in let b : Bytes t = λ i. omega (arith, c .before .before .before .before .before .shared-slice-known .given i) in let z = sizes-are t b ok (s .args .size) (s .args .heap) (s .pre .1) (s .pre .2) in (ok, omega (arith, z .1, s .pre .2, s .pre .3, c .before .before .before .lay-entry .kept .0))
 
 lay-entry-requires-2 : tie.Need-lay-entry-requires-2
 unfolding layoutOf host
-lay-entry-requires-2 c κs = let s = c .before .before .before .before .before .before .before .before .before .before .before in let t = s .args .t .now in let ok = s .pre .0 in let b : Bytes t = λ i. omega (arith, c .before .before .before .before .before .before .before .before .before .shared-slice-known .given i) in let z = sizes-are t b ok (s .args .n) (s .args .h) (s .pre .1) (s .pre .2) in let e = c .before .before .before .before .before .before .before .lay-entry in (ok, (omega (arith, z .0, e .ensures .0), omega (arith, z .1, e .ensures .0, s .pre .3, e .kept .0, c .before .before .before .lay-front .kept .0)))
+lay-entry-requires-2 c κs = let s = c .before .before .before .before .before .before .before .before .before .before .before in let t = s .args .t .now in let ok = s .pre .0 in let b : Bytes t = λ i. omega (arith, c .before .before .before .before .before .before .before .before .before .shared-slice-known .given i) in let z = sizes-are t b ok (s .args .size) (s .args .heap) (s .pre .1) (s .pre .2) in let e = c .before .before .before .before .before .before .before .lay-entry in (ok, (omega (arith, z .0, e .ensures .0), omega (arith, z .1, e .ensures .0, s .pre .3, e .kept .0, c .before .before .before .lay-front .kept .0)))
 
 lay-lists-requires : tie.Need-lay-lists-requires
-lay-lists-requires c κs = let s = c .before .before .before .before .before .before .before .before .before .before .before .before .before .before .before in let t = s .args .t .now in let ok = s .pre .0 in let b : Bytes t = λ i. omega (arith, c .before .before .before .before .before .before .before .before .before .before .before .before .before .shared-slice-known .given i) in let z = sizes-are t b ok (s .args .n) (s .args .h) (s .pre .1) (s .pre .2) in let e = c .before .before .before .before .before .before .before .before .before .before .before .lay-entry in let p = c .before .before .before .lay-entry2 in (ok, (omega (arith, z .0, e .ensures .0, p .ensures .0), omega (arith, z .1, e .ensures .0, p .ensures .0, s .pre .3, e .kept .0, c .before .before .before .before .before .before .before .lay-front .kept .0, p .kept .0)))
+lay-lists-requires c κs = let s = c .before .before .before .before .before .before .before .before .before .before .before .before .before .before .before in let t = s .args .t .now in let ok = s .pre .0 in let b : Bytes t = λ i. omega (arith, c .before .before .before .before .before .before .before .before .before .before .before .before .before .shared-slice-known .given i) in let z = sizes-are t b ok (s .args .size) (s .args .heap) (s .pre .1) (s .pre .2) in let e = c .before .before .before .before .before .before .before .before .before .before .before .lay-entry in let p = c .before .before .before .lay-entry2 in (ok, (omega (arith, z .0, e .ensures .0, p .ensures .0), omega (arith, z .1, e .ensures .0, p .ensures .0, s .pre .3, e .kept .0, c .before .before .before .before .before .before .before .lay-front .kept .0, p .kept .0)))
 
 same-length : tie.Need-same-length
 same-length c = search needs
 
 returns : tie.Need-returns
-returns c = let s = c .before .before .before .before .before .before .before .before .before .before .before .before .before .before .before .before .before .before in let t = s .args .t .now in let ok = s .pre .0 in let b : Bytes t = λ i. omega (arith, c .before .before .before .before .before .before .before .before .before .before .before .before .before .before .before .before .shared-slice-known .given i) in let z = sizes-are t b ok (s .args .n) (s .args .h) (s .pre .1) (s .pre .2) in let e = c .before .before .before .before .before .before .before .before .before .before .before .before .before .before .lay-entry in let f = c .before .before .before .before .before .before .before .before .before .before .lay-front in let p = c .before .before .before .before .before .before .lay-entry2 in
+returns c = let s = c .before .before .before .before .before .before .before .before .before .before .before .before .before .before .before .before .before .before in let t = s .args .t .now in let ok = s .pre .0 in let b : Bytes t = λ i. omega (arith, c .before .before .before .before .before .before .before .before .before .before .before .before .before .before .before .before .shared-slice-known .given i) in let z = sizes-are t b ok (s .args .size) (s .args .heap) (s .pre .1) (s .pre .2) in let e = c .before .before .before .before .before .before .before .before .before .before .before .before .before .before .lay-entry in let f = c .before .before .before .before .before .before .before .before .before .before .lay-front in let p = c .before .before .before .before .before .before .lay-entry2 in
     let x = s .args .out .now in
-    let n : ℕ = s .args .n in
-    let h : ℕ = s .args .h in
+    let n : ℕ = s .args .size in
+    let h : ℕ = s .args .heap in
     let d : ℕ = e .result - h in
     let ed : d ≡ sizeEntry (toldEntry (layoutOf 0) t 0 0) = omega (arith, e .ensures .0) in
     let hb : e .result ≡ h + d = omega (arith, e .ensures .0) in
@@ -58,7 +58,7 @@ lay-form-spec =
     tie.close
     (tie.spec
     lay-entry-requires
-    sub-d
+    sub-signature
     sub-lay-front
     lay-front-requires
     lay-entry-requires-2
