@@ -26,9 +26,9 @@ fn dirty(length: usize) -> Vec<u8> {
 /// Each file, below the folder of the crates, and its text.
 pub fn files() -> [(&'static str, String); 4] {
     [
-        ("agreement/specs/Cases.antt", tables::text()),
-        ("read_agreement/specs/ReadCases.antt", reads::text()),
-        ("read_agreement/specs/RewriteCases.antt", rewrites::text()),
-        ("agreement/specs/BuildCases.antt", builds::text()),
+        ("agreement_tables/specs/Cases.antt", tables::text()),
+        ("agreement_reads/specs/ReadCases.antt", reads::text()),
+        ("agreement_reads/specs/RewriteCases.antt", rewrites::text()),
+        ("agreement_tables/specs/BuildCases.antt", builds::text()),
     ]
 }

@@ -1,2 +1,2 @@
 pub mod LeaveLaws
-pub mod DemandTwo
+pub mod Builds

@@ -1,5 +1,5 @@
 // A position of a list left unused: begin has zeroed its record.
-use steps::judging::refused;
+use builder_record::judging::refused;
 use table::State;
 use table::Step;
 ghost use Rattle.table.specs.Builder.{Gives};
@@ -8,7 +8,7 @@ ghost use Rattle.table.specs.Builder as definition;
 pub fn leave(out: &mut [u8], state: State) -> Step
     ensures { λ r. ⌜ Gives (definition.leave state (now (out .entry))) r (now (out .exit)) ⌝ }
 {
-    if !turns::waits(state, state.turn) {
+    if !builder_state::waits(state, state.turn) {
         return refused(table::refuse(15, 0, 0), state);
     }
     if state.position == 0 {
@@ -18,7 +18,7 @@ pub fn leave(out: &mut [u8], state: State) -> Step
         return refused(table::refuse(14, 0, 0), state);
     }
     let answer = table::done();
-    let after = turns::next(state, 0);
+    let after = builder_state::next(state, 0);
     Step {
         answer: answer,
         state: after,

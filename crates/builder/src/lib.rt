@@ -2,11 +2,11 @@
 // the state that the last one returned, and hands a state back; any state and any buffer may be handed in.
 pub mod leaves; // a position left unused
 
-pub use finishing::finish;
+pub use builder_begin::begin;
+pub use builder_finish::finish;
+pub use builder_nested::hfi;
+pub use builder_nested::ssns;
+pub use builder_plain::discovery;
+pub use builder_plain::host;
+pub use builder_plain::security;
 pub use leaves::leave;
-pub use nested_calls::hfi;
-pub use nested_calls::ssns;
-pub use opening::begin;
-pub use plain_calls::discovery;
-pub use plain_calls::host;
-pub use plain_calls::security;

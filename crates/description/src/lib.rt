@@ -1,13 +1,13 @@
 // A table built from its description, and what is promised of it.
-use drafts::lines::nth_section;
-use drafts::wrongs::INCOMPLETE;
-use drafts::wrongs::NOTHING;
-use drafts::wrongs::REFUSED;
-use drafts::wrongs::TOO_MANY;
-use front::Counts;
-use sections::walking::Walk;
-use sections::walking::close;
-use sections::walking::walked;
+use bytes_front::Counts;
+use description_draft::lines::nth_section;
+use description_draft::wrongs::INCOMPLETE;
+use description_draft::wrongs::NOTHING;
+use description_draft::wrongs::REFUSED;
+use description_draft::wrongs::TOO_MANY;
+use description_sections::walking::Walk;
+use description_sections::walking::close;
+use description_sections::walking::walked;
 use table::Answer;
 ghost use mathlib.Core.Path.{_≡_};
 ghost use lib.ListN.{take};

@@ -15,14 +15,14 @@ pub mod FormAccepted
 pub mod Sound
 pub mod Found
 pub mod AcceptedMeaning
-pub mod DemandThree
+pub mod OneForm
 pub mod ToldLaws
 pub mod Blank
 pub mod Turns
 pub mod Runs
 pub mod Filling
 pub mod Sealing
-pub mod DemandTwo
+pub mod Builds
 pub mod Refusals
 pub mod Looked
 pub mod Fields

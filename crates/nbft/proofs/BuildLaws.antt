@@ -19,10 +19,10 @@ use Rattle.table.specs.Numbers.{check}
 use Rattle.table.specs.Builder.{Outcome, outcome, counts, countOf, inList, waits, finishing, sameState, empty, roomTests, envOf, toldImage, toldSlots, slotsRule, fillAnswer, fill, next, placed, placeOf, leave, begin, begun, opened, finish, finished, sealed, recordsEnd, moved, turn}
 use Rattle.laws.specs.Fields.{Bytes}
 use Rattle.laws.specs.Positions.{Placed, one-of, check-placed}
-use Rattle.turns.proofs.Laws.{waits-in-place, in-list-upto}
-use Rattle.filling.specs.Calls.{hostTold, hfiTold, ssnsTold, securityTold, discoveryTold, tellHost, tellHfi, tellSsns, tellSecurity, tellDiscovery}
-use Rattle.opening.specs.Begins.{headerTold, beginWith}
-use Rattle.states.specs.States.{SmallState}
+use Rattle.builder_state.proofs.Laws.{waits-in-place, in-list-upto}
+use Rattle.builder_record.specs.Calls.{hostTold, hfiTold, ssnsTold, securityTold, discoveryTold, tellHost, tellHfi, tellSsns, tellSecurity, tellDiscovery}
+use Rattle.builder_begin.specs.Begins.{headerTold, beginWith}
+use Rattle.c_states.specs.States.{SmallState}
 
 abbrev AllPlaced : List Test → Type 0
 AllPlaced [] = Unit {0}

@@ -1,7 +1,7 @@
 // The builder for callers in C, who keep its state as 16 bytes.
-use states::counts_of;
-use states::show;
-use states::state_of;
+use c_states::counts_of;
+use c_states::show;
+use c_states::state_of;
 use table::Discovery;
 use table::Extended;
 use table::Hfi;
@@ -10,9 +10,9 @@ use table::Info;
 use table::Security;
 use table::Ssns;
 ghost use Rattle.table.specs.Builder as definition;
-ghost use Rattle.filling.specs.Calls.{tellHost, tellHfi, tellSsns, tellSecurity, tellDiscovery};
-ghost use Rattle.opening.specs.Begins.{beginWith};
-ghost use Rattle.states.specs.States.{stateOf, Shown};
+ghost use Rattle.builder_record.specs.Calls.{tellHost, tellHfi, tellSsns, tellSecurity, tellDiscovery};
+ghost use Rattle.builder_begin.specs.Begins.{beginWith};
+ghost use Rattle.c_states.specs.States.{stateOf, Shown};
 
 // `header` is the table's bytes 10 to 35, `counts` how many records each list is to have.
 #[no_mangle]

@@ -1,12 +1,12 @@
 // The C functions, and nothing else. include/nbft.h declares them.
-use packing::pack;
-use packing::pack_rewritten;
+use c_answers::pack;
+use c_answers::pack_rewritten;
 ghost use mathlib.Core.Path.{_≡_};
 ghost use lib.ListN.{length};
 ghost use Rattle.table.specs.Numbers.{check};
 ghost use Rattle.table.specs.Reads.{readField, readPlace};
 ghost use Rattle.table.specs.Rewriting.{rewrite, rewriteBytes};
-ghost use Rattle.packing.specs.Packed.{packed, packedField, packedPlace, packedRewritten, valueAfter};
+ghost use Rattle.c_answers.specs.Packed.{packed, packedField, packedPlace, packedRewritten, valueAfter};
 
 pub mod building; // the builder's calls
 
@@ -29,14 +29,14 @@ pub extern "C" fn nbft_field(
 ) -> u64
     ensures { λ r. ⌜ (r ≡ packedField (readField (now (t .entry)) kind position offset)) × (now (value .exit) ≡ valueAfter (readField (now (t .entry)) kind position offset) (now (value .entry))) ⌝ }
 {
-    packed_reads::field(t, kind, position, offset, value)
+    c_reads::field(t, kind, position, offset, value)
 }
 
 #[no_mangle]
 pub extern "C" fn nbft_object(t: &[u8], kind: u8, position: u16, offset: u32) -> u64
     ensures { λ r. ⌜ r ≡ packedPlace (readPlace (now (t .entry)) kind position offset) ⌝ }
 {
-    packed_reads::object(t, kind, position, offset)
+    c_reads::object(t, kind, position, offset)
 }
 
 // Where that object starts, counted from `t`; 0 where refused or absent.
@@ -44,7 +44,7 @@ pub extern "C" fn nbft_object(t: &[u8], kind: u8, position: u16, offset: u32) ->
 pub extern "C" fn nbft_object_start(t: &[u8], kind: u8, position: u16, offset: u32) -> u32
     ensures { λ r. ⌜ r ≡ readPlace (now (t .entry)) kind position offset .at ⌝ }
 {
-    packed_reads::object_start(t, kind, position, offset)
+    c_reads::object_start(t, kind, position, offset)
 }
 
 // The one form of the table into the first bytes of `out`; where refused, `out` stays as it was.

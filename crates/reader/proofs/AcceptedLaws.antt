@@ -23,19 +23,19 @@ use Rattle.laws.specs.Sound.{first-of, pick-of}
 use Rattle.laws.specs.Fields.{imageIn}
 use Rattle.laws.specs.RefWalk.{firstOver, ownRule, partRule}
 use Rattle.laws.specs.ListWalk.{envIn, validIn, walk-more, walk-stop}
-use Rattle.frame.specs.Bounds.{LaidOut, ListIn}
-use Rattle.frame.proofs.Laws.{laid-out}
-use Rattle.rules.specs.Rules.{IsHeap, refFault}
-use Rattle.records.specs.Records.{rightRule}
-use Rattle.heap_records.specs.HeapRecords.{spot}
-use Rattle.rules.proofs.HeapLaws.{Inside, extended-no, extended-yes, info-no, info-yes, reached}
-use Rattle.lists.specs.Lists.{counts, listFault, listFrom, recordFault, usedFault}
+use Rattle.reader_frame.specs.Bounds.{LaidOut, ListIn}
+use Rattle.reader_frame.proofs.Laws.{laid-out}
+use Rattle.reader_rules.specs.Rules.{IsHeap, refFault}
+use Rattle.reader_rules.specs.Records.{rightRule}
+use Rattle.reader_heap_records.specs.HeapRecords.{spot}
+use Rattle.reader_rules.proofs.HeapLaws.{Inside, extended-no, extended-yes, info-no, info-yes, reached}
+use Rattle.reader_lists.specs.Lists.{counts, listFault, listFrom, recordFault, usedFault}
 use Rattle.reader.specs.Stages.{hostFault, numbered}
-use Rattle.indexes.specs.Indexes.{namesRule, refsFault}
+use Rattle.reader_indexes.specs.Indexes.{namesRule, refsFault}
 use Rattle.reader.specs.Accepted.{Accepted}
 use Rattle.reader.proofs.Laws.{body-is, check-is, parts-are}
-use Rattle.lists.proofs.Laws.{record-by, refs-are, used-is}
-use Rattle.indexes.proofs.Laws.{stride}
+use Rattle.reader_lists.proofs.Laws.{record-by, refs-are, used-is}
+use Rattle.reader_indexes.proofs.Laws.{stride}
 
 -- ---- the stages of the check, taken apart
 

@@ -17,12 +17,12 @@ use Rattle.table.specs.Meaning.{meaning}
 use Rattle.table.specs.Numbers.{heapIn, tests, driverRule, hostRule, records, check}
 use Rattle.laws.specs.Fields.{imageIn}
 use Rattle.laws.specs.ListWalk.{validIn, envIn, usedIt, flag-is, walk}
-use Rattle.rules.specs.Rules.{IsHeap}
-use Rattle.indexes.specs.Indexes.{refsFault}
-use Rattle.lists.specs.Lists.{usedFault, counts, listFrom, listFault}
+use Rattle.reader_rules.specs.Rules.{IsHeap}
+use Rattle.reader_indexes.specs.Indexes.{refsFault}
+use Rattle.reader_lists.specs.Lists.{usedFault, counts, listFrom, listFault}
 use Rattle.reader.specs.Stages.{numbered, hostFault}
 -- passed on to the crates above, which walk the same lists
-pub use Rattle.lists.proofs.Laws.{flag-within, flags-stand, next-start}
+pub use Rattle.reader_lists.proofs.Laws.{flag-within, flags-stand, next-start}
 
 -- ---- the stages of the check
 

@@ -7,7 +7,7 @@ use Rattle.table.specs.declared.Answer.{Answer}
 use Rattle.table.specs.declared.Region.{Region}
 use Rattle.table.specs.Bytes.{pick, num, odd}
 use Rattle.table.specs.Rules.{answer, done}
-use Rattle.lists.specs.Lists.{usedFault}
+use Rattle.reader_lists.specs.Lists.{usedFault}
 
 -- a number with its kind, outside lists
 abbrev pub numbered : ℕ → ℕ → Answer

@@ -1,7 +1,7 @@
 // The reader: whether a table is good, and if not, the first fault. Tests 1 to 9, then the driver signature, the host, and the records by position.
-use lists::list_fault;
-use lists::refs_fault;
-use lists::used_fault;
+use reader_lists::list_fault;
+use reader_lists::refs_fault;
+use reader_lists::used_fault;
 use table::Answer;
 use table::Control;
 use table::Discovery;
@@ -21,9 +21,9 @@ ghost use Rattle.table.specs.Rules.{bodyRule};
 ghost use Rattle.table.specs.Meaning.{meaning};
 ghost use Rattle.table.specs.Numbers.{records, check};
 ghost use Rattle.laws.specs.ListWalk.{validIn};
-ghost use Rattle.frame.specs.Bounds.{LaidOut};
-ghost use Rattle.rules.specs.Rules.{IsHeap};
-ghost use Rattle.lists.specs.Lists.{counts};
+ghost use Rattle.reader_frame.specs.Bounds.{LaidOut};
+ghost use Rattle.reader_rules.specs.Rules.{IsHeap};
+ghost use Rattle.reader_lists.specs.Lists.{counts};
 ghost use Rattle.reader.specs.Stages.{hostFault, numbered};
 
 // The heap, lent to the readers of records as the part of the table that it is; an empty one has no place.
@@ -51,9 +51,9 @@ fn host_fault(t: &[u8], heap: &[u8], from: usize) -> Answer
     requires { ⌜ LaidOut (now t) × IsHeap (now t) (now heap) from ⌝ }
     ensures { λ r. ⌜ r ≡ hostFault (region from (length (now (heap .entry)))) (now (t .entry)) ⌝ }
 {
-    let r = wire::reference_at(t, Control::HOST);
+    let r = bytes_wire::reference_at(t, Control::HOST);
     let a = r.at;
-    let flag = kinds::flags_at(Host::ID);
+    let flag = layout_kinds::flags_at(Host::ID);
     if t[a + flag] % 2 != 1 {
         return table::refuse(10, Host::ID, 0);
     }
@@ -102,7 +102,7 @@ fn records_fault(t: &[u8]) -> Answer
     requires { ⌜ LaidOut (now t) ⌝ }
     ensures { λ r. ⌜ r ≡ records (now (t .entry)) (meaning (now (t .entry))) ⌝ }
 {
-    let region = head::region_at(t, 36);
+    let region = reader_head::region_at(t, 36);
     let from = region.at;
     let len = region.len;
     parts_fault(t, heap_of(t, from, len), from)
@@ -112,7 +112,7 @@ fn records_fault(t: &[u8]) -> Answer
 pub fn check(t: &[u8]) -> Answer
     ensures { λ r. ⌜ r ≡ check (now (t .entry)) ⌝ }
 {
-    let fault = frame::frame_fault(t);
+    let fault = reader_frame::frame_fault(t);
     if fault.number != 0 {
         return fault;
     }

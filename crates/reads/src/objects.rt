@@ -1,82 +1,73 @@
-// The object of a reference of a record, by the record's own bytes: where it stands.
-use table::Answer;
-use table::Need;
+// The object of a reference, by kind and position: where it stands, and the caller's own bytes there; of an accepted table, and of any bytes.
+use reads_seats::lent::heap_part;
+use reads_seats::lent::part_of;
+use reads_seats::lent::record_at;
+use reads_seats::objects::no_place;
+use reads_seats::objects::object_of;
+use reads_seats::seats::Seat;
+use reads_seats::seats::seat_of;
 use table::Place;
-use table::Security;
-use table::Ssns;
 ghost use mathlib.Core.Path.{_≡_};
-ghost use mathlib.Core.Bool.{true};
 ghost use Prim.Native.Nat.{_+_, _≤_};
 ghost use lib.ListN.{length};
 ghost use Rattle.table.specs.Layout.{baseOf};
 ghost use Rattle.table.specs.FixedLayouts.{layoutOf};
-ghost use Rattle.table.specs.Objects.{under};
-ghost use Rattle.table.specs.Rules as answers;
-ghost use Rattle.table.specs.Reads.{seat, hasPlain, needAt, noPlace, refPlace, placeAt};
-ghost use Rattle.laws.specs.Fields.{imageIn};
+ghost use Rattle.table.specs.Reads.{seat, seatOf, placeAt, readPlace, readObject};
+ghost use Rattle.reader.specs.Accepted.{Accepted};
+ghost use Rattle.reads_seats.specs.Objects.{objectIn};
 
-// None, with the answer that says why.
-pub fn no_place(answer: Answer) -> Place
-    ensures { λ r. ⌜ r ≡ noPlace answer ⌝ }
+// Of the record of a kind whose bytes are `x`.
+fn place_of(x: &[u8], kind: u8, used: bool, off: usize) -> Place
+    requires { ⌜ baseOf (layoutOf kind) ≤ length (now x) ⌝ }
+    ensures { λ r. ⌜ r ≡ placeAt (now (x .entry)) off (seat (layoutOf kind) 0 used) ⌝ }
 {
-    Place {
-        answer: answer,
-        present: false,
-        at: 0,
-        len: 0,
+    if layout_fields::has_object(kind, off) {
+        return object_of(x, kind, used, off);
+    }
+    no_place(table::refuse(16, 0, 0))
+}
+
+// Where the object of the reference at `off` stands, of the record of a kind and position.
+pub fn place_in(t: &[u8], kind: u8, position: usize, off: usize) -> Place
+    requires { ⌜ Accepted (now t) ⌝ }
+    ensures { λ r. ⌜ r ≡ placeAt (now (t .entry)) off (seatOf (now (t .entry)) kind position) ⌝ }
+{
+    let s = seat_of(t, kind, position);
+    match s {
+        Seat::Nowhere => no_place(table::refuse(16, 0, 0)),
+        Seat::At { at, used } => place_of(record_at(t, kind, at), kind, used, off),
     }
 }
 
-// What a reference of the record with these bytes names.
-fn ref_place(bytes: &[u8], offset: usize) -> Place
-    requires { ⌜ offset + 6 ≤ length (now bytes) ⌝ }
-    ensures { λ r. ⌜ r ≡ refPlace (now (bytes .entry)) offset ⌝ }
+// That object, a part of the heap; empty where refused or absent.
+pub fn object_in(t: &[u8], kind: u8, position: usize, off: usize) -> &[u8]
+    requires { ⌜ Accepted (now t) ⌝ }
+    ensures { λ r. ⌜ (now r ≡ objectIn (now (t .entry)) kind position off) × (r .ptr .0 ≡ t .entry .ptr .0) × (r .ptr .1 ≡ t .entry .ptr .1 + placeAt (now (t .entry)) off (seatOf (now (t .entry)) kind position) .at) ⌝ }
 {
-    let named = wire::reference_at(bytes, offset);
-    let answer = table::done();
-    let at = named.at;
-    let len = named.len;
-    if len == 0 {
-        return no_place(answer);
-    }
-    Place {
-        answer: answer,
-        present: true,
-        at: at,
-        len: len,
-    }
+    let p = place_in(t, kind, position, off);
+    let at = p.at;
+    let len = p.len;
+    heap_part(t, at, len)
 }
 
-fn named_place(bytes: &[u8], offset: usize, need: Need) -> Place
-    requires { ⌜ offset + 6 ≤ length (now bytes) ⌝ }
-    ensures { λ r. ⌜ r ≡ under need (noPlace answers.done) (refPlace (now (bytes .entry)) offset) ⌝ }
+// The same two of any bytes: first where the object stands.
+pub fn object_place(t: &[u8], kind: u8, position: usize, off: usize) -> Place
+    ensures { λ r. ⌜ r ≡ readPlace (now (t .entry)) kind position off ⌝ }
 {
-    match need {
-        Need::Ignored => no_place(table::done()),
-        Need::Optional => ref_place(bytes, offset),
-        Need::Required => ref_place(bytes, offset),
+    let a = reader::check(t);
+    if a.number != 0 {
+        return no_place(a);
     }
+    place_in(t, kind, position, off)
 }
 
-// Whether a reference of the record of a kind counts.
-fn object_need(bytes: &[u8], kind: u8, offset: usize) -> Need
-    requires { ⌜ (baseOf (layoutOf kind) ≤ length (now bytes)) × (hasPlain offset (layoutOf kind .refs) ≡ true) ⌝ }
-    ensures { λ r. ⌜ r ≡ needAt offset (layoutOf kind .refs) (imageIn (layoutOf kind) (now (bytes .entry)) 0) ⌝ }
+// The object: exactly the caller's own part, by its bytes and by where it starts.
+pub fn object(t: &[u8], kind: u8, position: usize, off: usize) -> &[u8]
+    ensures { λ r. ⌜ (now r ≡ readObject (now (t .entry)) kind position off) × (r .ptr .0 ≡ t .entry .ptr .0) × (r .ptr .1 ≡ t .entry .ptr .1 + readPlace (now (t .entry)) kind position off .at) ⌝ }
 {
-    match kind {
-        Ssns::ID => needs::ssns_need(flags::ssns_flags(bytes, 0), offset),
-        Security::ID => needs::security_need(bytes, 0, offset),
-        _ => needs::plain_need(kind, offset),
+    let a = reader::check(t);
+    if a.number != 0 {
+        return part_of(t, 0, 0);
     }
-}
-
-// Where the object of that reference stands. An unused record has none.
-pub fn object_of(bytes: &[u8], kind: u8, used: bool, offset: usize) -> Place
-    requires { ⌜ (baseOf (layoutOf kind) ≤ length (now bytes)) × (hasPlain offset (layoutOf kind .refs) ≡ true) ⌝ }
-    ensures { λ r. ⌜ r ≡ placeAt (now (bytes .entry)) offset (seat (layoutOf kind) 0 used) ⌝ }
-{
-    if used {
-        return named_place(bytes, offset, object_need(bytes, kind, offset));
-    }
-    no_place(table::done())
+    object_in(t, kind, position, off)
 }

@@ -19,7 +19,7 @@ use Rattle.laws.specs.FormLaws.{length-laidOut}
 use Rattle.laws.specs.AcceptedMeaning.{lawful}
 use Rattle.reader.specs.Accepted.{Accepted}
 use Rattle.reader.proofs.AcceptedLaws.{checked}
-pub use Rattle.room.proofs.RoomLaws.{room-passed}
+pub use Rattle.bytes_room.proofs.RoomLaws.{room-passed}
 
 -- ---- answers
 

@@ -16,22 +16,22 @@ use Rattle.laws.specs.ByteLaws.{length-splice}
 use Rattle.laws.specs.Fields.{Bytes}
 use Rattle.laws.specs.Blank.{lengthsOf}
 use Rattle.laws.specs.AcceptedMeaning.{lawful}
-use Rattle.front.specs.Front.{headerFor, controlFor}
-use Rattle.front.proofs.FrontLaws as front
-use Rattle.front.proofs.FrontLaws.{header-is, header-joined, control-is, control-joined, control-long}
-use Rattle.writer.proofs.StoreLaws.{splice-join, splice-none, splice-swap, splice-over}
+use Rattle.bytes_front.specs.Front.{headerFor, controlFor}
+use Rattle.bytes_front.proofs.FrontLaws as front
+use Rattle.bytes_front.proofs.FrontLaws.{header-is, header-joined, control-is, control-joined, control-long}
+use Rattle.bytes_writer.proofs.StoreLaws.{splice-join, splice-none, splice-swap, splice-over}
 use Rattle.reader.specs.Accepted.{Accepted}
 use Rattle.reader.proofs.AcceptedLaws.{checked}
-use Rattle.reads.proofs.MeaningLaws.{told-all, oem-told}
-use Rattle.reads.specs.Objects.{objectIn}
-use Rattle.reads.specs.Told.{imageOf, toldSlots, toldEntry, countOf, oemOf, told}
-use Rattle.seat_reads.specs.Driver.{driverOf}
-use Rattle.parts.specs.Parts.{listOf}
-use Rattle.parts.proofs.PartLaws.{list-count}
-use Rattle.parts.proofs.LengthLaws.{record-bytes, heap-bytes}
-use Rattle.relaid.specs.Laid.{laid}
-use Rattle.relaid_lists.proofs.RunLaws.{Piece, piece, recsOf, heapsOf, run-laid, link}
-use Rattle.relaid_lists.proofs.ListLaws.{body-recs-long, body-heap-long}
+use Rattle.reads_seats.proofs.MeaningLaws.{told-all, oem-told}
+use Rattle.reads_seats.specs.Objects.{objectIn}
+use Rattle.reads_seats.specs.Told.{imageOf, toldSlots, toldEntry, countOf, oemOf, told}
+use Rattle.reads_by_seat.specs.Driver.{driverOf}
+use Rattle.rewriter_sizes.specs.Parts.{listOf}
+use Rattle.rewriter_sizes.proofs.PartLaws.{list-count}
+use Rattle.rewriter_sizes.proofs.LengthLaws.{record-bytes, heap-bytes}
+use Rattle.rewriter_records.specs.Laid.{laid}
+use Rattle.rewriter_lists.proofs.RunLaws.{Piece, piece, recsOf, heapsOf, run-laid, link}
+use Rattle.rewriter_lists.proofs.ListLaws.{body-recs-long, body-heap-long}
 
 -- the pieces in order, with no empty ones
 in-order : (f b c r s d g p : List ℕ) → (((f ++ b) ++ c) ++ (r ++ (s ++ []))) ++ (d ++ (g ++ (p ++ []))) ≡ f ++ (b ++ (c ++ (r ++ (s ++ (d ++ (g ++ p))))))

@@ -1,3 +1,3 @@
 pub mod FormLaws
 pub mod AnswerLaws
-pub mod DemandThree
+pub mod OneForm

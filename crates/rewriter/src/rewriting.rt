@@ -1,14 +1,14 @@
 // The rewriter: the reader's answer, then 17, then 14; only where all pass is a byte written.
-use front::Counts;
-use front::write_front;
-use parts::sizes::form_length;
-use parts::sizes::heap_start;
-use relaid::records::lay_entry;
-use relaid_lists::lay_lists;
-use room::room_fault;
-use sealing::seal;
-use seat_reads::counts::count_byte;
-use seat_reads::counts::oem;
+use bytes_front::Counts;
+use bytes_front::write_front;
+use bytes_room::room_fault;
+use reads_by_seat::counts::count_byte;
+use reads_by_seat::counts::oem;
+use rewriter_checksum::seal;
+use rewriter_lists::lay_lists;
+use rewriter_records::records::lay_entry;
+use rewriter_sizes::sizes::form_length;
+use rewriter_sizes::sizes::heap_start;
 use table::Answer;
 use table::Discovery;
 use table::Header;
@@ -25,9 +25,9 @@ ghost use Rattle.table.specs.Bytes.{splice};
 ghost use Rattle.table.specs.Meaning.{meaning, heapAt, heapLen, formLength, laidOut};
 ghost use Rattle.table.specs.Rewriting as definition;
 ghost use Rattle.reader.specs.Accepted.{Accepted};
-ghost use Rattle.reads.specs.Told.{countOf, oemOf};
-ghost use Rattle.seat_reads.specs.Driver.{driverOf};
-ghost use Rattle.front.specs.Front.{headerFor, controlFor};
+ghost use Rattle.reads_seats.specs.Told.{countOf, oemOf};
+ghost use Rattle.reads_by_seat.specs.Driver.{driverOf};
+ghost use Rattle.bytes_front.specs.Front.{headerFor, controlFor};
 
 // Header and control record: a table of `size` bytes, a heap of `heapsize` bytes at `heap`, a driver signature of `signature` bytes first in it.
 fn lay_front(out: &mut [u8], t: &[u8], size: usize, heap: usize, heapsize: usize, signature: usize)

@@ -1,19 +1,19 @@
 // Cells of an accepted table: the field or the object of a column, by position.
-use columns::Column;
-use columns::Form;
-use field_reads::field_in;
-use object_reads::object_in;
+use reads::fields::field_in;
+use reads::objects::object_in;
+use show_cells::Column;
+use show_cells::Form;
+use show_cells::values::pad;
+use show_cells::values::print_absent;
+use show_cells::values::print_address;
+use show_cells::values::print_digits;
+use show_cells::values::print_flag;
+use show_cells::values::print_interfaces;
+use show_cells::values::print_plain;
+use show_cells::values::print_string;
+use show_cells::values::print_text;
+use show_cells::values::value_of;
 use table::Field;
-use values::pad;
-use values::print_absent;
-use values::print_address;
-use values::print_digits;
-use values::print_flag;
-use values::print_interfaces;
-use values::print_plain;
-use values::print_string;
-use values::print_text;
-use values::value_of;
 ghost use Rattle.reader.specs.Accepted.{Accepted};
 
 fn print_front(x: &[u8], n: usize, json: bool, width: usize) {
@@ -41,7 +41,7 @@ fn print_field_address(f: Field, json: bool, width: usize) {
 
 fn print_mac_in(x: &[u8], json: bool, width: usize) {
     if 6 <= x.len() {
-        print_text(hexadecimal::mac(&x[0..6]), json, width);
+        print_text(text_hex::mac(&x[0..6]), json, width);
     }
 }
 
@@ -105,7 +105,7 @@ pub fn print_cell(t: &[u8], n: usize, c: Column, json: bool)
         Form::Address => print_field_address(field_in(t, kind, n, off), json, width),
         Form::Mac => print_mac(field_in(t, kind, n, off), json, width),
         Form::Pci => print_text(
-            hexadecimal::pci(value_of(field_in(t, kind, n, off))),
+            text_hex::pci(value_of(field_in(t, kind, n, off))),
             json,
             width,
         ),

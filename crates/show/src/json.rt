@@ -2,9 +2,9 @@
 use crate::cells::print_cell;
 use crate::records::count_of;
 use crate::records::is_used;
-use columns::column_at;
-use columns::column_count;
-use columns::names::print_key;
+use show_cells::column_at;
+use show_cells::column_count;
+use show_cells::names::print_key;
 use table::Discovery;
 use table::Header;
 use table::Hfi;

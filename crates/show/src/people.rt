@@ -2,9 +2,11 @@
 use crate::cells::print_cell;
 use crate::records::count_of;
 use crate::records::is_used;
-use columns::column_at;
-use columns::column_count;
-use columns::names;
+use show_cells::column_at;
+use show_cells::column_count;
+use show_cells::names;
+use show_cells::values::print_plain;
+use show_cells::values::print_rule;
 use table::Discovery;
 use table::Header;
 use table::Hfi;
@@ -12,8 +14,6 @@ use table::Host;
 use table::Security;
 use table::Ssns;
 use tool::print_bytes;
-use values::print_plain;
-use values::print_rule;
 ghost use Rattle.reader.specs.Accepted.{Accepted};
 
 fn print_title(kind: u8, i: usize) {

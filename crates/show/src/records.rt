@@ -1,5 +1,5 @@
 // Which records there are: how many a list has, and whether one is used.
-use field_reads::field_in;
+use reads::fields::field_in;
 use table::Control;
 use table::Hfi;
 use table::Security;

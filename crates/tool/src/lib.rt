@@ -10,7 +10,7 @@ ghost use mathlib.Core.Path.{_≡_};
 ghost use lib.ListN.{take};
 ghost use Rattle.io.specs.Counts.{Counts};
 ghost use Rattle.text.specs.Numerals.{numbersLine};
-ghost use Rattle.words.specs.Words.{faultLine};
+ghost use Rattle.text_answers.specs.Words.{faultLine};
 
 // A table has at most 65,536 bytes, and a file may go on behind its table.
 pub const MOST: usize = 70000;
@@ -127,7 +127,7 @@ pub fn answer_line(a: Answer) -> Text
 pub fn answer_words(a: Answer) -> Text
     ensures { λ r. ⌜ Counts (r .len) (r .bytes) × (take (r .len) (r .bytes) ≡ faultLine (a .number) (a .kind) (a .position)) ⌝ }
 {
-    words::fault_line(a.number, a.kind, a.position as u64)
+    text_answers::fault_line(a.number, a.kind, a.position as u64)
 }
 
 // Two lines: the numbers for programs, the words for people.

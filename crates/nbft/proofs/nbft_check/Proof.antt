@@ -1,7 +1,7 @@
 use native.Mathlib.Omega.{arith}
 use mathlib.Core.Path.{ap, _∙_}
 use Rattle.laws.specs.Positions.{check-placed}
-use Rattle.packing.specs.Packed.{packed}
+use Rattle.c_answers.specs.Packed.{packed}
 use borrow.Author.Needs.{needs}
 use Rattle.nbft.proofs.nbft_check.Statement.{statement}
 use Rattle.nbft.proofs.nbft_check.Tie as tie

@@ -1,5 +1,5 @@
 use Rattle.nbft.proofs.Laws.{rewrite-fits}
-use Rattle.packing.specs.Packed.{packedRewritten}
+use Rattle.c_answers.specs.Packed.{packedRewritten}
 use lib.ListN.{length}
 use native.Mathlib.Omega.{arith}
 use mathlib.Core.Path.{ap, _∙_}

@@ -1,4 +1,4 @@
-use Rattle.frame.proofs.Laws.{laid-out}
+use Rattle.reader_frame.proofs.Laws.{laid-out}
 use mathlib.Core.Path.{_∙_}
 use Rattle.reader.proofs.Laws.{answer-stop, answer-more, check-is}
 use borrow.Author.Needs.{needs}

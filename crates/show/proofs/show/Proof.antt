@@ -1,4 +1,4 @@
-use Rattle.reads.proofs.ObjectLaws.{accepted}
+use Rattle.reads_seats.proofs.ObjectLaws.{accepted}
 use Rattle.table.specs.declared.Answer.{Answer}
 use mathlib.Core.Path.{sym, ap, _∙_}
 use borrow.Author.Needs.{needs}

@@ -1,7 +1,7 @@
 use Rattle.nbft.proofs.BuildLaws.{begin-placed}
-use Rattle.states.proofs.StateLaws.{shown}
+use Rattle.c_states.proofs.StateLaws.{shown}
 use Rattle.table.specs.declared.State.{State}
-use Rattle.opening.specs.Begins.{beginWith}
+use Rattle.builder_begin.specs.Begins.{beginWith}
 use mathlib.Core.List.{List, [], _∷_}
 use mathlib.Core.Path.{ap, _∙_}
 use Prim.Native.Nat.{ℕ}

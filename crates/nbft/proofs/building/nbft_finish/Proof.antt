@@ -1,6 +1,6 @@
 use Rattle.table.specs.Builder.{finish}
 use Rattle.nbft.proofs.BuildLaws.{finish-placed}
-use Rattle.states.proofs.StateLaws.{shown}
+use Rattle.c_states.proofs.StateLaws.{shown}
 use Rattle.table.specs.declared.State.{State}
 use native.Mathlib.Omega.{arith}
 use borrow.Author.Needs.{needs}

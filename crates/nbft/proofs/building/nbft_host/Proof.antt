@@ -1,6 +1,6 @@
-use Rattle.filling.specs.Calls.{tellHost}
+use Rattle.builder_record.specs.Calls.{tellHost}
 use Rattle.nbft.proofs.BuildLaws.{host-placed}
-use Rattle.states.proofs.StateLaws.{shown}
+use Rattle.c_states.proofs.StateLaws.{shown}
 use Rattle.table.specs.declared.State.{State}
 use borrow.Author.Needs.{needs}
 use Rattle.nbft.proofs.building.nbft_host.Statement.{statement}

@@ -1,6 +1,6 @@
 use Rattle.table.specs.Builder.{leave}
 use Rattle.nbft.proofs.BuildLaws.{leave-placed}
-use Rattle.states.proofs.StateLaws.{shown}
+use Rattle.c_states.proofs.StateLaws.{shown}
 use Rattle.table.specs.declared.State.{State}
 use borrow.Author.Needs.{needs}
 use Rattle.nbft.proofs.building.nbft_leave.Statement.{statement}

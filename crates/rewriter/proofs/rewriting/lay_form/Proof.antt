@@ -1,6 +1,6 @@
 use Rattle.rewriter.proofs.FormLaws.{sizes-are, driver-long, front-late, form-laid}
-use Rattle.relaid.specs.Laid.{laid}
-use Rattle.reads.specs.Told.{toldEntry}
+use Rattle.rewriter_records.specs.Laid.{laid}
+use Rattle.reads_seats.specs.Told.{toldEntry}
 use Rattle.laws.specs.ListWalk.{base-small}
 use Rattle.laws.specs.Fields.{Bytes}
 use Rattle.table.specs.Meaning.{meaning, laidOut}

@@ -1,6 +1,6 @@
 use Rattle.rewriter.proofs.FormLaws.{sizes-are, signature-here}
 use Rattle.rewriter.proofs.AnswerLaws.{answer-is, read-refused, read-passed, rewrite-refused, rewrite-done, room-passed, take-front, laid-length, sealed}
-use Rattle.reads.proofs.ObjectLaws.{accepted}
+use Rattle.reads_seats.proofs.ObjectLaws.{accepted}
 use Rattle.laws.specs.Fields.{Bytes}
 use Rattle.table.specs.Meaning.{limit, meaning, heapLen, laidOut}
 use Rattle.table.specs.Rules.{test, firstFail}

@@ -1,0 +1,45 @@
+use Rattle.builder_begin.proofs.BeginLaws.{header-length, control-length, four-long, opened-laid}
+use Rattle.bytes_writer.proofs.StoreLaws.{concat, chain-laid}
+use Rattle.bytes_front.specs.Front.{headerFor, controlFor}
+use Rattle.table.specs.Bytes.{splice}
+use lib.ListN.{length, replicate, length-replicate}
+use Prim.Native.Nat.{ℕ, _+_, _-_}
+use mathlib.Core.List.{[], _∷_}
+use mathlib.Core.Path.{_≡_, refl, ap, _∙_}
+use native.Mathlib.Omega.{arith}
+use borrow.Author.Needs.{needs}
+use Rattle.builder_begin.proofs.lay_opened.Statement.{statement}
+use Rattle.builder_begin.proofs.lay_opened.Tie as tie
+
+slice-aggregate-write-front : tie.Need-slice-aggregate-write-front
+slice-aggregate-write-front c = search needs
+
+write-front-requires : tie.Need-write-front-requires
+write-front-requires c κs = search needs
+
+sub-fill-zero : tie.Need-sub-fill-zero
+sub-fill-zero c = search needs
+
+fill-zero-requires : tie.Need-fill-zero-requires
+fill-zero-requires c κs = search needs
+
+copy-into-requires : tie.Need-copy-into-requires
+copy-into-requires c κs = search needs
+
+same-length : tie.Need-same-length
+same-length c = search needs
+
+returns : tie.Need-returns
+returns c = let a = c .before .before .before .before .before .before .before .before .before .before .before .before .before .before .before .args in let b = a .out .now in let ol : length (a .t2) ≡ 26 = search needs in let hl = header-length 0 (a .t2) (a .heap) 0 (length (a .signature .now)) ol in let cl = control-length (a .counts .hfi) (a .counts .ssns) (a .counts .security) (a .counts .discovery) in let H = headerFor 0 (a .t2) (a .heap) 0 (length (a .signature .now)) in let C = controlFor (a .counts .hfi ∷ a .counts .ssns ∷ a .counts .security ∷ a .counts .discovery ∷ []) in let Z = replicate {A = ℕ} (a .heap - 128) 0 in let zl = length-replicate {A = ℕ} (a .heap - 128) 0 in let sl : length (concat (H ∷ C ∷ Z ∷ (a .signature .now) ∷ [])) ≡ a .heap + length (a .signature .now) = four-long H C Z (a .signature .now) ∙ omega (arith, hl, cl, zl, c .before .before .before .before .before .before .before .before .before .before .before .before .before .before .before .pre .1) in chain-laid (H ∷ C ∷ Z ∷ (a .signature .now) ∷ []) b 0 (c .before .before .copy-into .last .0) (omega (arith, sl, c .before .before .before .before .before .before .before .before .before .before .before .before .before .before .before .pre .2)) (splice b 0 H, 0, refl, refl, (c .before .before .before .before .before .before .before .before .before .before .write-front .last .0, 64, c .before .before .before .before .before .before .before .before .before .before .write-front .ensures, omega (arith, hl), (c .before .before .before .before .before .before .fill-zero .last .0, 128, c .before .before .before .before .before .before .fill-zero .ensures, omega (arith, hl, cl), (c .before .before .copy-into .last .0, a .heap, c .before .before .copy-into .ensures, omega (arith, hl, cl, zl, c .before .before .before .before .before .before .before .before .before .before .before .before .before .before .before .pre .1), refl)))) ∙ ap (splice b 0) (opened-laid (a .t2) (a .counts) (c .before .before .before .before .before .before .before .before .before .before .before .before .before .before .before .pre .3) (a .signature .now) (a .heap) (c .before .before .before .before .before .before .before .before .before .before .before .before .before .before .before .pre .0))
+
+pub lay-opened-spec : {M : Type 1} → statement M
+lay-opened-spec =
+    tie.close
+    (tie.spec
+    slice-aggregate-write-front
+    write-front-requires
+    sub-fill-zero
+    fill-zero-requires
+    copy-into-requires
+    same-length
+    returns)

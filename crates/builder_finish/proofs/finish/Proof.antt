@@ -1,0 +1,116 @@
+use Rattle.builder_finish.proofs.EndLaws.{finish-early, finish-short, finish-refused, finish-done}
+use Rattle.table.specs.Builder.{sealed}
+use Rattle.table.specs.Bytes.{pick}
+use borrow.Author.Tests.{eq-eqb, ne-eqb}
+use mathlib.Core.Bool.{Bool}
+use Rattle.builder_record.proofs.LayLaws.{step-is}
+use Rattle.builder_state.proofs.Laws.{not-true, not-false}
+use Rattle.table.specs.declared.State.{State}
+use Rattle.table.specs.declared.Answer.{Answer}
+use mathlib.Core.Path.{sym, ap, _∙_}
+use native.Mathlib.Omega.{arith}
+use borrow.Author.Needs.{needs}
+use Rattle.builder_finish.proofs.finish.Statement.{statement}
+use Rattle.builder_finish.proofs.finish.Tie as tie
+
+waits-requires : tie.Need-waits-requires
+waits-requires c κs = search needs
+
+refuse-requires : tie.Need-refuse-requires
+refuse-requires c κs = search needs
+
+refused-requires : tie.Need-refused-requires
+refused-requires c κs = search needs
+
+returns : tie.Need-returns
+returns c =
+    let a = c .before .before .before .before .before .args in
+    let b = a .out .now in
+    let t = finish-early (a .state) b (sym (c .before .before .before .waits .ensures) ∙ not-true (c .before .before .before .waits .result) (c .before .before .if1 .taken)) in (
+      step-is (c .refused .result) (c .before .refuse .result) (a .state) (c .refused .ensures .0) (c .refused .ensures .1) ∙ ap (λ (x : Answer). record { answer = x; state = a .state })
+          (c .before .refuse .ensures) ∙ t .0,
+      t .1,
+    )
+
+refuse-requires-2 : tie.Need-refuse-requires-2
+refuse-requires-2 c κs = search needs
+
+refused-requires-2 : tie.Need-refused-requires-2
+refused-requires-2 c κs = search needs
+
+returns-2 : tie.Need-returns-2
+returns-2 c =
+    let a = c .before .before .before .before .before .before .before .args in
+    let b = a .out .now in
+    let t = finish-short (a .state) b (sym (c .before .before .before .before .before .waits .ensures) ∙ not-false (c .before .before .before .before .before .waits .result)
+    (c .before .before .before .before .if1 .left)) (omega (arith, c .before .before .if2 .taken)) in (
+      step-is (c .refused2 .result) (c .before .refuse2 .result) (a .state) (c .refused2 .ensures .0) (c .refused2 .ensures .1) ∙ ap (λ (x : Answer). record { answer = x; state = a .state })
+          (c .before .refuse2 .ensures) ∙ t .0,
+      t .1,
+    )
+
+finished-requires : tie.Need-finished-requires
+finished-requires c κs = search needs
+
+judge-finished-requires : tie.Need-judge-finished-requires
+judge-finished-requires c κs =
+    let a = c .before .before .before .before .before .before .before .args in
+    let b = a .out .now in (
+      sym (c .before .before .before .before .before .waits .ensures) ∙ not-false (c .before .before .before .before .before .waits .result) (c .before .before .before .before .if1 .left),
+      omega
+          (arith, c .before .before .if2 .left),
+    )
+
+refused-requires-3 : tie.Need-refused-requires-3
+refused-requires-3 c κs = search needs
+
+same-length : tie.Need-same-length
+same-length c = search needs
+
+returns-3 : tie.Need-returns-3
+returns-3 c =
+    let a = c .before .before .before .before .before .before .before .before .before .before .before .before .before .args in
+    let b = a .out .now in
+    let j = c .before .before .before .before .before .judge-finished .ensures in
+    let t = finish-refused (a .state) b (sym (c .before .before .before .before .before .before .before .before .before .before .before .waits .ensures) ∙ not-false
+    (c .before .before .before .before .before .before .before .before .before .before .before .waits .result)
+    (c .before .before .before .before .before .before .before .before .before .before .if1 .left)) (omega (arith, c .before .before .before .before .before .before .before .before .if2 .left))
+    (c .before .before .before .before .before .judge-finished .result) (j .0) (c .before .if3 .taken) in (
+      step-is (c .refused3 .result) (c .before .before .before .before .before .judge-finished .result) (a .state) (c .refused3 .ensures .0) (c .refused3 .ensures .1) ∙ t .0,
+      j .1 ∙ ap (λ (c : Bool).
+          pick c (sealed (a .state) b) b) (ne-eqb (c .before .before .before .before .before .judge-finished .result .number) 0 (c .before .if3 .taken)) ∙ t .1,
+    )
+
+same-length-2 : tie.Need-same-length-2
+same-length-2 c = search needs
+
+returns-4 : tie.Need-returns-4
+returns-4 c =
+    let a = c .before .before .before .before .before .before .before .before .before .before .before .before .args in
+    let b = a .out .now in
+    let j = c .before .before .before .before .judge-finished .ensures in
+    let t = finish-done (a .state) b (sym (c .before .before .before .before .before .before .before .before .before .before .waits .ensures) ∙ not-false
+    (c .before .before .before .before .before .before .before .before .before .before .waits .result) (c .before .before .before .before .before .before .before .before .before .if1 .left))
+    (omega (arith, c .before .before .before .before .before .before .before .if2 .left)) (c .before .before .before .before .judge-finished .result) (j .0) (c .if3 .left) in (
+      ap (λ (y : State). record { answer = c .before .before .before .before .judge-finished .result; state = y }) (c .before .before .before .before .before .before .finished .ensures) ∙ t .0,
+      j .1 ∙ ap (λ (c : Bool). pick c (sealed (a .state) b) b) (eq-eqb (c .before .before .before .before .judge-finished .result .number) 0 (c .if3 .left)) ∙ t .1,
+    )
+
+pub finish-spec : {M : Type 1} → statement M
+finish-spec =
+    tie.close
+    (tie.spec
+    waits-requires
+    refuse-requires
+    refused-requires
+    returns
+    refuse-requires-2
+    refused-requires-2
+    returns-2
+    finished-requires
+    judge-finished-requires
+    refused-requires-3
+    same-length
+    returns-3
+    same-length-2
+    returns-4)

@@ -1,0 +1,67 @@
+use Rattle.builder_record.proofs.LayLaws.{six-long}
+use Rattle.bytes_writer.proofs.StoreLaws.{chain-laid}
+use lib.ListN.{length}
+use Prim.Native.Nat.{_+_}
+use mathlib.Core.List.{[], _∷_}
+use mathlib.Core.Path.{refl}
+use native.Mathlib.Omega.{arith}
+use borrow.Author.Needs.{needs}
+use Rattle.builder_record.proofs.laying.lay_pieces.Statement.{statement}
+use Rattle.builder_record.proofs.laying.lay_pieces.Tie as tie
+
+copy-into-requires : tie.Need-copy-into-requires
+copy-into-requires c κs = let n = six-long (c .before .before .before .before .before .before .before .before .args .first .now) (c .before .before .before .before .before .before .before .before .args .second .now) (c .before .before .before .before .before .before .before .before .args .third .now) (c .before .before .before .before .before .before .before .before .args .fourth .now) (c .before .before .before .before .before .before .before .before .args .fifth .now) (c .before .before .before .before .before .before .before .before .args .sixth .now) in omega (arith, n, c .before .before .before .before .before .before .before .before .pre)
+
+add-at2 : tie.Need-add-at2
+add-at2 c = let n = six-long (c .before .before .before .before .before .before .before .before .before .before .before .args .first .now) (c .before .before .before .before .before .before .before .before .before .before .before .args .second .now) (c .before .before .before .before .before .before .before .before .before .before .before .args .third .now) (c .before .before .before .before .before .before .before .before .before .before .before .args .fourth .now) (c .before .before .before .before .before .before .before .before .before .before .before .args .fifth .now) (c .before .before .before .before .before .before .before .before .before .before .before .args .sixth .now) in omega (arith, n, c .before .before .before .before .before .before .before .before .before .before .before .pre)
+
+copy-into-requires-2 : tie.Need-copy-into-requires-2
+copy-into-requires-2 c κs = let n = six-long (c .before .before .before .before .before .before .before .before .before .before .before .before .args .first .now) (c .before .before .before .before .before .before .before .before .before .before .before .before .args .second .now) (c .before .before .before .before .before .before .before .before .before .before .before .before .args .third .now) (c .before .before .before .before .before .before .before .before .before .before .before .before .args .fourth .now) (c .before .before .before .before .before .before .before .before .before .before .before .before .args .fifth .now) (c .before .before .before .before .before .before .before .before .before .before .before .before .args .sixth .now) in omega (arith, n, c .before .before .before .before .before .before .before .before .before .before .before .before .pre, c .before .before .before .copy-into .kept .0)
+
+add-at3 : tie.Need-add-at3
+add-at3 c = let n = six-long (c .before .before .before .before .before .before .before .before .before .before .before .before .before .before .before .args .first .now) (c .before .before .before .before .before .before .before .before .before .before .before .before .before .before .before .args .second .now) (c .before .before .before .before .before .before .before .before .before .before .before .before .before .before .before .args .third .now) (c .before .before .before .before .before .before .before .before .before .before .before .before .before .before .before .args .fourth .now) (c .before .before .before .before .before .before .before .before .before .before .before .before .before .before .before .args .fifth .now) (c .before .before .before .before .before .before .before .before .before .before .before .before .before .before .before .args .sixth .now) in omega (arith, n, c .before .before .before .before .before .before .before .before .before .before .before .before .before .before .before .pre)
+
+copy-into-requires-3 : tie.Need-copy-into-requires-3
+copy-into-requires-3 c κs = let n = six-long (c .before .before .before .before .before .before .before .before .before .before .before .before .before .before .before .before .args .first .now) (c .before .before .before .before .before .before .before .before .before .before .before .before .before .before .before .before .args .second .now) (c .before .before .before .before .before .before .before .before .before .before .before .before .before .before .before .before .args .third .now) (c .before .before .before .before .before .before .before .before .before .before .before .before .before .before .before .before .args .fourth .now) (c .before .before .before .before .before .before .before .before .before .before .before .before .before .before .before .before .args .fifth .now) (c .before .before .before .before .before .before .before .before .before .before .before .before .before .before .before .before .args .sixth .now) in omega (arith, n, c .before .before .before .before .before .before .before .before .before .before .before .before .before .before .before .before .pre, c .before .before .before .before .before .before .before .copy-into .kept .0, c .before .before .before .copy-into2 .kept .0)
+
+add-at4 : tie.Need-add-at4
+add-at4 c = let n = six-long (c .before .before .before .before .before .before .before .before .before .before .before .before .before .before .before .before .before .before .before .args .first .now) (c .before .before .before .before .before .before .before .before .before .before .before .before .before .before .before .before .before .before .before .args .second .now) (c .before .before .before .before .before .before .before .before .before .before .before .before .before .before .before .before .before .before .before .args .third .now) (c .before .before .before .before .before .before .before .before .before .before .before .before .before .before .before .before .before .before .before .args .fourth .now) (c .before .before .before .before .before .before .before .before .before .before .before .before .before .before .before .before .before .before .before .args .fifth .now) (c .before .before .before .before .before .before .before .before .before .before .before .before .before .before .before .before .before .before .before .args .sixth .now) in omega (arith, n, c .before .before .before .before .before .before .before .before .before .before .before .before .before .before .before .before .before .before .before .pre)
+
+copy-into-requires-4 : tie.Need-copy-into-requires-4
+copy-into-requires-4 c κs = let n = six-long (c .before .before .before .before .before .before .before .before .before .before .before .before .before .before .before .before .before .before .before .before .args .first .now) (c .before .before .before .before .before .before .before .before .before .before .before .before .before .before .before .before .before .before .before .before .args .second .now) (c .before .before .before .before .before .before .before .before .before .before .before .before .before .before .before .before .before .before .before .before .args .third .now) (c .before .before .before .before .before .before .before .before .before .before .before .before .before .before .before .before .before .before .before .before .args .fourth .now) (c .before .before .before .before .before .before .before .before .before .before .before .before .before .before .before .before .before .before .before .before .args .fifth .now) (c .before .before .before .before .before .before .before .before .before .before .before .before .before .before .before .before .before .before .before .before .args .sixth .now) in omega (arith, n, c .before .before .before .before .before .before .before .before .before .before .before .before .before .before .before .before .before .before .before .before .pre, c .before .before .before .before .before .before .before .before .before .before .before .copy-into .kept .0, c .before .before .before .before .before .before .before .copy-into2 .kept .0, c .before .before .before .copy-into3 .kept .0)
+
+add-at5 : tie.Need-add-at5
+add-at5 c = let n = six-long (c .before .before .before .before .before .before .before .before .before .before .before .before .before .before .before .before .before .before .before .before .before .before .before .args .first .now) (c .before .before .before .before .before .before .before .before .before .before .before .before .before .before .before .before .before .before .before .before .before .before .before .args .second .now) (c .before .before .before .before .before .before .before .before .before .before .before .before .before .before .before .before .before .before .before .before .before .before .before .args .third .now) (c .before .before .before .before .before .before .before .before .before .before .before .before .before .before .before .before .before .before .before .before .before .before .before .args .fourth .now) (c .before .before .before .before .before .before .before .before .before .before .before .before .before .before .before .before .before .before .before .before .before .before .before .args .fifth .now) (c .before .before .before .before .before .before .before .before .before .before .before .before .before .before .before .before .before .before .before .before .before .before .before .args .sixth .now) in omega (arith, n, c .before .before .before .before .before .before .before .before .before .before .before .before .before .before .before .before .before .before .before .before .before .before .before .pre)
+
+copy-into-requires-5 : tie.Need-copy-into-requires-5
+copy-into-requires-5 c κs = let n = six-long (c .before .before .before .before .before .before .before .before .before .before .before .before .before .before .before .before .before .before .before .before .before .before .before .before .args .first .now) (c .before .before .before .before .before .before .before .before .before .before .before .before .before .before .before .before .before .before .before .before .before .before .before .before .args .second .now) (c .before .before .before .before .before .before .before .before .before .before .before .before .before .before .before .before .before .before .before .before .before .before .before .before .args .third .now) (c .before .before .before .before .before .before .before .before .before .before .before .before .before .before .before .before .before .before .before .before .before .before .before .before .args .fourth .now) (c .before .before .before .before .before .before .before .before .before .before .before .before .before .before .before .before .before .before .before .before .before .before .before .before .args .fifth .now) (c .before .before .before .before .before .before .before .before .before .before .before .before .before .before .before .before .before .before .before .before .before .before .before .before .args .sixth .now) in omega (arith, n, c .before .before .before .before .before .before .before .before .before .before .before .before .before .before .before .before .before .before .before .before .before .before .before .before .pre, c .before .before .before .before .before .before .before .before .before .before .before .before .before .before .before .copy-into .kept .0, c .before .before .before .before .before .before .before .before .before .before .before .copy-into2 .kept .0, c .before .before .before .before .before .before .before .copy-into3 .kept .0, c .before .before .before .copy-into4 .kept .0)
+
+add-copy-into : tie.Need-add-copy-into
+add-copy-into c = let n = six-long (c .before .before .before .before .before .before .before .before .before .before .before .before .before .before .before .before .before .before .before .before .before .before .before .before .before .before .before .before .args .first .now) (c .before .before .before .before .before .before .before .before .before .before .before .before .before .before .before .before .before .before .before .before .before .before .before .before .before .before .before .before .args .second .now) (c .before .before .before .before .before .before .before .before .before .before .before .before .before .before .before .before .before .before .before .before .before .before .before .before .before .before .before .before .args .third .now) (c .before .before .before .before .before .before .before .before .before .before .before .before .before .before .before .before .before .before .before .before .before .before .before .before .before .before .before .before .args .fourth .now) (c .before .before .before .before .before .before .before .before .before .before .before .before .before .before .before .before .before .before .before .before .before .before .before .before .before .before .before .before .args .fifth .now) (c .before .before .before .before .before .before .before .before .before .before .before .before .before .before .before .before .before .before .before .before .before .before .before .before .before .before .before .before .args .sixth .now) in omega (arith, n, c .before .before .before .before .before .before .before .before .before .before .before .before .before .before .before .before .before .before .before .before .before .before .before .before .before .before .before .before .pre)
+
+copy-into-requires-6 : tie.Need-copy-into-requires-6
+copy-into-requires-6 c κs = let n = six-long (c .before .before .before .before .before .before .before .before .before .before .before .before .before .before .before .before .before .before .before .before .before .before .before .before .before .before .before .before .args .first .now) (c .before .before .before .before .before .before .before .before .before .before .before .before .before .before .before .before .before .before .before .before .before .before .before .before .before .before .before .before .args .second .now) (c .before .before .before .before .before .before .before .before .before .before .before .before .before .before .before .before .before .before .before .before .before .before .before .before .before .before .before .before .args .third .now) (c .before .before .before .before .before .before .before .before .before .before .before .before .before .before .before .before .before .before .before .before .before .before .before .before .before .before .before .before .args .fourth .now) (c .before .before .before .before .before .before .before .before .before .before .before .before .before .before .before .before .before .before .before .before .before .before .before .before .before .before .before .before .args .fifth .now) (c .before .before .before .before .before .before .before .before .before .before .before .before .before .before .before .before .before .before .before .before .before .before .before .before .before .before .before .before .args .sixth .now) in omega (arith, n, c .before .before .before .before .before .before .before .before .before .before .before .before .before .before .before .before .before .before .before .before .before .before .before .before .before .before .before .before .pre, c .before .before .before .before .before .before .before .before .before .before .before .before .before .before .before .before .before .before .before .copy-into .kept .0, c .before .before .before .before .before .before .before .before .before .before .before .before .before .before .before .copy-into2 .kept .0, c .before .before .before .before .before .before .before .before .before .before .before .copy-into3 .kept .0, c .before .before .before .before .before .before .before .copy-into4 .kept .0, c .before .before .before .copy-into5 .kept .0)
+
+same-length : tie.Need-same-length
+same-length c = search needs
+
+returns : tie.Need-returns
+returns c = let a = c .before .before .before .before .before .before .before .before .before .before .before .before .before .before .before .before .before .before .before .before .before .before .before .before .before .before .before .before .before .before .before .args in chain-laid (a .first .now ∷ a .second .now ∷ a .third .now ∷ a .fourth .now ∷ a .fifth .now ∷ a .sixth .now ∷ []) (a .out .now) (a .next) (c .before .before .copy-into6 .last .0) (c .before .before .before .before .before .before .before .before .before .before .before .before .before .before .before .before .before .before .before .before .before .before .before .before .before .before .before .before .before .before .before .pre) (c .before .before .before .before .before .before .before .before .before .before .before .before .before .before .before .before .before .before .before .before .before .before .copy-into .last .0, a .next, c .before .before .before .before .before .before .before .before .before .before .before .before .before .before .before .before .before .before .before .before .before .before .copy-into .ensures, refl, (c .before .before .before .before .before .before .before .before .before .before .before .before .before .before .before .before .before .before .copy-into2 .last .0, a .next + length (a .first .now), c .before .before .before .before .before .before .before .before .before .before .before .before .before .before .before .before .before .before .copy-into2 .ensures, refl, (c .before .before .before .before .before .before .before .before .before .before .before .before .before .before .copy-into3 .last .0, a .next + length (a .first .now) + length (a .second .now), c .before .before .before .before .before .before .before .before .before .before .before .before .before .before .copy-into3 .ensures, refl, (c .before .before .before .before .before .before .before .before .before .before .copy-into4 .last .0, a .next + length (a .first .now) + length (a .second .now) + length (a .third .now), c .before .before .before .before .before .before .before .before .before .before .copy-into4 .ensures, refl, (c .before .before .before .before .before .before .copy-into5 .last .0, a .next + length (a .first .now) + length (a .second .now) + length (a .third .now) + length (a .fourth .now), c .before .before .before .before .before .before .copy-into5 .ensures, refl, (c .before .before .copy-into6 .last .0, a .next + length (a .first .now) + length (a .second .now) + length (a .third .now) + length (a .fourth .now) + length (a .fifth .now), c .before .before .copy-into6 .ensures, refl, refl))))))
+
+pub lay-pieces-spec : {M : Type 1} → statement M
+lay-pieces-spec =
+    tie.close
+    (tie.spec
+    copy-into-requires
+    add-at2
+    copy-into-requires-2
+    add-at3
+    copy-into-requires-3
+    add-at4
+    copy-into-requires-4
+    add-at5
+    copy-into-requires-5
+    add-copy-into
+    copy-into-requires-6
+    same-length
+    returns)

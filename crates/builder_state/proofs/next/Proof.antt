@@ -1,0 +1,63 @@
+use Rattle.table.specs.Meaning.{limit}
+use mathlib.Core.Path.{ap, sym, _∙_}
+use mathlib.Core.Bool.{Bool}
+use borrow.Author.Tests.{ne-eqb}
+use Prim.Native.Nat.{ℕ, _+_}
+use lib.Dec.{eqb}
+use Rattle.table.specs.Bytes.{pick}
+use Rattle.table.specs.Builder.{moved, turn}
+use Rattle.builder_state.proofs.Laws.{next-inside, next-later}
+use native.Mathlib.Omega.{arith}
+use borrow.Author.Needs.{needs}
+use Rattle.builder_state.proofs.next.Statement.{statement}
+use Rattle.builder_state.proofs.next.Tie as tie
+
+add-used : tie.Need-add-used
+unfolding limit
+add-used c = search needs
+
+cast-if1 : tie.Need-cast-if1
+cast-if1 c = search needs
+
+count-of-requires : tie.Need-count-of-requires
+count-of-requires c κs = search needs
+
+add-moved-to : tie.Need-add-moved-to
+add-moved-to c = search needs
+
+moved-to-requires : tie.Need-moved-to-requires
+moved-to-requires c κs = search needs
+
+returns : tie.Need-returns
+returns c = c .moved-to .ensures ∙ next-inside (c .before .before .before .before .before .before .args .state) (c .before .before .before .before .before .before .args .written) (c .before .before .before .count-of .result) (c .before .before .before .count-of .ensures .0) (c .before .before .if1 .taken)
+
+later-list-requires : tie.Need-later-list-requires
+later-list-requires c κs = search needs
+
+moved-to-requires-2 : tie.Need-moved-to-requires-2
+moved-to-requires-2 c κs = search needs
+
+returns-2 : tie.Need-returns-2
+returns-2 c = c .moved-to2 .ensures ∙ ap (λ x. moved (c .before .before .before .before .before .before .before .args .state) x (c .before .before .before .before .before .before .before .args .state .used + c .before .before .before .before .before .before .before .args .written)) (sym (ap (λ (k : ℕ). turn k (pick (eqb k 7) 0 1)) (c .before .if2 .taken)) ∙ c .before .before .later-list .ensures) ∙ next-later (c .before .before .before .before .before .before .before .args .state) (c .before .before .before .before .before .before .before .args .written) (c .before .before .before .before .count-of .result) (c .before .before .before .before .count-of .ensures .0) (omega (arith, c .before .before .before .if1 .left))
+
+moved-to-requires-3 : tie.Need-moved-to-requires-3
+moved-to-requires-3 c κs = search needs
+
+returns-3 : tie.Need-returns-3
+returns-3 c = c .moved-to3 .ensures ∙ ap (λ x. moved (c .before .before .before .before .before .before .before .args .state) x (c .before .before .before .before .before .before .before .args .state .used + c .before .before .before .before .before .before .before .args .written)) (ap (λ (b : Bool). turn (c .before .before .later-list .result) (pick b 0 1)) (sym (ne-eqb (c .before .before .later-list .result) 7 (c .before .if2 .left))) ∙ c .before .before .later-list .ensures) ∙ next-later (c .before .before .before .before .before .before .before .args .state) (c .before .before .before .before .before .before .before .args .written) (c .before .before .before .before .count-of .result) (c .before .before .before .before .count-of .ensures .0) (omega (arith, c .before .before .before .if1 .left))
+
+pub next-spec : {M : Type 1} → statement M
+next-spec =
+    tie.close
+    (tie.spec
+    add-used
+    cast-if1
+    count-of-requires
+    add-moved-to
+    moved-to-requires
+    returns
+    later-list-requires
+    moved-to-requires-2
+    returns-2
+    moved-to-requires-3
+    returns-3)

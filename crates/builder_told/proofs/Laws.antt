@@ -1,0 +1,93 @@
+-- Told records: which kinds may be told, what the builder sets of them, and the image and the objects that are left. Assumes nothing.
+use mathlib.Core.Path.{_≡_, refl, sym, ap, ap₂, _∙_, subst}
+use mathlib.Core.Bool.{Bool, true, false}
+use mathlib.Core.List.{List, [], _∷_, _++_, append-nil}
+use Prim.Native.Nat.{ℕ, _+_, _*_, _/_, _<_}
+use native.Mathlib.Omega.{arith}
+use lib.ListN.{length, getD, take, drop}
+use lib.Seq.{take-length, drop-length}
+use lib.Dec.{leb, eqb, lit<}
+use borrow.Author.Tests.{ne-eqb, eqb-true}
+use Rattle.table.specs.declared.Need.the-variants.{Required}
+use Rattle.table.specs.Bytes.{pick, splice}
+use Rattle.table.specs.Layout.{Layout, Shape, baseOf}
+use Rattle.table.specs.FixedLayouts.{layoutOf, host, hfi, ssns, security, discovery, info, extended}
+use Rattle.table.specs.Builder.{toldImage}
+use Rattle.laws.specs.Fields.{imageIn}
+use Rattle.builder_told.specs.Faults.{objectFault}
+use Rattle.builder_told.specs.Marks.{Tellable, stamped, marked}
+
+-- one more store
+pub further : (t t′ u : List ℕ) (a : ℕ) (bs : List ℕ) → u ≡ splice t a bs → t ≡ t′ → u ≡ splice t′ a bs
+further t t′ u a bs e f = e ∙ ap (λ (x : List ℕ). splice x a bs) f
+
+-- what is left when all other kinds are gone
+pub last-kind : (k : ℕ) → Tellable k → (k ≡ 2 → ⊥) → (k ≡ 3 → ⊥) → (k ≡ 4 → ⊥) → (k ≡ 5 → ⊥) → (k ≡ 6 → ⊥) → (k ≡ 7 → ⊥) → k ≡ 9
+last-kind k t a b c d e f = eqb-true k 9 (rw (ne-eqb k 2 a, ne-eqb k 3 b, ne-eqb k 4 c, ne-eqb k 5 d, ne-eqb k 6 e, ne-eqb k 7 f) at t)
+
+-- ---- objects
+
+pub required-none : (o : List ℕ) → length o ≡ 0 → objectFault Required o ≡ 11
+required-none [] e = refl
+required-none (x ∷ o) e = absurd (omega (arith, e))
+
+pub required-some : (o : List ℕ) → (length o ≡ 0 → ⊥) → objectFault Required o ≡ pick (leb (length o) 65535) 0 11
+required-some [] e = absurd (e refl)
+required-some (x ∷ o) e = refl
+
+-- ---- any kind that is told
+
+pub by-kind : (P : ℕ → Type 0) → P 2 → P 3 → P 4 → P 5 → P 6 → P 7 → P 9 → (k : ℕ) → Tellable k → P k
+by-kind P a b c d e f g k t = two (eqb k 2) refl
+  where
+    at : (n : ℕ) → eqb k n ≡ true → P n → P k
+    at n q x = subst P (sym (eqb-true k n q)) x
+
+    seven : (z : Bool) → eqb k 7 ≡ z → eqb k 2 ≡ false → eqb k 3 ≡ false → eqb k 4 ≡ false → eqb k 5 ≡ false → eqb k 6 ≡ false → P k
+    seven true q q₂ q₃ q₄ q₅ q₆ = at 7 q f
+    seven false q q₂ q₃ q₄ q₅ q₆ = at 9 (rw (q₂, q₃, q₄, q₅, q₆, q) at t) g
+
+    six : (z : Bool) → eqb k 6 ≡ z → eqb k 2 ≡ false → eqb k 3 ≡ false → eqb k 4 ≡ false → eqb k 5 ≡ false → P k
+    six true q q₂ q₃ q₄ q₅ = at 6 q e
+    six false q q₂ q₃ q₄ q₅ = seven (eqb k 7) refl q₂ q₃ q₄ q₅ q
+
+    five : (z : Bool) → eqb k 5 ≡ z → eqb k 2 ≡ false → eqb k 3 ≡ false → eqb k 4 ≡ false → P k
+    five true q q₂ q₃ q₄ = at 5 q d
+    five false q q₂ q₃ q₄ = six (eqb k 6) refl q₂ q₃ q₄ q
+
+    four : (z : Bool) → eqb k 4 ≡ z → eqb k 2 ≡ false → eqb k 3 ≡ false → P k
+    four true q q₂ q₃ = at 4 q c
+    four false q q₂ q₃ = five (eqb k 5) refl q₂ q₃ q
+
+    three : (z : Bool) → eqb k 3 ≡ z → eqb k 2 ≡ false → P k
+    three true q q₂ = at 3 q b
+    three false q q₂ = four (eqb k 4) refl q₂ q
+
+    two : (z : Bool) → eqb k 2 ≡ z → P k
+    two true q = at 2 q a
+    two false q = three (eqb k 3) refl q
+
+pub flags-inside : (k : ℕ) → Tellable k → layoutOf k .shape .flags .at < baseOf (layoutOf k)
+unfolding layoutOf host hfi ssns security discovery info extended
+flags-inside k t = by-kind (λ n. layoutOf n .shape .flags .at < baseOf (layoutOf n)) (lit< tt) (lit< tt) (lit< tt) (lit< tt) (lit< tt) (lit< tt) (lit< tt) k t
+
+pub valid-of : (u y y′ : List ℕ) (f f′ : ℕ) → u ≡ splice y f ((getD y f 0 / 2 * 2 + 1) ∷ []) → y ≡ y′ → f ≡ f′ → u ≡ splice y′ f′ ((getD y′ f′ 0 / 2 * 2 + 1) ∷ [])
+valid-of u y y′ f f′ e p q = e ∙ ap₂ (λ (x : List ℕ) (n : ℕ). splice x n ((getD x n 0 / 2 * 2 + 1) ∷ [])) p q
+
+-- ---- records by value
+
+-- an array that was lent as a whole
+pub lent-whole : (s : Shape) (n m : ℕ) (x y : List ℕ) → length x ≡ m → y ≡ marked s n (take m x) → length y ≡ length (take m x)
+    → (y ++ drop m x ≡ marked s n x) × (length x ≡ m) × (length (y ++ drop m x) ≡ m)
+lent-whole s n m x y l e k =
+    let t : take m x ≡ x = ap (λ (i : ℕ). take i x) (sym l) ∙ take-length x in
+    let d : drop m x ≡ [] = ap (λ (i : ℕ). drop i x) (sym l) ∙ drop-length x in
+    (ap (λ (r : List ℕ). y ++ r) d ∙ append-nil y ∙ e ∙ ap (marked s n) t, l, ap (λ (r : List ℕ). length (y ++ r)) d ∙ ap length (append-nil y) ∙ k ∙ ap length t ∙ l)
+
+-- the image of a told record
+told-image : (l : Layout) (n : ℕ) (x : List ℕ) → imageIn l (marked (l .shape) n x) 0 ≡ toldImage (l .shape) n x
+unfolding imageIn toldImage marked stamped
+told-image l n x = refl
+
+pub image-is : (l : Layout) (n : ℕ) (x b : List ℕ) → b ≡ marked (l .shape) n x → imageIn l b 0 ≡ toldImage (l .shape) n x
+image-is l n x b e = ap (λ (y : List ℕ). imageIn l y 0) e ∙ told-image l n x

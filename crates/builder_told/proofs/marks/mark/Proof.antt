@@ -1,0 +1,26 @@
+use Rattle.builder_told.proofs.Laws.{flags-inside, valid-of}
+use native.Mathlib.Omega.{arith}
+use Rattle.builder_told.specs.Marks.{marked}
+use borrow.Author.Needs.{needs}
+use Rattle.builder_told.proofs.marks.mark.Statement.{statement}
+use Rattle.builder_told.proofs.marks.mark.Tie as tie
+
+stamp-requires : tie.Need-stamp-requires
+stamp-requires c κs = search needs
+
+flags-at-requires : tie.Need-flags-at-requires
+flags-at-requires c κs = search needs
+
+set-valid-requires : tie.Need-set-valid-requires
+set-valid-requires c κs = omega (arith, flags-inside (c .before .before .before .before .before .before .before .args .kind) (c .before .before .before .before .before .before .before .pre .0), c .before .before .before .before .before .before .before .pre .1, c .flags-at .ensures, c .before .before .before .before .stamp .kept .0)
+
+same-length : tie.Need-same-length
+same-length c = search needs
+
+returns : tie.Need-returns
+unfolding marked
+returns c = valid-of _ (c .before .before .before .before .before .before .before .stamp .last .0) _ (c .before .before .before .flags-at .result) _ (c .before .before .set-valid .ensures) (c .before .before .before .before .before .before .before .stamp .ensures) (c .before .before .before .flags-at .ensures)
+
+pub mark-spec : {M : Type 1} → statement M
+mark-spec =
+    tie.close (tie.spec stamp-requires flags-at-requires set-valid-requires same-length returns)

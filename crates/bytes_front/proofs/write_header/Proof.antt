@@ -1,0 +1,132 @@
+use lib.ListN.{length}
+use native.Mathlib.Omega.{arith}
+use Prim.Native.Nat.{_+_}
+use mathlib.Core.Path.{_≡_, refl, _∙_}
+use Rattle.bytes_writer.specs.Stores.{refNum}
+use Rattle.bytes_writer.proofs.StoreLaws.{chain-laid, concat}
+use Rattle.bytes_writer.proofs.RecordLaws.{length-ref, splice-all}
+use Rattle.bytes_front.proofs.FrontLaws.{headerPieces, header-long, header-joined}
+use borrow.Author.Needs.{needs}
+use Rattle.bytes_front.proofs.write_header.Statement.{statement}
+use Rattle.bytes_front.proofs.write_header.Tie as tie
+
+put-u32-requires : tie.Need-put-u32-requires
+put-u32-requires c κs = search needs
+
+put-u32-requires-2 : tie.Need-put-u32-requires-2
+put-u32-requires-2 c κs = search needs
+
+put-u8-requires : tie.Need-put-u8-requires
+put-u8-requires c κs = search needs
+
+put-u8-requires-2 : tie.Need-put-u8-requires-2
+put-u8-requires-2 c κs = search needs
+
+copy-into-requires : tie.Need-copy-into-requires
+copy-into-requires c κs = search needs
+
+put-u32-requires-3 : tie.Need-put-u32-requires-3
+put-u32-requires-3 c κs = search needs
+
+put-u32-requires-4 : tie.Need-put-u32-requires-4
+put-u32-requires-4 c κs = search needs
+
+put-slot-requires : tie.Need-put-slot-requires
+put-slot-requires c κs = search needs
+
+fill-zero-requires : tie.Need-fill-zero-requires
+fill-zero-requires c κs =
+    omega (
+      arith,
+      c .before .before .before .before .before .before .before .before .before .before .before .before .before .before .before .before .before .before .before .before .before .before
+          .before .before .before .before .before .before .before .before .before .before .before .before .before .pre,
+      c .before .before .before .before .before .before .before .before .before .before .before .before .before .before .before .before .before .before .before .before .before .before .before
+          .before .before .before .before .before .before .before .before .put-u32 .kept .0,
+      c .before .before .before .before .before .before .before .before .before .before .before .before .before .before .before .before .before .before .before .before .before .before .before
+          .before .before .before .before .put-u322 .kept .0,
+      c .before .before .before .before .before .before .before .before .before .before .before .before .before .before .before .before .before .before .before .before .before .before .before
+          .put-u8 .kept .0,
+      c .before .before .before .before .before .before .before .before .before .before .before .before .before .before .before .before .before .before .before .put-u82 .kept
+          .0,
+      c .before .before .before .before .before .before .before .before .before .before .before .before .before .before .before .copy-into .kept .0,
+      c .before .before .before .before .before .before .before .before .before .before .before .put-u323 .kept .0,
+      c .before .before .before .before .before .before .before .put-u324 .kept .0,
+      c .before .before .before .put-slot .kept .0,
+    )
+
+same-length : tie.Need-same-length
+same-length c = search needs
+
+returns : tie.Need-returns
+returns c =
+    let s = c .before .before .before .before .before .before .before .before .before .before .before .before .before .before .before .before .before .before .before .before .before .before
+    .before .before .before .before .before .before .before .before .before .before .before .before .before .before .before .before in
+    let a = s .args in
+    let p0 = c .before .before .before .before .before .before .before .before .before .before .before .before .before .before .before .before .before .before .before .before .before .before
+    .before .before .before .before .before .before .before .before .before .before .before .before .put-u32 in
+    let p1 = c .before .before .before .before .before .before .before .before .before .before .before .before .before .before .before .before .before .before .before .before .before .before
+    .before .before .before .before .before .before .before .before .put-u322 in
+    let p2 = c .before .before .before .before .before .before .before .before .before .before .before .before .before .before .before .before .before .before .before .before .before .before
+    .before .before .before .before .put-u8 in
+    let p3 = c .before .before .before .before .before .before .before .before .before .before .before .before .before .before .before .before .before .before .before .before .before .before
+    .put-u82 in
+    let p4 = c .before .before .before .before .before .before .before .before .before .before .before .before .before .before .before .before .before .before .copy-into in
+    let p5 = c .before .before .before .before .before .before .before .before .before .before .before .before .before .before .put-u323 in
+    let p6 = c .before .before .before .before .before .before .before .before .before .before .put-u324 in
+    let p7 = c .before .before .before .before .before .before .put-slot in
+    let p8 = c .before .before .fill-zero in
+    let o = a .oem .now in
+    let l = header-long (a .size) o (a .heap) (a .heapsize) (a .signature) (s .pre .1) in
+    let w5 : 36 ≡ 10 + length o = omega (arith, s .pre) in
+    let w6 : 40 ≡ 10 + length o + 4 = omega (arith, s .pre) in
+    let w7 : 44 ≡ 10 + length o + 4 + 4 = omega (arith, s .pre) in
+    let w8 : 50 ≡ 10 + length o + 4 + 4 + length (refNum (a .heap) (a .signature)) = omega (arith, s .pre, length-ref (a .heap) (a .signature)) in
+    chain-laid (headerPieces (a .size) o (a .heap) (a .heapsize) (a .signature)) (a .part .now) 0 (p8 .last .0) (omega (arith, l, s .pre)) (
+      p0 .last .0,
+      0,
+      p0 .ensures,
+      refl,
+      (
+        p1 .last .0,
+        4,
+        p1 .ensures,
+        refl,
+        (
+          p2 .last .0,
+          8,
+          p2 .ensures,
+          refl,
+          (
+            p3 .last .0,
+            9,
+            p3 .ensures,
+            refl,
+            (
+              p4 .last .0,
+              10,
+              p4 .ensures,
+              refl,
+              (p5 .last .0, 36, p5 .ensures, w5, (p6 .last .0, 40, p6 .ensures, w6, (p7 .last .0, 44, p7 .ensures, w7, (p8 .last .0, 50, p8 .ensures, w8, refl)))),
+            ),
+          ),
+        ),
+      ),
+    )
+    ∙ splice-all (a .part .now) (concat (headerPieces (a .size) o (a .heap) (a .heapsize) (a .signature))) (omega (arith, l, s .pre))
+    ∙ header-joined (a .size) o (a .heap) (a .heapsize) (a .signature)
+
+pub write-header-spec : {M : Type 1} → statement M
+write-header-spec =
+    tie.close
+    (tie.spec
+    put-u32-requires
+    put-u32-requires-2
+    put-u8-requires
+    put-u8-requires-2
+    copy-into-requires
+    put-u32-requires-3
+    put-u32-requires-4
+    put-slot-requires
+    fill-zero-requires
+    same-length
+    returns)

@@ -1,0 +1,62 @@
+use Rattle.c_states.proofs.StateLaws.{state-read}
+use native.Mathlib.Omega.{arith}
+use borrow.Author.Needs.{needs}
+use Rattle.c_states.proofs.state_in.Statement.{statement}
+use Rattle.c_states.proofs.state_in.Tie as tie
+
+u16-at-requires : tie.Need-u16-at-requires
+u16-at-requires c κs = search needs
+
+u16-at-requires-2 : tie.Need-u16-at-requires-2
+u16-at-requires-2 c κs = search needs
+
+u32-at-requires : tie.Need-u32-at-requires
+u32-at-requires c κs = search needs
+
+u32-at-requires-2 : tie.Need-u32-at-requires-2
+u32-at-requires-2 c κs = search needs
+
+mul-used : tie.Need-mul-used
+mul-used c = search needs
+
+add-used : tie.Need-add-used
+add-used c = search needs
+
+cast-t8 : tie.Need-cast-t8
+cast-t8 c = search needs
+
+cast-t9 : tie.Need-cast-t9
+cast-t9 c = search needs
+
+shared-slice-read-t11 : tie.Need-shared-slice-read-t11
+shared-slice-read-t11 c = search needs
+
+shared-slice-read-t13 : tie.Need-shared-slice-read-t13
+shared-slice-read-t13 c = search needs
+
+shared-slice-read-t15 : tie.Need-shared-slice-read-t15
+shared-slice-read-t15 c = search needs
+
+shared-slice-read-t17 : tie.Need-shared-slice-read-t17
+shared-slice-read-t17 c = search needs
+
+returns : tie.Need-returns
+returns c = (state-read (c .before .before .before .before .before .before .before .before .before .args .b .now) (c .before .before .before .before .before .before .before .u16-at .result) (c .before .before .before .before .before .before .u16-at2 .result) (c .before .before .before .before .before .u32-at .result) (c .before .before .before .before .u32-at2 .result) (c .before .before .before .before .before .before .before .u16-at .ensures .0) (c .before .before .before .before .before .before .u16-at2 .ensures .0) (c .before .before .before .before .before .u32-at .ensures .0) (c .before .before .before .before .u32-at2 .ensures .0), (omega (arith, c .before .before .before .before .before .before .before .before .shared-slice-known .given 4), omega (arith, c .before .before .before .before .before .before .before .before .shared-slice-known .given 5), omega (arith, c .before .before .before .before .before .before .before .before .shared-slice-known .given 6), omega (arith, c .before .before .before .before .before .before .before .before .shared-slice-known .given 7)))
+
+pub state-in-spec : {M : Type 1} → statement M
+state-in-spec =
+    tie.close
+    (tie.spec
+    u16-at-requires
+    u16-at-requires-2
+    u32-at-requires
+    u32-at-requires-2
+    mul-used
+    add-used
+    cast-t8
+    cast-t9
+    shared-slice-read-t11
+    shared-slice-read-t13
+    shared-slice-read-t15
+    shared-slice-read-t17
+    returns)

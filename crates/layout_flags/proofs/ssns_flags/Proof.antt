@@ -1,0 +1,48 @@
+use native.Mathlib.Omega.{arith}
+use Rattle.layout_flags.proofs.Laws.{ssns-flags}
+use borrow.Author.Needs.{needs}
+use Rattle.layout_flags.proofs.ssns_flags.Statement.{statement}
+use Rattle.layout_flags.proofs.ssns_flags.Tie as tie
+
+add-wide : tie.Need-add-wide
+add-wide c = search needs
+
+shared-slice-read-wide : tie.Need-shared-slice-read-wide
+shared-slice-read-wide c = search needs
+
+wide-requires : tie.Need-wide-requires
+wide-requires c κs = search needs
+
+add-wide-2 : tie.Need-add-wide-2
+add-wide-2 c = search needs
+
+shared-slice-read-wide-2 : tie.Need-shared-slice-read-wide-2
+shared-slice-read-wide-2 c = search needs
+
+wide-requires-2 : tie.Need-wide-requires-2
+wide-requires-2 c κs = search needs
+
+mul-result : tie.Need-mul-result
+mul-result c = search needs
+
+add-result : tie.Need-add-result
+add-result c = search needs
+
+returns : tie.Need-returns
+returns c =
+    rw (ssns-flags (c .before .before .before .before .before .args .t .now) (c .before .before .before .before .before .args .a)
+    (λ i. omega (arith, c .before .before .before .before .shared-slice-known .given i))) (cc)
+
+pub ssns-flags-spec : {M : Type 1} → statement M
+ssns-flags-spec =
+    tie.close
+    (tie.spec
+    add-wide
+    shared-slice-read-wide
+    wide-requires
+    add-wide-2
+    shared-slice-read-wide-2
+    wide-requires-2
+    mul-result
+    add-result
+    returns)

@@ -1,0 +1,101 @@
+use mathlib.Core.Path.{_≡_, refl, ap, _∙_}
+use mathlib.Core.List.{List}
+use Prim.Native.Nat.{ℕ, _-_, _≤_, _<_}
+use native.Mathlib.Omega.{arith}
+use lib.Bits.{bitAnd}
+use lib.ListN.{length, getD, length-set}
+use lib.Seq.{paste, paste-zero}
+use Rattle.table.specs.FixedLayouts.{layoutOf}
+use Rattle.laws.specs.Fields.{imageIn, length-imageIn}
+use Rattle.laws.specs.ListWalk.{base-small}
+use Rattle.bytes_writer.proofs.StoreLaws.{paste-more, paste-done}
+use Rattle.layout_images.specs.Masks.{masksFor}
+use Rattle.layout_images.proofs.Laws.{masked-byte}
+use Rattle.table.proofs.Rules.{picks}
+use Rattle.layout_images.proofs.images.put_image.Statement.{statement}
+use Rattle.layout_images.proofs.images.put_image.Tie as tie
+
+abbrev Inv-loop : tie.InvT-loop
+Inv-loop out₀ d x kind masks n i₀ out i = (i ≤ n) × (out ≡ paste out₀ d (imageIn (layoutOf kind) x 0) i) × (length out ≡ length out₀)
+
+abbrev μ-loop : tie.MeasureT-loop
+μ-loop out₀ d x kind masks n i₀ out i = n - i
+
+counts-more-requires : tie.Need-counts-more-requires Inv-loop μ-loop
+counts-more-requires c κs = search picks
+
+masks-of-requires : tie.Need-masks-of-requires Inv-loop μ-loop
+masks-of-requires c κs = search picks
+
+base-size-requires : tie.Need-base-size-requires Inv-loop μ-loop
+base-size-requires c κs = search picks
+
+loop-holds : tie.Need-loop-holds Inv-loop μ-loop
+loop-holds c = let a = c .before .before .before .before .before .args in (search picks, paste-zero (a .out .now) (a .d) (imageIn (layoutOf (a .kind)) (a .x .now) 0), refl)
+
+shared-slice-read-out : tie.Need-shared-slice-read-out Inv-loop μ-loop
+shared-slice-read-out c = search picks
+
+array-read-out : tie.Need-array-read-out Inv-loop μ-loop
+array-read-out c = omega (
+  arith,
+  c .before .loop-test .taken,
+  c .before .before .before .base-size .ensures,
+  base-small
+      (c .before .before .before .before .before .before .before .before .args .kind),
+)
+
+add-out : tie.Need-add-out Inv-loop μ-loop
+add-out c = search picks
+
+slice-write-out : tie.Need-slice-write-out Inv-loop μ-loop
+slice-write-out c = search picks
+
+add-i : tie.Need-add-i Inv-loop μ-loop
+add-i c = search picks
+
+loop-less : tie.Need-loop-less Inv-loop μ-loop
+loop-less c = search picks
+
+loop-again : tie.Need-loop-again Inv-loop μ-loop
+loop-again c = let a = c .before .before .before .before .before .before .before .before .args in
+    let s = imageIn (layoutOf (a .kind)) (a .x .now) 0 in
+    let n = length-imageIn (layoutOf (a .kind)) (a .x .now) 0 in
+    let i = c .before .before .loop .i in
+    let h : i < length s = omega (arith, n, c .before .loop-test .taken, c .before .before .before .base-size .ensures) in
+    let v : bitAnd (getD (a .x .now) i 0) (getD (c .before .before .before .before .masks-of .result) i 0) ≡ getD s i 0 =
+    ap (λ (m : List ℕ). bitAnd (getD (a .x .now) i 0) (getD m i 0)) (c .before .before .before .before .masks-of .ensures
+    ∙ ap (masksFor (a .kind)) (c .before .before .before .before .before .counts-more .ensures)) ∙ masked-byte (a .kind) (a .x .now) i (omega (arith, n, h)) in (
+      search picks,
+      rw (c .before .before .loop .inv .1, v) (paste-more (a .out .now) (a .d) s i (omega
+          (arith, n, c .before .before .before .before .before .before .before .before .pre)) h),
+      simp length-set (search picks),
+    )
+
+same-length : tie.Need-same-length Inv-loop μ-loop
+same-length c = search picks
+
+returns : tie.Need-returns Inv-loop μ-loop
+returns c = let a = c .before .before .before .before .before .before .before .args in let s = imageIn (layoutOf (a .kind)) (a .x .now) 0 in
+    let n = length-imageIn (layoutOf (a .kind)) (a .x .now) 0 in
+    c .before .loop .inv .1 ∙ paste-done (a .out .now) (a .d) s (c .before .loop .i) (omega (arith, n, c .before .before .base-size .ensures))
+
+pub put-image-spec : {M : Type 1} → statement M
+put-image-spec =
+    tie.close
+    (tie.spec
+    Inv-loop
+    μ-loop
+    counts-more-requires
+    masks-of-requires
+    base-size-requires
+    loop-holds
+    shared-slice-read-out
+    array-read-out
+    add-out
+    slice-write-out
+    add-i
+    loop-less
+    loop-again
+    same-length
+    returns)

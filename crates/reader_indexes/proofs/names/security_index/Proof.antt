@@ -1,0 +1,43 @@
+use Prim.Native.Nat.{_+_}
+use native.Mathlib.Omega.{arith}
+use Rattle.laws.specs.ListWalk.{validIn}
+use Rattle.table.specs.Bytes.{pick}
+use lib.ListN.{getD}
+use mathlib.Core.Path.{_≡_, _∙_}
+use Rattle.reader_indexes.proofs.Laws.{security-off, security-on}
+use borrow.Author.Needs.{needs}
+use Rattle.reader_indexes.proofs.names.security_index.Statement.{statement}
+use Rattle.reader_indexes.proofs.names.security_index.Tie as tie
+
+ssns-flags-requires : tie.Need-ssns-flags-requires
+ssns-flags-requires c κs = search needs
+
+returns : tie.Need-returns
+returns c = security-off (c .before .before .before .args .t .now) (c .before .before .before .args .a) (rw (c .before .ssns-flags .ensures) at (c .if1 .taken))
+
+add-wide : tie.Need-add-wide
+add-wide c = search needs
+
+shared-slice-read-wide : tie.Need-shared-slice-read-wide
+shared-slice-read-wide c = search needs
+
+wide-requires : tie.Need-wide-requires
+wide-requires c κs = search needs
+
+index-fault-requires : tie.Need-index-fault-requires
+index-fault-requires c κs = search needs
+
+returns-2 : tie.Need-returns-2
+returns-2 c = let t = c .before .before .before .before .before .before .args .t .now in let a = c .before .before .before .before .before .before .args .a in let e : c .index-fault .result ≡ pick (validIn t 5 (getD t (a + 45) 0)) 0 13 = cc in e ∙ security-on t a (λ i. omega (arith, c .before .before .before .before .before .shared-slice-known .given i)) (rw (c .before .before .before .before .ssns-flags .ensures) at (c .before .before .before .if1 .left))
+
+pub security-index-spec : {M : Type 1} → statement M
+security-index-spec =
+    tie.close
+    (tie.spec
+    ssns-flags-requires
+    returns
+    add-wide
+    shared-slice-read-wide
+    wide-requires
+    index-fault-requires
+    returns-2)

@@ -1,0 +1,32 @@
+-- What a reference is, for each case its number: the definitions of the answer `Ref`. Definitions only.
+use mathlib.Core.Bool.{_&&_}
+use mathlib.Core.List.{List, []}
+use Prim.Native.Nat.{ℕ, _-_}
+use lib.ListN.{length}
+use lib.Dec.{eqb}
+use Rattle.table.specs.declared.Region.{Region}
+use Rattle.table.specs.declared.Need.{Need}
+use Rattle.table.specs.declared.Need.the-variants.{Ignored, Optional, Required}
+use Rattle.table.specs.Bytes.{pick, part}
+use Rattle.table.specs.Layout.{region}
+use Rattle.table.specs.Rules.{reaches}
+use Rattle.reader_references.specs.declared.Ref.{Ref}
+use Rattle.reader_references.specs.declared.Ref.the-variants.{Absent, Wrong, Part}
+
+-- the reference with these halves
+unfoldable pub refOf : Region → ℕ → ℕ → Ref
+refOf heap off len = pick (eqb off 0 && eqb len 0) Absent (pick (reaches heap off len) (Part off len) Wrong)
+
+-- its number under a need: 0 or 11
+unfoldable pub refNumber : Need → Ref → ℕ
+refNumber Ignored r = 0
+refNumber Optional Absent = 0
+refNumber Optional Wrong = 11
+refNumber Optional (Part at len) = 0
+refNumber Required Absent = 11
+refNumber Required Wrong = 11
+refNumber Required (Part at len) = 0
+
+-- the bytes that it names, in a heap that is lent as the part from `from` on; none where it is absent or wrong
+unfoldable pub partIn : List ℕ → ℕ → ℕ → ℕ → List ℕ
+partIn heap from off len = pick (reaches (region from (length heap)) off len) (part heap (off - from) len) []

@@ -1,0 +1,2 @@
+pub mod OwnFieldLaws
+pub mod HeapLaws

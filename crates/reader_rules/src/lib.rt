@@ -1,0 +1,92 @@
+// The rules of a record's references: each by kind and offset, with the heap record that it refers to. The heap is lent as a part of the table,
+// a heap record as a part of the heap.
+pub mod own_fields; // a record's own fields, by kind
+
+use layout_flags::ssns_flags;
+use layout_needs::plain_need;
+use layout_needs::security_need;
+use layout_needs::ssns_need;
+use reader_references::part_at;
+use reader_references::plain_fault;
+use table::Hfi;
+use table::Security;
+use table::Ssns;
+ghost use mathlib.Core.Path.{_≡_};
+ghost use Prim.Native.Nat.{_+_, _≤_};
+ghost use lib.ListN.{length};
+ghost use Rattle.table.specs.Layout.{baseOf, region};
+ghost use Rattle.table.specs.FixedLayouts.{layoutOf};
+ghost use Rattle.reader_rules.specs.Rules.{IsHeap, refFault};
+
+// The heap record that the reference names is handed on as the part of the heap that it is. It is required: none is a fault.
+fn info_ref(t: &[u8], a: usize, position: usize, heap: &[u8], from: usize) -> u8
+    requires { ⌜ (a + 32 ≤ length (now t)) × IsHeap (now t) (now heap) from ⌝ }
+    ensures { λ r. ⌜ r ≡ refFault 3 (region from (length (now (heap .entry)))) (now (t .entry)) a position 16 ⌝ }
+{
+    let x = part_at(t, a + 16, heap, from);
+    if x.len() == 0 {
+        return 11;
+    }
+    reader_heap_records::info_fault(x, position, from, heap.len())
+}
+
+fn extended_ref(t: &[u8], a: usize, position: usize, heap: &[u8], from: usize) -> u8
+    requires { ⌜ (a + 128 ≤ length (now t)) × IsHeap (now t) (now heap) from ⌝ }
+    ensures { λ r. ⌜ r ≡ refFault 4 (region from (length (now (heap .entry)))) (now (t .entry)) a position 60 ⌝ }
+{
+    if ssns_flags(t, a) / 16 % 2 == 0 {
+        return 0;
+    }
+    let x = part_at(t, a + 60, heap, from);
+    if x.len() == 0 {
+        return 11;
+    }
+    reader_heap_records::extended_fault(x, position, from, heap.len())
+}
+
+fn hfi_ref(t: &[u8], a: usize, position: usize, off: usize, heap: &[u8], from: usize) -> u8
+    requires { ⌜ (a + 32 ≤ length (now t)) × IsHeap (now t) (now heap) from ⌝ }
+    ensures { λ r. ⌜ r ≡ refFault 3 (region from (length (now (heap .entry)))) (now (t .entry)) a position off ⌝ }
+{
+    if off == 16 {
+        return info_ref(t, a, position, heap, from);
+    }
+    0
+}
+
+fn ssns_ref(t: &[u8], a: usize, position: usize, off: usize, heap: &[u8], from: usize) -> u8
+    requires { ⌜ (a + 128 ≤ length (now t)) × (a + off + 6 ≤ length (now t)) × IsHeap (now t) (now heap) from ⌝ }
+    ensures { λ r. ⌜ r ≡ refFault 4 (region from (length (now (heap .entry)))) (now (t .entry)) a position off ⌝ }
+{
+    if off == 60 {
+        return extended_ref(t, a, position, heap, from);
+    }
+    plain_fault(
+        t,
+        a + off,
+        ssns_need(ssns_flags(t, a), off),
+        from,
+        heap.len(),
+    )
+}
+
+// The reference at a field offset of the record at `a`, with its heap record and that one's own reference: 0, 11 or 12.
+pub fn ref_fault(
+    t: &[u8],
+    kind: u8,
+    a: usize,
+    position: usize,
+    off: usize,
+    heap: &[u8],
+    from: usize,
+) -> u8
+    requires { ⌜ (kind ≤ 6) × (a + baseOf (layoutOf kind) ≤ length (now t)) × (a + off + 6 ≤ length (now t)) × IsHeap (now t) (now heap) from ⌝ }
+    ensures { λ r. ⌜ r ≡ refFault kind (region from (length (now (heap .entry)))) (now (t .entry)) a position off ⌝ }
+{
+    match kind {
+        Hfi::ID => hfi_ref(t, a, position, off, heap, from),
+        Ssns::ID => ssns_ref(t, a, position, off, heap, from),
+        Security::ID => plain_fault(t, a + off, security_need(t, a, off), from, heap.len()),
+        _ => plain_fault(t, a + off, plain_need(kind, off), from, heap.len()),
+    }
+}

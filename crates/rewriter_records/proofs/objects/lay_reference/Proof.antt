@@ -1,0 +1,67 @@
+use Rattle.rewriter_sizes.proofs.PartLaws.{nest-part, nest-bytes, inner-plain}
+use Rattle.reads_seats.proofs.SeatLaws.{record-held}
+use Rattle.reads_seats.specs.declared.seats.Seat.{Seat}
+use mathlib.Core.Path.{refl, sym, ap, ap₂, _∙_}
+use mathlib.Core.List.{List}
+use Prim.Native.Nat.{ℕ, _+_}
+use native.Mathlib.Omega.{arith}
+use Rattle.bytes_writer.specs.Stores.{refNum}
+use Rattle.rewriter_records.specs.Laid.{laid}
+use Rattle.rewriter_sizes.specs.Parts.{Part, recordPart, recordBytes}
+use borrow.Author.Needs.{needs}
+use Rattle.rewriter_records.proofs.objects.lay_reference.Statement.{statement}
+use Rattle.rewriter_records.proofs.objects.lay_reference.Tie as tie
+
+has-object-requires : tie.Need-has-object-requires
+has-object-requires c κs = search needs
+
+lay-object-requires : tie.Need-lay-object-requires
+lay-object-requires c κs = let s = c .before .before .before .before .before in ((s .pre .0 .0, s .pre .0 .1, sym (c .before .before .has-object .ensures) ∙ c .before .if1 .taken), s .pre .1)
+
+same-length : tie.Need-same-length
+same-length c = search needs
+
+returns : tie.Need-returns
+returns c = search needs
+
+add-lay-record : tie.Need-add-lay-record
+add-lay-record c = search needs
+
+inner-kind-requires : tie.Need-inner-kind-requires
+inner-kind-requires c κs = search needs
+
+heap-record-requires : tie.Need-heap-record-requires
+heap-record-requires c κs = search needs
+
+lay-record-requires : tie.Need-lay-record-requires
+lay-record-requires c κs = let s = c .before .before .before .before .before .before .before in let a = s .args in let t = a .t .now in let k = a .kind in let ok = s .pre .0 .0 in let d = s .pre .0 .1 in
+    let w = ap (λ (q : Part). q .span) (nest-part t ok k (a .source) d (a .offset) (sym (c .before .before .before .before .has-object .ensures) ∙ c .before .before .before .if1 .left)) in
+    rw (c .before .inner-kind .ensures, c .heap-record .ensures)
+    ((ok, record-held t ok (a .source) k (refl, d), inner-plain k), (s .pre .1 .0, omega (arith, w, s .pre .1 .1)))
+
+same-length-2 : tie.Need-same-length-2
+same-length-2 c = search needs
+
+returns-2 : tie.Need-returns-2
+returns-2 c = let s = c .before .before .before .before .before .before .before .before .before .before in let a = s .args in let t = a .t .now in let k = a .kind in let ok = s .pre .0 .0 in let d = s .pre .0 .1 in let e = sym (c .before .before .before .before .before .before .before .has-object .ensures) ∙ c .before .before .before .before .before .before .if1 .left in
+    let np = nest-part t ok k (a .source) d (a .offset) e in
+    let nb = nest-bytes t ok k (a .source) d (a .next) (a .offset) e in
+    let l = c .before .before .lay-record .ensures in let x = a .out .now in let h = a .next in (
+      l .0 ∙ ap₂ (λ (i : ℕ) (w : Seat). h + recordPart t i w .span) (c .before .before .before .before .inner-kind .ensures) (c .before .before .before .heap-record .ensures) ∙ sym (ap (λ (q : Part). h + q .span) np),
+      l .1 ∙ ap₂ (λ (i : ℕ) (w : Seat). laid x (a .place + a .offset) (refNum h (recordPart t i w .len)) h (recordBytes t i h w)) (c .before .before .before .before .inner-kind .ensures) (c .before .before .before .heap-record .ensures) ∙ sym (ap₂ (λ (q : Part) (g : List ℕ). laid x (a .place + a .offset) (refNum h (q .len)) h g) np nb),
+    )
+
+pub lay-reference-spec : {M : Type 1} → statement M
+lay-reference-spec =
+    tie.close
+    (tie.spec
+    has-object-requires
+    lay-object-requires
+    same-length
+    returns
+    add-lay-record
+    inner-kind-requires
+    heap-record-requires
+    lay-record-requires
+    same-length-2
+    returns-2)

@@ -1,0 +1,85 @@
+-- Internet addresses of 16 bytes, in ASCII: an IPv4-mapped one as a dotted quad, any other as RFC 5952 has it. Assumes nothing.
+use mathlib.Core.Bool.{Bool, cond, _&&_}
+use mathlib.Core.List.{List, [], _∷_, _++_}
+use Prim.Native.Nat.{ℕ, _+_, _*_, max}
+use mathlib.Core.Path.{_≡_, refl}
+use lib.Dec.{eqb, ltb, leb}
+use lib.ListN.{getD, take, drop, replicate}
+use Rattle.text.specs.Ascii.{ascii}
+use Rattle.text.specs.Numerals.{numeral, digitsOf}
+use Rattle.text_hex.specs.Hexadecimal.{hexDigit, hexOf}
+
+-- two bytes are a group, the high one first
+unfoldable pub groups : List ℕ → List ℕ
+groups [] = []
+groups (x ∷ []) = []
+groups (x ∷ (y ∷ bs)) = (x * 256 + y) ∷ groups bs
+
+-- a group without zeros in front
+unfoldable pub group : ℕ → List ℕ
+group g = cond (ltb g 16) (hexOf 1 g) (cond (ltb g 256) (hexOf 2 g) (cond (ltb g 4096) (hexOf 3 g) (hexOf 4 g)))
+
+-- each group behind a colon, and groups with a colon between
+unfoldable pub behindColons : List ℕ → List ℕ
+behindColons [] = []
+behindColons (g ∷ gs) = ascii ":" ++ group g ++ behindColons gs
+
+unfoldable pub colons : List ℕ → List ℕ
+colons [] = []
+colons (g ∷ gs) = group g ++ behindColons gs
+
+-- how many zero groups come first, how many the longest run has, and where the first run of n or more starts
+unfoldable pub zerosFirst : List ℕ → ℕ
+zerosFirst [] = 0
+zerosFirst (g ∷ gs) = cond (eqb g 0) (zerosFirst gs + 1) 0
+
+unfoldable pub longestRun : List ℕ → ℕ
+longestRun [] = 0
+longestRun (g ∷ gs) = max (zerosFirst (g ∷ gs)) (longestRun gs)
+
+unfoldable pub startOf : ℕ → List ℕ → ℕ
+startOf n [] = 0
+startOf n (g ∷ gs) = cond (leb n (zerosFirst (g ∷ gs))) 0 (startOf n gs + 1)
+
+-- n groups from `at` on are left out, for two colons
+unfoldable pub without : ℕ → ℕ → List ℕ → List ℕ
+without at n gs = colons (take at gs) ++ ascii "::" ++ colons (drop (at + n) gs)
+
+-- the longest run of two or more zero groups, the first of equals, is left out
+unfoldable pub sixOf : List ℕ → List ℕ
+sixOf gs = cond (ltb (longestRun gs) 2) (colons gs) (without (startOf (longestRun gs) gs) (longestRun gs) gs)
+
+-- ten zero bytes and two of FFh
+unfoldable pub mapped : List ℕ → Bool
+mapped gs = eqb (zerosFirst gs) 5 && eqb (getD gs 5 0) 65535
+
+unfoldable pub quadOf : List ℕ → List ℕ
+quadOf b = numeral (getD b 12 0) ++ ascii "." ++ numeral (getD b 13 0) ++ ascii "." ++ numeral (getD b 14 0) ++ ascii "." ++ numeral (getD b 15 0)
+
+unfoldable pub addressOf : List ℕ → List ℕ
+addressOf b = cond (mapped (groups b)) (quadOf b) (sixOf (groups b))
+
+-- none, one at the end, one at the start, the first of two equal runs, and one zero group alone
+pub unspecified : addressOf (replicate 16 0) ≡ ascii "::"
+unfolding addressOf mapped groups sixOf without colons behindColons longestRun startOf zerosFirst
+unspecified = refl
+
+pub loopback : addressOf (replicate 15 0 ++ (1 ∷ [])) ≡ ascii "::1"
+unfolding addressOf mapped groups sixOf without colons behindColons group longestRun startOf zerosFirst hexOf hexDigit
+loopback = refl
+
+pub network : addressOf (0xfe ∷ (0x80 ∷ replicate 14 0)) ≡ ascii "fe80::"
+unfolding addressOf mapped groups sixOf without colons behindColons group longestRun startOf zerosFirst hexOf hexDigit
+network = refl
+
+pub first-of-equals : sixOf (0x2001 ∷ 0xdb8 ∷ 0 ∷ 0 ∷ 1 ∷ 0 ∷ 0 ∷ 1 ∷ []) ≡ ascii "2001:db8::1:0:0:1"
+unfolding sixOf without colons behindColons group longestRun startOf zerosFirst hexOf hexDigit
+first-of-equals = refl
+
+pub one-alone : sixOf (0x2001 ∷ 0xdb8 ∷ 0 ∷ 1 ∷ 1 ∷ 1 ∷ 1 ∷ 1 ∷ []) ≡ ascii "2001:db8:0:1:1:1:1:1"
+unfolding sixOf without colons behindColons group longestRun startOf zerosFirst hexOf hexDigit
+one-alone = refl
+
+pub mapped-quad : addressOf (replicate 10 0 ++ (255 ∷ 255 ∷ 192 ∷ 168 ∷ 101 ∷ 40 ∷ [])) ≡ ascii "192.168.101.40"
+unfolding addressOf mapped groups zerosFirst quadOf numeral digitsOf
+mapped-quad = refl
