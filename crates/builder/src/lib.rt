@@ -3,10 +3,10 @@
 pub mod leaves; // a position left unused
 
 pub use builder_begin::begin;
+pub use builder_discovery::discovery;
 pub use builder_finish::finish;
-pub use builder_nested::hfi;
-pub use builder_nested::ssns;
-pub use builder_plain::discovery;
-pub use builder_plain::host;
-pub use builder_plain::security;
+pub use builder_hfi::hfi;
+pub use builder_host::host;
+pub use builder_security::security;
+pub use builder_ssns::ssns;
 pub use leaves::leave;

@@ -121,3 +121,7 @@ fault-short n o e = go (fitsNeed n (under n [] o)) (isShort (under n [] o)) refl
     go true true q z = leb-true (length (under n [] o)) 65535 q
     go true false q z = absurd (omega arith)
     go false d q z = absurd (omega arith)
+
+-- a heap record that may be there, whose only object has the fault f
+pub nested-fault : (f : ℕ) → f ≡ firstOf (firstOf 0 (firstOf f 0)) 0
+nested-fault f = sym (first-zero (firstOf f 0) ∙ first-zero f)

@@ -1,0 +1,114 @@
+use mathlib.Core.Path.{_≡_, refl, ap, ap₂, _∙_}
+use lib.Dec.{lit≤}
+use Rattle.table.specs.declared.Need.the-variants.{Optional}
+use Rattle.table.specs.FixedLayouts.{layoutOf, discovery}
+use Rattle.table.specs.Rules.{firstFail, firstOf}
+use Rattle.table.specs.Builder.{Outcome}
+use Rattle.laws.specs.Fields.{imageIn}
+use Rattle.builder_record.specs.Steps.{judgeTests}
+use Rattle.builder_record.proofs.LayLaws.{step-is}
+use Prim.Native.Nat.{ℕ}
+use Rattle.builder_told.specs.Faults.{objectFault}
+use Rattle.builder_discovery.proofs.Laws.{discovery-refused, discovery-passed, discovery-done}
+use borrow.Author.Needs.{needs}
+use Rattle.builder_discovery.proofs.discovery.Statement.{statement}
+use Rattle.builder_discovery.proofs.discovery.Tie as tie
+
+-- what was answered, by the objects
+judged-is : (c : tie.After-judged) → c .judged .result ≡ firstFail (judgeTests (layoutOf 6) (c .before .before .before .before .before .before .before .before .before .before .before .args .state)
+    (imageIn (layoutOf 6) (c .before .before .before .before .before .mark-32 .result) 0) 0 (firstOf (objectFault Optional
+    (c .before .before .before .before .before .before .before .before .before .before .before .args .address .now)) (objectFault Optional
+    (c .before .before .before .before .before .before .before .before .before .before .before .args .nqn .now))))
+judged-is c = c .judged .ensures ∙ ap (λ (f : ℕ). firstFail (judgeTests (layoutOf 6) (c .before .before .before .before .before .before .before .before .before .before .before .args .state) (imageIn
+    (layoutOf 6) (c .before .before .before .before .before .mark-32 .result) 0) 0 f)) (c .before .before .first-of .ensures ∙ ap₂ (λ (x y : ℕ). firstOf x y)
+    (c .before .before .before .before .fits2 .ensures) (c .before .before .before .fits3 .ensures))
+
+cast-mark-32 : tie.Need-cast-mark-32
+cast-mark-32 c = search needs
+
+mark-32-requires : tie.Need-mark-32-requires
+unfolding layoutOf discovery
+mark-32-requires c κs = (refl, refl)
+
+fits-requires : tie.Need-fits-requires
+fits-requires c κs = search needs
+
+fits-requires-2 : tie.Need-fits-requires-2
+fits-requires-2 c κs = search needs
+
+first-of-requires : tie.Need-first-of-requires
+first-of-requires c κs = search needs
+
+slice-aggregate-judged : tie.Need-slice-aggregate-judged
+slice-aggregate-judged c = search needs
+
+judged-requires : tie.Need-judged-requires
+unfolding layoutOf discovery
+judged-requires c κs = (lit≤ tt, lit≤ tt, c .before .before .before .before .mark-32 .ensures .2)
+
+refused-requires : tie.Need-refused-requires
+refused-requires c κs = search needs
+
+returns : tie.Need-returns
+returns c =
+    let t = discovery-refused (c .before .before .before .before .before .before .before .before .before .before .before .before .before .before .args .state)
+    (c .before .before .before .before .before .before .before .before .before .before .before .before .before .before .args .out .now)
+    (c .before .before .before .before .before .before .before .before .before .before .before .before .before .before .args .told .bytes)
+    (c .before .before .before .before .before .before .before .before .mark-32 .result)
+    (c .before .before .before .before .before .before .before .before .before .before .before .before .before .before .args .address .now)
+    (c .before .before .before .before .before .before .before .before .before .before .before .before .before .before .args .nqn .now) (c .before .before .before .judged .result)
+    (c .before .before .before .before .before .before .before .before .mark-32 .ensures .0) (judged-is (c .before .before .before)) (c .before .if1 .taken) in (
+      step-is (c .refused .result) (c .before .before .before .judged .result)
+          (c .before .before .before .before .before .before .before .before .before .before .before .before .before .before .args .state) (c .refused .ensures .0) (c .refused .ensures .1) ∙ t .0,
+      t .1,
+    )
+
+slice-aggregate-lay-discovery : tie.Need-slice-aggregate-lay-discovery
+slice-aggregate-lay-discovery c = search needs
+
+lay-discovery-requires : tie.Need-lay-discovery-requires
+unfolding discovery
+lay-discovery-requires c κs =
+    let p = discovery-passed (c .before .before .before .before .before .before .before .before .before .before .before .before .before .before .before .args .state)
+    (c .before .before .before .before .before .before .before .before .before .before .before .before .before .before .before .args .out .now)
+    (c .before .before .before .before .before .before .before .before .before .before .before .before .before .before .before .args .told .bytes)
+    (c .before .before .before .before .before .before .before .before .before .mark-32 .result)
+    (c .before .before .before .before .before .before .before .before .before .before .before .before .before .before .before .args .address .now)
+    (c .before .before .before .before .before .before .before .before .before .before .before .before .before .before .before .args .nqn .now)
+    (c .before .before .before .before .judged .result) (c .before .before .before .before .before .before .before .before .before .mark-32 .ensures .0) (judged-is
+    (c .before .before .before .before)) (c .before .before .if1 .left) in
+    (p .0, c .before .before .before .before .before .before .before .before .before .mark-32 .ensures .2, p .1, p .2)
+
+same-length : tie.Need-same-length
+same-length c = search needs
+
+returns-2 : tie.Need-returns-2
+returns-2 c =
+    let d = discovery-done (c .before .before .before .before .before .before .before .before .before .before .before .before .before .before .before .before .before .before .args .state)
+    (c .before .before .before .before .before .before .before .before .before .before .before .before .before .before .before .before .before .before .args .out .now)
+    (c .before .before .before .before .before .before .before .before .before .before .before .before .before .before .before .before .before .before .args .told .bytes)
+    (c .before .before .before .before .before .before .before .before .before .before .before .before .mark-32 .result)
+    (c .before .before .before .before .before .before .before .before .before .before .before .before .before .before .before .before .before .before .args .address .now)
+    (c .before .before .before .before .before .before .before .before .before .before .before .before .before .before .before .before .before .before .args .nqn .now)
+    (c .before .before .before .before .before .before .before .judged .result)
+    (c .before .before .before .before .before .before .before .before .before .before .before .before .mark-32 .ensures .0) (judged-is
+    (c .before .before .before .before .before .before .before)) (c .before .before .before .before .before .if1 .left) in
+    (c .before .before .lay-discovery .ensures .0 ∙ ap (λ (o : Outcome). o .step) d, c .before .before .lay-discovery .ensures .1 ∙ ap (λ (o : Outcome). o .buffer) d)
+
+pub discovery-spec : {M : Type 1} → statement M
+discovery-spec =
+    tie.close
+    (tie.spec
+    cast-mark-32
+    mark-32-requires
+    fits-requires
+    fits-requires-2
+    first-of-requires
+    slice-aggregate-judged
+    judged-requires
+    refused-requires
+    returns
+    slice-aggregate-lay-discovery
+    lay-discovery-requires
+    same-length
+    returns-2)

@@ -1,0 +1,97 @@
+use mathlib.Core.Path.{_≡_, refl, ap, _∙_}
+use lib.Dec.{lit≤}
+use Rattle.table.specs.declared.Need.the-variants.{Required}
+use Rattle.table.specs.FixedLayouts.{layoutOf, host}
+use Rattle.table.specs.Rules.{firstFail}
+use Rattle.table.specs.Builder.{Outcome}
+use Rattle.laws.specs.Fields.{imageIn}
+use Rattle.builder_record.specs.Steps.{judgeTests}
+use Rattle.builder_record.proofs.LayLaws.{step-is}
+use Prim.Native.Nat.{ℕ}
+use Rattle.builder_told.specs.Faults.{objectFault}
+use Rattle.builder_host.proofs.Laws.{host-refused, host-passed, host-done}
+use borrow.Author.Needs.{needs}
+use Rattle.builder_host.proofs.host.Statement.{statement}
+use Rattle.builder_host.proofs.host.Tie as tie
+
+-- what was answered, by the objects
+judged-is : (c : tie.After-judged) → c .judged .result ≡ firstFail (judgeTests (layoutOf 2) (c .before .before .before .before .before .before .before .before .args .state) (imageIn (layoutOf 2)
+    (c .before .before .before .mark-32 .result) 0) 0 (objectFault Required (c .before .before .before .before .before .before .before .before .args .nqn .now)))
+judged-is c = c .judged .ensures ∙ ap (λ (f : ℕ). firstFail (judgeTests (layoutOf 2) (c .before .before .before .before .before .before .before .before .args .state) (imageIn (layoutOf 2)
+    (c .before .before .before .mark-32 .result) 0) 0 f)) (c .before .fits2 .ensures)
+
+cast-mark-32 : tie.Need-cast-mark-32
+cast-mark-32 c = search needs
+
+mark-32-requires : tie.Need-mark-32-requires
+unfolding layoutOf host
+mark-32-requires c κs = (refl, refl)
+
+slice-aggregate-judged : tie.Need-slice-aggregate-judged
+slice-aggregate-judged c = search needs
+
+fits-requires : tie.Need-fits-requires
+fits-requires c κs = search needs
+
+judged-requires : tie.Need-judged-requires
+unfolding layoutOf host
+judged-requires c κs = (lit≤ tt, lit≤ tt, c .before .before .mark-32 .ensures .2)
+
+refused-requires : tie.Need-refused-requires
+refused-requires c κs = search needs
+
+returns : tie.Need-returns
+returns c =
+    let t = host-refused (c .before .before .before .before .before .before .before .before .before .before .before .args .state)
+    (c .before .before .before .before .before .before .before .before .before .before .before .args .out .now)
+    (c .before .before .before .before .before .before .before .before .before .before .before .args .told .bytes) (c .before .before .before .before .before .before .mark-32 .result)
+    (c .before .before .before .before .before .before .before .before .before .before .before .args .nqn .now) (c .before .before .before .judged .result)
+    (c .before .before .before .before .before .before .mark-32 .ensures .0) (judged-is (c .before .before .before)) (c .before .if1 .taken) in (
+      step-is (c .refused .result) (c .before .before .before .judged .result) (c .before .before .before .before .before .before .before .before .before .before .before .args .state)
+          (c .refused .ensures .0) (c .refused .ensures .1) ∙ t .0,
+      t .1,
+    )
+
+slice-aggregate-lay-host : tie.Need-slice-aggregate-lay-host
+slice-aggregate-lay-host c = search needs
+
+lay-host-requires : tie.Need-lay-host-requires
+unfolding host
+lay-host-requires c κs =
+    let p = host-passed (c .before .before .before .before .before .before .before .before .before .before .before .before .args .state)
+    (c .before .before .before .before .before .before .before .before .before .before .before .before .args .out .now)
+    (c .before .before .before .before .before .before .before .before .before .before .before .before .args .told .bytes)
+    (c .before .before .before .before .before .before .before .mark-32 .result)
+    (c .before .before .before .before .before .before .before .before .before .before .before .before .args .nqn .now) (c .before .before .before .before .judged .result)
+    (c .before .before .before .before .before .before .before .mark-32 .ensures .0) (judged-is (c .before .before .before .before)) (c .before .before .if1 .left) in
+    (p .0, c .before .before .before .before .before .before .before .mark-32 .ensures .2, p .1)
+
+same-length : tie.Need-same-length
+same-length c = search needs
+
+returns-2 : tie.Need-returns-2
+returns-2 c =
+    let d = host-done (c .before .before .before .before .before .before .before .before .before .before .before .before .before .before .before .args .state)
+    (c .before .before .before .before .before .before .before .before .before .before .before .before .before .before .before .args .out .now)
+    (c .before .before .before .before .before .before .before .before .before .before .before .before .before .before .before .args .told .bytes)
+    (c .before .before .before .before .before .before .before .before .before .before .mark-32 .result)
+    (c .before .before .before .before .before .before .before .before .before .before .before .before .before .before .before .args .nqn .now)
+    (c .before .before .before .before .before .before .before .judged .result) (c .before .before .before .before .before .before .before .before .before .before .mark-32 .ensures .0)
+    (judged-is (c .before .before .before .before .before .before .before)) (c .before .before .before .before .before .if1 .left) in
+    (c .before .before .lay-host .ensures .0 ∙ ap (λ (o : Outcome). o .step) d, c .before .before .lay-host .ensures .1 ∙ ap (λ (o : Outcome). o .buffer) d)
+
+pub host-spec : {M : Type 1} → statement M
+host-spec =
+    tie.close
+    (tie.spec
+    cast-mark-32
+    mark-32-requires
+    slice-aggregate-judged
+    fits-requires
+    judged-requires
+    refused-requires
+    returns
+    slice-aggregate-lay-host
+    lay-host-requires
+    same-length
+    returns-2)

@@ -1,0 +1,62 @@
+use mathlib.Core.Path.{ap, ap₂, _∙_}
+use Prim.Native.Nat.{ℕ}
+use Rattle.table.specs.declared.Need.{Need}
+use Rattle.table.specs.Rules.{firstOf}
+use Rattle.builder_told.specs.Faults.{objectFault}
+use borrow.Author.Needs.{needs}
+use Rattle.builder_ssns.proofs.ssns_fault.Statement.{statement}
+use Rattle.builder_ssns.proofs.ssns_fault.Tie as tie
+
+fits-requires : tie.Need-fits-requires
+fits-requires c κs = search needs
+
+own-need-requires : tie.Need-own-need-requires
+own-need-requires c κs = search needs
+
+fits-requires-2 : tie.Need-fits-requires-2
+fits-requires-2 c κs = search needs
+
+first-of-requires : tie.Need-first-of-requires
+first-of-requires c κs = search needs
+
+fits-requires-3 : tie.Need-fits-requires-3
+fits-requires-3 c κs = search needs
+
+first-of-requires-2 : tie.Need-first-of-requires-2
+first-of-requires-2 c κs = search needs
+
+fits-requires-4 : tie.Need-fits-requires-4
+fits-requires-4 c κs = search needs
+
+fits-requires-5 : tie.Need-fits-requires-5
+fits-requires-5 c κs = search needs
+
+first-of-requires-3 : tie.Need-first-of-requires-3
+first-of-requires-3 c κs = search needs
+
+first-of-requires-4 : tie.Need-first-of-requires-4
+first-of-requires-4 c κs = search needs
+
+returns : tie.Need-returns
+returns c = c .first-of4 .ensures ∙ ap₂ (λ (x y : ℕ). firstOf x y) (c .before .before .before .fits5 .ensures) (c .before .first-of3 .ensures ∙ ap₂ (λ (x y : ℕ). firstOf x y)
+    (c .before .before .fits6 .ensures) (c .before .before .before .before .first-of2 .ensures ∙ ap₂ (λ (x y : ℕ). firstOf x y) (c .before .before .before .before .before .fits4 .ensures)
+    (c .before .before .before .before .before .before .first-of .ensures ∙ ap₂ (λ (x y : ℕ). firstOf x y)
+    (c .before .before .before .before .before .before .before .before .before .fits2 .ensures) (c .before .before .before .before .before .before .before .fits3 .ensures ∙ ap (λ (n : Need).
+    objectFault n (c .before .before .before .before .before .before .before .before .before .before .before .before .before .before .before .before .args .path .now))
+    (c .before .before .before .before .before .before .before .before .own-need .ensures)))))
+
+pub ssns-fault-spec : {M : Type 1} → statement M
+ssns-fault-spec =
+    tie.close
+    (tie.spec
+    fits-requires
+    own-need-requires
+    fits-requires-2
+    first-of-requires
+    fits-requires-3
+    first-of-requires-2
+    fits-requires-4
+    fits-requires-5
+    first-of-requires-3
+    first-of-requires-4
+    returns)
