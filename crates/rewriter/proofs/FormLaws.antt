@@ -29,7 +29,7 @@ use Rattle.reads_by_seat.specs.Driver.{driverOf}
 use Rattle.rewriter_sizes.specs.Parts.{listOf}
 use Rattle.rewriter_sizes.proofs.PartLaws.{list-count}
 use Rattle.rewriter_sizes.proofs.LengthLaws.{record-bytes, heap-bytes}
-use Rattle.rewriter_records.specs.Laid.{laid}
+use Rattle.rewriter_objects.specs.Laid.{laid}
 use Rattle.rewriter_lists.proofs.RunLaws.{Piece, piece, recsOf, heapsOf, run-laid, link}
 use Rattle.rewriter_lists.proofs.ListLaws.{body-recs-long, body-heap-long}
 

@@ -6,7 +6,7 @@ use reads_by_seat::counts::count_byte;
 use reads_by_seat::counts::oem;
 use rewriter_checksum::seal;
 use rewriter_lists::lay_lists;
-use rewriter_records::records::lay_entry;
+use rewriter_records::lay_entry;
 use rewriter_sizes::sizes::form_length;
 use rewriter_sizes::sizes::heap_start;
 use table::Answer;

@@ -14,7 +14,7 @@ use Rattle.reads_seats.specs.Told.{told, countOf}
 use Rattle.reads_seats.proofs.MeaningLaws.{told-all}
 use Rattle.rewriter_sizes.specs.Parts.{listOf}
 use Rattle.rewriter_sizes.proofs.PartLaws.{span-parts}
-use Rattle.rewriter_records.specs.Laid.{laid}
+use Rattle.rewriter_objects.specs.Laid.{laid}
 use Rattle.rewriter_lists.proofs.RunLaws.{Piece, piece, recsOf, heapsOf, run-laid, link, list-recs, list-heaps}
 
 module _ (t : List ℕ) (b : Bytes t) (ok : Accepted t) (u : ℕ) where

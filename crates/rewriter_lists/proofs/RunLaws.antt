@@ -16,7 +16,7 @@ use Rattle.reads_seats.specs.Told.{toldEntry, toldList, countOf}
 use Rattle.rewriter_sizes.specs.Parts.{listOf, listFrom}
 use Rattle.rewriter_sizes.proofs.PartLaws.{list-more, list-done}
 use Rattle.rewriter_sizes.proofs.LengthLaws.{record-bytes, heap-bytes}
-use Rattle.rewriter_records.specs.Laid.{laid}
+use Rattle.rewriter_objects.specs.Laid.{laid}
 
 -- a record with what it names, then more of both behind
 laid-join : (t : List ℕ) (a : ℕ) (r r′ : List ℕ) (h : ℕ) (g g′ : List ℕ) → a + length r + length r′ ≤ h → h + length g + length g′ ≤ length t

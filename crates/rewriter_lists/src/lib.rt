@@ -1,7 +1,7 @@
 // The lists of the accepted table `t` laid anew in `out`, one behind the other from `place` on; what they name is laid from `next` on, where the heap
 // goes on.
 use reads_by_seat::counts::count_of;
-use rewriter_records::records::lay_position;
+use rewriter_records::lay_position;
 use rewriter_sizes::sizes::list_span;
 use table::Discovery;
 use table::Hfi;
@@ -17,7 +17,7 @@ ghost use Rattle.table.specs.Meaning.{meaning};
 ghost use Rattle.reader.specs.Accepted.{Accepted};
 ghost use Rattle.reads_seats.specs.Told.{countOf};
 ghost use Rattle.rewriter_sizes.specs.Parts.{listOf};
-ghost use Rattle.rewriter_records.specs.Laid.{laid};
+ghost use Rattle.rewriter_objects.specs.Laid.{laid};
 
 // The list of a kind; where the heap goes on then.
 pub fn lay_list(out: &mut [u8], place: usize, next: usize, t: &[u8], kind: u8) -> usize

@@ -1,5 +1,116 @@
-// Records of an accepted table laid anew: each in its own part of the output, and in the heap behind all what it names. The table is `t`, the record
-// stands in it at `source`, and its reference at `offset` in the record. The output is `out`, the record is laid in it at `place`, and the heap goes
-// on at `next`; each function hands back where it goes on then.
-pub mod objects; // what a record names, one object behind the other
-pub mod records; // a record and what it names
+// Records laid anew, each with what it names behind all that was laid before.
+use bytes_writer::stores::fill_zero;
+use reads_seats::seats::Seat;
+use reads_seats::seats::seat_of;
+use rewriter_objects::lay_reference;
+use rewriter_objects::put_record;
+ghost use mathlib.Core.Path.{_≡_};
+ghost use mathlib.Core.Bool.{true};
+ghost use Prim.Native.Nat.{_+_, _≤_};
+ghost use lib.ListN.{length, replicate};
+ghost use Rattle.table.specs.Bytes.{splice};
+ghost use Rattle.table.specs.Layout.{baseOf};
+ghost use Rattle.table.specs.FixedLayouts.{layoutOf};
+ghost use Rattle.table.specs.Objects.{sizeOf, patched, heapOf, sizeEntry, recEntry, heapEntry};
+ghost use Rattle.laws.specs.Fields.{imageIn};
+ghost use Rattle.reader.specs.Accepted.{Accepted};
+ghost use Rattle.reads_seats.specs.Seats.{Seated};
+ghost use Rattle.reads_seats.specs.Told.{toldEntry};
+ghost use Rattle.rewriter_sizes.specs.Parts.{slotsIn};
+ghost use Rattle.rewriter_objects.specs.Laid.{laid, named};
+
+// The references of a record in the record laid, and what they name.
+fn lay_named(out: &mut [u8], place: usize, next: usize, t: &[u8], kind: u8, source: usize) -> usize
+    requires { ⌜ Accepted (now t) × Seated (now t) (layoutOf kind) source true ⌝ }
+    requires { ⌜ (place + baseOf (layoutOf kind) ≤ next) × (next + sizeOf (slotsIn (layoutOf kind) (now t) source) ≤ length (now out)) ⌝ }
+    ensures { λ r. ⌜ (r ≡ next + sizeOf (slotsIn (layoutOf kind) (now (t .entry)) source)) × (now (out .exit) ≡ named (now (out .entry)) place next (slotsIn (layoutOf kind) (now (t .entry)) source)) ⌝ }
+{
+    let refs = layout_kinds::reference_offsets(kind);
+    let count = refs.count;
+    let mut cursor = next;
+    let mut i: usize = 0;
+    while i < count {
+        cursor = lay_reference(out, place, cursor, t, kind, source, refs.at[i]);
+        i += 1;
+    }
+    cursor
+}
+
+// A used record, and what it names.
+fn lay_used(out: &mut [u8], place: usize, next: usize, t: &[u8], kind: u8, source: usize) -> usize
+    requires { ⌜ Accepted (now t) × Seated (now t) (layoutOf kind) source true ⌝ }
+    requires { ⌜ (place + baseOf (layoutOf kind) ≤ next) × (next + sizeOf (slotsIn (layoutOf kind) (now t) source) ≤ length (now out)) ⌝ }
+    ensures { λ r. ⌜ (r ≡ next + sizeOf (slotsIn (layoutOf kind) (now (t .entry)) source)) × (now (out .exit) ≡ laid (now (out .entry)) place (patched next (imageIn (layoutOf kind) (now (t .entry)) source) (slotsIn (layoutOf kind) (now (t .entry)) source)) next (heapOf next (slotsIn (layoutOf kind) (now (t .entry)) source))) ⌝ }
+{
+    put_record(out, place, t, kind, source);
+    lay_named(out, place, next, t, kind, source)
+}
+
+// An unused record is zeros and names nothing.
+fn lay_unused(out: &mut [u8], place: usize, next: usize, kind: u8) -> usize
+    requires { ⌜ place + baseOf (layoutOf kind) ≤ length (now out) ⌝ }
+    ensures { λ r. ⌜ (r ≡ next) × (now (out .exit) ≡ splice (now (out .entry)) place (replicate (baseOf (layoutOf kind)) 0)) ⌝ }
+{
+    let size = layout_kinds::base_size(kind);
+    fill_zero(out, place, size);
+    next
+}
+
+// The record of a kind and position, and what it names.
+pub fn lay_entry(
+    out: &mut [u8],
+    place: usize,
+    next: usize,
+    t: &[u8],
+    kind: u8,
+    position: usize,
+) -> usize
+    requires { ⌜ Accepted (now t) ⌝ }
+    requires { ⌜ (place + baseOf (layoutOf kind) ≤ next) × (next + sizeEntry (toldEntry (layoutOf kind) (now t) kind position) ≤ length (now out)) ⌝ }
+    ensures { λ r. ⌜ (r ≡ next + sizeEntry (toldEntry (layoutOf kind) (now (t .entry)) kind position)) × (now (out .exit) ≡ laid (now (out .entry)) place (recEntry next (toldEntry (layoutOf kind) (now (t .entry)) kind position)) next (heapEntry next (toldEntry (layoutOf kind) (now (t .entry)) kind position))) ⌝ }
+{
+    let seat = seat_of(t, kind, position);
+    match seat {
+        Seat::Nowhere => lay_unused(out, place, next, kind),
+        Seat::At { at, used } => if used {
+            lay_used(out, place, next, t, kind, at)
+        } else {
+            lay_unused(out, place, next, kind)
+        },
+    }
+}
+
+// The same of a list, by functions of its own: with two callers the walk over references stays a function by itself, of which the compiler
+// then makes a copy for each list, with that kind's constants (docs/PERFORMANCE.md).
+fn lay_listed(out: &mut [u8], place: usize, next: usize, t: &[u8], kind: u8, source: usize) -> usize
+    requires { ⌜ Accepted (now t) × Seated (now t) (layoutOf kind) source true ⌝ }
+    requires { ⌜ (place + baseOf (layoutOf kind) ≤ next) × (next + sizeOf (slotsIn (layoutOf kind) (now t) source) ≤ length (now out)) ⌝ }
+    ensures { λ r. ⌜ (r ≡ next + sizeOf (slotsIn (layoutOf kind) (now (t .entry)) source)) × (now (out .exit) ≡ laid (now (out .entry)) place (patched next (imageIn (layoutOf kind) (now (t .entry)) source) (slotsIn (layoutOf kind) (now (t .entry)) source)) next (heapOf next (slotsIn (layoutOf kind) (now (t .entry)) source))) ⌝ }
+{
+    put_record(out, place, t, kind, source);
+    lay_named(out, place, next, t, kind, source)
+}
+
+// The record at a position of a list.
+pub fn lay_position(
+    out: &mut [u8],
+    place: usize,
+    next: usize,
+    t: &[u8],
+    kind: u8,
+    position: usize,
+) -> usize
+    requires { ⌜ Accepted (now t) ⌝ }
+    requires { ⌜ (place + baseOf (layoutOf kind) ≤ next) × (next + sizeEntry (toldEntry (layoutOf kind) (now t) kind position) ≤ length (now out)) ⌝ }
+    ensures { λ r. ⌜ (r ≡ next + sizeEntry (toldEntry (layoutOf kind) (now (t .entry)) kind position)) × (now (out .exit) ≡ laid (now (out .entry)) place (recEntry next (toldEntry (layoutOf kind) (now (t .entry)) kind position)) next (heapEntry next (toldEntry (layoutOf kind) (now (t .entry)) kind position))) ⌝ }
+{
+    let seat = seat_of(t, kind, position);
+    match seat {
+        Seat::Nowhere => lay_unused(out, place, next, kind),
+        Seat::At { at, used } => if used {
+            lay_listed(out, place, next, t, kind, at)
+        } else {
+            lay_unused(out, place, next, kind)
+        },
+    }
+}

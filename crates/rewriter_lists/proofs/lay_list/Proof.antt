@@ -1,5 +1,5 @@
 use Rattle.rewriter_lists.proofs.RunLaws.{one-less, list-turn, list-ended}
-use Rattle.rewriter_records.specs.Laid.{laid}
+use Rattle.rewriter_objects.specs.Laid.{laid}
 use Rattle.rewriter_sizes.proofs.PartLaws.{size-more, size-done, list-all}
 use Rattle.rewriter_sizes.specs.Parts.{listOf, listFrom}
 use Rattle.table.specs.Objects.{sizeList, recsList, heapList}

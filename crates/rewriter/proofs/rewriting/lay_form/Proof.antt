@@ -1,5 +1,5 @@
 use Rattle.rewriter.proofs.FormLaws.{sizes-are, driver-long, front-late, form-laid}
-use Rattle.rewriter_records.specs.Laid.{laid}
+use Rattle.rewriter_objects.specs.Laid.{laid}
 use Rattle.reads_seats.specs.Told.{toldEntry}
 use Rattle.laws.specs.ListWalk.{base-small}
 use Rattle.laws.specs.Fields.{Bytes}

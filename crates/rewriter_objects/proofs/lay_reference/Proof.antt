@@ -6,11 +6,11 @@ use mathlib.Core.List.{List}
 use Prim.Native.Nat.{ℕ, _+_}
 use native.Mathlib.Omega.{arith}
 use Rattle.bytes_writer.specs.Stores.{refNum}
-use Rattle.rewriter_records.specs.Laid.{laid}
+use Rattle.rewriter_objects.specs.Laid.{laid}
 use Rattle.rewriter_sizes.specs.Parts.{Part, recordPart, recordBytes}
 use borrow.Author.Needs.{needs}
-use Rattle.rewriter_records.proofs.objects.lay_reference.Statement.{statement}
-use Rattle.rewriter_records.proofs.objects.lay_reference.Tie as tie
+use Rattle.rewriter_objects.proofs.lay_reference.Statement.{statement}
+use Rattle.rewriter_objects.proofs.lay_reference.Tie as tie
 
 has-object-requires : tie.Need-has-object-requires
 has-object-requires c κs = search needs

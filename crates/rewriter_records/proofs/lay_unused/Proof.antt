@@ -3,8 +3,8 @@ use lib.ListN.{replicate}
 use Prim.Native.Nat.{ℕ}
 use mathlib.Core.Path.{refl, ap, _∙_}
 use borrow.Author.Needs.{needs}
-use Rattle.rewriter_records.proofs.records.lay_unused.Statement.{statement}
-use Rattle.rewriter_records.proofs.records.lay_unused.Tie as tie
+use Rattle.rewriter_records.proofs.lay_unused.Statement.{statement}
+use Rattle.rewriter_records.proofs.lay_unused.Tie as tie
 
 base-size-requires : tie.Need-base-size-requires
 base-size-requires c κs = search needs

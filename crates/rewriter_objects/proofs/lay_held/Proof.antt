@@ -1,4 +1,4 @@
-use Rattle.rewriter_records.proofs.LaidLaws.{held-laid}
+use Rattle.rewriter_objects.proofs.LaidLaws.{held-laid}
 use mathlib.Core.Path.{ap, ap₂, _∙_}
 use mathlib.Core.List.{List}
 use Prim.Native.Nat.{ℕ, _+_}
@@ -8,10 +8,10 @@ use Rattle.table.specs.Bytes.{splice}
 use Rattle.laws.specs.Fields.{imageIn}
 use Rattle.bytes_writer.specs.Stores.{refNum}
 use Rattle.rewriter_sizes.specs.Parts.{slotsIn, recordPart}
-use Rattle.rewriter_records.specs.Laid.{named}
+use Rattle.rewriter_objects.specs.Laid.{named}
 use borrow.Author.Needs.{needs}
-use Rattle.rewriter_records.proofs.objects.lay_held.Statement.{statement}
-use Rattle.rewriter_records.proofs.objects.lay_held.Tie as tie
+use Rattle.rewriter_objects.proofs.lay_held.Statement.{statement}
+use Rattle.rewriter_objects.proofs.lay_held.Tie as tie
 
 base-size-requires : tie.Need-base-size-requires
 base-size-requires c κs = search needs

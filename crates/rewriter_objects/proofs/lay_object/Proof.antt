@@ -8,11 +8,11 @@ use mathlib.Core.Path.{sym, ap, ap₂, _∙_}
 use Rattle.bytes_writer.proofs.StoreLaws.{splice-none}
 use Rattle.rewriter_sizes.proofs.LengthLaws.{bytes-long}
 use Rattle.rewriter_sizes.specs.Parts.{partAt}
-use Rattle.rewriter_records.specs.Laid.{laid}
-use Rattle.rewriter_records.proofs.LaidLaws.{object-len, object-size, object-none, object-laid}
+use Rattle.rewriter_objects.specs.Laid.{laid}
+use Rattle.rewriter_objects.proofs.LaidLaws.{object-len, object-size, object-none, object-laid}
 use borrow.Author.Needs.{needs}
-use Rattle.rewriter_records.proofs.objects.lay_object.Statement.{statement}
-use Rattle.rewriter_records.proofs.objects.lay_object.Tie as tie
+use Rattle.rewriter_objects.proofs.lay_object.Statement.{statement}
+use Rattle.rewriter_objects.proofs.lay_object.Tie as tie
 
 object-len-requires : tie.Need-object-len-requires
 object-len-requires c κs = search needs

@@ -21,7 +21,7 @@ ghost use Rattle.reader.specs.Accepted.{Accepted};
 ghost use Rattle.reads_seats.specs.declared.seats.Seat.the-variants.{At};
 ghost use Rattle.reads_seats.specs.Seats.{Seated, Held};
 ghost use Rattle.rewriter_sizes.specs.Parts.{allPlain, slotsIn, recordPart, partAt, recordBytes, bytesAt};
-ghost use Rattle.rewriter_records.specs.Laid.{laid, named};
+ghost use Rattle.rewriter_objects.specs.Laid.{laid, named};
 
 // The image of a used record, into its own part of `out`.
 pub fn put_record(out: &mut [u8], place: usize, t: &[u8], kind: u8, source: usize)

@@ -9,8 +9,8 @@ use Rattle.laws.specs.Fields.{imageIn}
 use Rattle.reads_seats.proofs.MeaningLaws.{image-front}
 use Rattle.bytes_writer.proofs.StoreLaws.{lent}
 use borrow.Author.Needs.{needs}
-use Rattle.rewriter_records.proofs.objects.put_record.Statement.{statement}
-use Rattle.rewriter_records.proofs.objects.put_record.Tie as tie
+use Rattle.rewriter_objects.proofs.put_record.Statement.{statement}
+use Rattle.rewriter_objects.proofs.put_record.Tie as tie
 
 base-size-requires : tie.Need-base-size-requires
 base-size-requires c κs = search needs

@@ -25,7 +25,7 @@ use Rattle.reads_seats.proofs.SlotLaws.{objectAt}
 use Rattle.rewriter_sizes.specs.Parts.{Part, refsOf, slotsIn, partAt, recordPart, bytesAt, recordBytes, spansOver, storesOver, objectsOver}
 use Rattle.rewriter_sizes.proofs.PartLaws.{sized-all, stored-all, heaped-all, plain-part, plain-bytes, spans-more, spans-done}
 use Rattle.rewriter_sizes.proofs.LengthLaws.{patched-long, bytes-long}
-use Rattle.rewriter_records.specs.Laid.{laid, applyAt, named}
+use Rattle.rewriter_objects.specs.Laid.{laid, applyAt, named}
 
 -- ---- stores into a record that is laid
 

@@ -5,8 +5,8 @@ use Rattle.bytes_writer.proofs.StoreLaws.{splice-none}
 use Rattle.bytes_writer.specs.Stores.{refNum}
 use Rattle.rewriter_sizes.specs.Parts.{recordPart, recordBytes}
 use borrow.Author.Needs.{needs}
-use Rattle.rewriter_records.proofs.objects.lay_record.Statement.{statement}
-use Rattle.rewriter_records.proofs.objects.lay_record.Tie as tie
+use Rattle.rewriter_objects.proofs.lay_record.Statement.{statement}
+use Rattle.rewriter_objects.proofs.lay_record.Tie as tie
 
 enum-told : tie.Need-enum-told
 enum-told c = search needs
