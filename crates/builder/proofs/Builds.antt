@@ -110,7 +110,11 @@ all-proper (t ∷ ts) z = (proper t (z .0), all-proper ts (z .1))
 same-step : (x : Build) (t : Handed) → afterCall x t ≡ after x (callOf t)
 unfolding after
 same-step x t =
-    ap (λ (o : Outcome). record { state = o .step .state; buffer = o .buffer; told = pick (eqb (o .step .answer .number) 0) (tells (callOf t) (x .state) (x .told)) (x .told) }) (same-call t (x .state) (x .buffer))
+    ap (λ (o : Outcome). record {
+      state = o .step .state;
+      buffer = o .buffer;
+      told = pick (eqb (o .step .answer .number) 0) (tells (callOf t) (x .state) (x .told)) (x .told);
+    }) (same-call t (x .state) (x .buffer))
 
 same-run : (x : Build) (ts : List Handed) → runCalls x ts ≡ run x (callsOf ts)
 unfolding runCalls run callsOf

@@ -67,7 +67,10 @@ after-inside [] cs k n l = absurd (omega arith)
 after-inside (x ∷ ls) [] k n l = absurd (omega arith)
 after-inside (x ∷ ls) (c ∷ cs) k n l = go (eqb k (x .kind)) l (after-inside ls cs k n)
   where
-    go : (b : Bool) → n < pick b c (countOf ls cs k) → (n < countOf ls cs k → turnAfter k n ls cs ≡ turn k (n + 1)) → pick b (pick (ltb n c) (turn k (n + 1)) (firstTurn ls cs)) (turnAfter k n ls cs) ≡ turn k (n + 1)
+    go : (b : Bool)
+        → n < pick b c (countOf ls cs k)
+        → (n < countOf ls cs k → turnAfter k n ls cs ≡ turn k (n + 1))
+        → pick b (pick (ltb n c) (turn k (n + 1)) (firstTurn ls cs)) (turnAfter k n ls cs) ≡ turn k (n + 1)
     go true h f = rw (lt-ltb n c h) refl
     go false h f = f h
 
@@ -137,19 +140,27 @@ module _ (s : State) where
   unfolding placeOf host recordsEnd hfi ssns security discovery
   host-place = (refl, omega arith)
 
-  pub hfi-place : waits s 3 ≡ true → (startOf 160 listKinds (counts s) 3 + (s .position - 1) * 32 ≡ placeOf s hfi) × (startOf 160 listKinds (counts s) 3 + (s .position - 1) * 32 + baseOf hfi ≤ recordsEnd s)
+  pub hfi-place : waits s 3 ≡ true
+      → (startOf 160 listKinds (counts s) 3 + (s .position - 1) * 32 ≡ placeOf s hfi)
+      × (startOf 160 listKinds (counts s) 3 + (s .position - 1) * 32 + baseOf hfi ≤ recordsEnd s)
   unfolding placeOf recordsEnd hfi ssns security discovery
   hfi-place w = let p = in-its-list s 3 refl w in (refl, omega (arith, p))
 
-  pub ssns-place : waits s 4 ≡ true → (startOf 160 listKinds (counts s) 4 + (s .position - 1) * 128 ≡ placeOf s ssns) × (startOf 160 listKinds (counts s) 4 + (s .position - 1) * 128 + baseOf ssns ≤ recordsEnd s)
+  pub ssns-place : waits s 4 ≡ true
+      → (startOf 160 listKinds (counts s) 4 + (s .position - 1) * 128 ≡ placeOf s ssns)
+      × (startOf 160 listKinds (counts s) 4 + (s .position - 1) * 128 + baseOf ssns ≤ recordsEnd s)
   unfolding placeOf recordsEnd hfi ssns security discovery
   ssns-place w = let p = in-its-list s 4 refl w in (refl, omega (arith, p))
 
-  pub security-place : waits s 5 ≡ true → (startOf 160 listKinds (counts s) 5 + (s .position - 1) * 64 ≡ placeOf s security) × (startOf 160 listKinds (counts s) 5 + (s .position - 1) * 64 + baseOf security ≤ recordsEnd s)
+  pub security-place : waits s 5 ≡ true
+      → (startOf 160 listKinds (counts s) 5 + (s .position - 1) * 64 ≡ placeOf s security)
+      × (startOf 160 listKinds (counts s) 5 + (s .position - 1) * 64 + baseOf security ≤ recordsEnd s)
   unfolding placeOf recordsEnd hfi ssns security discovery
   security-place w = let p = in-its-list s 5 refl w in (refl, omega (arith, p))
 
-  pub discovery-place : waits s 6 ≡ true → (startOf 160 listKinds (counts s) 6 + (s .position - 1) * 32 ≡ placeOf s discovery) × (startOf 160 listKinds (counts s) 6 + (s .position - 1) * 32 + baseOf discovery ≤ recordsEnd s)
+  pub discovery-place : waits s 6 ≡ true
+      → (startOf 160 listKinds (counts s) 6 + (s .position - 1) * 32 ≡ placeOf s discovery)
+      × (startOf 160 listKinds (counts s) 6 + (s .position - 1) * 32 + baseOf discovery ≤ recordsEnd s)
   unfolding placeOf recordsEnd hfi ssns security discovery
   discovery-place w = let p = in-its-list s 6 refl w in (refl, omega (arith, p))
 

@@ -7,8 +7,7 @@ use native.Mathlib.Omega.{arith}
 use lib.ListN.{length, getD, drop}
 use lib.Seq.{drop-length}
 use lib.Dec.{eqb}
-use Rattle.table.specs.Bytes.{pick, splice}
-use Rattle.table.specs.Bytes.{Edit, edit, apply}
+use Rattle.table.specs.Bytes.{pick, splice, Edit, edit, apply}
 use borrow.Author.Tests.{ne-eqb}
 use native.Mathlib.Nat.{add-zero}
 use Rattle.table.specs.Layout.{Refs, Slots, nil, bytes, gone, rec}

@@ -28,8 +28,14 @@ FieldFits f = (f .answer .position < 256) × (f .len < 256)
 seat-field : (t : List ℕ) (k q : ℕ) (s : Seat) → Good t k s → FieldFits (fieldAt t q s)
 seat-field t k q nowhere g = (lit< tt, lit< tt)
 seat-field t k q (seat l a on) g = go (eqb (widthAt q (l .shape .fields)) 0) refl where
-  go : (c : Bool) → eqb (widthAt q (l .shape .fields)) 0 ≡ c
-      → FieldFits (pick c (refusedField (answer 16 0 0)) (record { answer = done; used = on; len = widthAt q (l .shape .fields); bytes = padded 16 (part (shown t l a on) q (widthAt q (l .shape .fields))) }))
+  go : (c : Bool)
+      → eqb (widthAt q (l .shape .fields)) 0 ≡ c
+      → FieldFits (pick c (refusedField (answer 16 0 0)) (record {
+        answer = done;
+        used = on;
+        len = widthAt q (l .shape .fields);
+        bytes = padded 16 (part (shown t l a on) q (widthAt q (l .shape .fields)));
+      }))
   go true e = (lit< tt, lit< tt)
   go false e =
       let z = eqb-false (widthAt q (l .shape .fields)) 0 e in

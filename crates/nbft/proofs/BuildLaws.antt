@@ -16,7 +16,37 @@ use Rattle.table.specs.Objects.{sizeOf}
 use Rattle.table.specs.Rules.{Test, test, first, firstFail}
 use Rattle.table.specs.Meaning.{formLength, laidOut}
 use Rattle.table.specs.Numbers.{check}
-use Rattle.table.specs.Builder.{Outcome, outcome, counts, countOf, inList, waits, finishing, sameState, empty, roomTests, envOf, toldImage, toldSlots, slotsRule, fillAnswer, fill, next, placed, placeOf, leave, begin, begun, opened, finish, finished, sealed, recordsEnd, moved, turn}
+use Rattle.table.specs.Builder.{
+  Outcome,
+  outcome,
+  counts,
+  countOf,
+  inList,
+  waits,
+  finishing,
+  sameState,
+  empty,
+  roomTests,
+  envOf,
+  toldImage,
+  toldSlots,
+  slotsRule,
+  fillAnswer,
+  fill,
+  next,
+  placed,
+  placeOf,
+  leave,
+  begin,
+  begun,
+  opened,
+  finish,
+  finished,
+  sealed,
+  recordsEnd,
+  moved,
+  turn,
+}
 use Rattle.laws.specs.Fields.{Bytes}
 use Rattle.laws.specs.Positions.{Placed, one-of, check-placed}
 use Rattle.builder_state.proofs.Laws.{waits-in-place, in-list-upto}

@@ -30,7 +30,11 @@ module _ (k : ℕ) (t : List ℕ) (c n : ℕ) where
 
   pub list-past : getD t (c + 7) 0 < n → listSeat (layoutOf k) t c n ≡ nowhere
   list-past h = go (leb 1 n) (lt-leb n (getD t (c + 7) 0) h) where
-    go : (x : Bool) → leb n (getD t (c + 7) 0) ≡ false → pick (x && leb n (getD t (c + 7) 0)) (seat (layoutOf k) start (isValid (layoutOf k .shape) (image (layoutOf k .shape .keep) (drop start t)))) nowhere ≡ nowhere
+    go : (x : Bool)
+        → leb n (getD t (c + 7) 0) ≡ false
+        → pick (x && leb n (getD t (c + 7) 0))
+        (seat (layoutOf k) start (isValid (layoutOf k .shape) (image (layoutOf k .shape .keep) (drop start t)))) nowhere
+        ≡ nowhere
     go true e = rw e refl
     go false e = refl
 

@@ -182,7 +182,12 @@ module _ (t : List ℕ) (n a : ℕ) where
         (
           refl,
           refl,
-          ((λ x. nest-told t 9 n extended (a + 60) 60 _ none x (whenSet 3 2 4 4 (image (ssns .shape .keep) (drop a t))) (ap (heapSeat extended 60 t) s) (λ f. extended-told t n (num t (a + 60) 4) f)), omega arith),
+          (
+            (λ x. nest-told t 9 n extended (a + 60) 60 _ none x
+                (whenSet 3 2 4 4 (image (ssns .shape .keep) (drop a t)))
+                (ap (heapSeat extended 60 t) s) (λ f. extended-told t n (num t (a + 60) 4) f)),
+            omega arith,
+          ),
         ),
       ),
     ),

@@ -154,11 +154,18 @@ module _ (t : List ℕ) (b : Bytes t) (ok : Accepted t) where
     all-is : recsOf all ++ heapsOf all ≡ laidOut m n 0 k
     unfolding laidOut behind
     all-is =
-        ap₂ (λ (r g : List ℕ). ((head ++ ctrl) ++ (r ++ (recsBody h₂ (m .lists) ++ []))) ++ (heapEntry h₀ drv ++ (g ++ (heapBody h₂ (m .lists) ++ [])))) (owner-rec h₁) (owner-heap h₁)
-        ∙ ap₂ (λ (i j : ℕ). ((head ++ ctrl) ++ (recEntry (h₀ + i) (m .owner) ++ (recsBody (h₀ + i + j) (m .lists) ++ []))) ++ (heapEntry h₀ drv ++ (heapEntry (h₀ + i) (m .owner) ++ (heapBody (h₀ + i + j) (m .lists) ++ [])))) driver-size owner-size
-        ∙ ap (λ (g : List ℕ). ((head ++ ctrl) ++ (recEntry g₁ (m .owner) ++ (recsBody g₂ (m .lists) ++ []))) ++ (g ++ (heapEntry g₁ (m .owner) ++ (heapBody g₂ (m .lists) ++ [])))) (driver-heap h₀)
-        ∙ ap₂ (λ (x y : List ℕ). ((x ++ y) ++ (recEntry g₁ (m .owner) ++ (recsBody g₂ (m .lists) ++ []))) ++ (heapOf h₀ (m .driver) ++ (heapEntry g₁ (m .owner) ++ (heapBody g₂ (m .lists) ++ [])))) head-is ctrl-is
-        ∙ in-order (headFront n) (0 ∷ headBack m k) (controlBytes m) (recEntry g₁ (m .owner)) (recsBody g₂ (m .lists)) (heapOf h₀ (m .driver)) (heapEntry g₁ (m .owner)) (heapBody g₂ (m .lists))
+        ap₂ (λ (r g : List ℕ). ((head ++ ctrl) ++ (r ++ (recsBody h₂ (m .lists) ++ [])))
+        ++ (heapEntry h₀ drv ++ (g ++ (heapBody h₂ (m .lists) ++ [])))) (owner-rec h₁) (owner-heap h₁)
+        ∙ ap₂ (λ (i j : ℕ).
+        ((head ++ ctrl) ++ (recEntry (h₀ + i) (m .owner) ++ (recsBody (h₀ + i + j) (m .lists) ++ [])))
+        ++ (heapEntry h₀ drv ++ (heapEntry (h₀ + i) (m .owner) ++ (heapBody (h₀ + i + j) (m .lists) ++ []))))
+        driver-size owner-size
+        ∙ ap (λ (g : List ℕ). ((head ++ ctrl) ++ (recEntry g₁ (m .owner) ++ (recsBody g₂ (m .lists) ++ [])))
+        ++ (g ++ (heapEntry g₁ (m .owner) ++ (heapBody g₂ (m .lists) ++ [])))) (driver-heap h₀)
+        ∙ ap₂ (λ (x y : List ℕ). ((x ++ y) ++ (recEntry g₁ (m .owner) ++ (recsBody g₂ (m .lists) ++ [])))
+        ++ (heapOf h₀ (m .driver) ++ (heapEntry g₁ (m .owner) ++ (heapBody g₂ (m .lists) ++ [])))) head-is ctrl-is
+        ∙ in-order (headFront n) (0 ∷ headBack m k) (controlBytes m) (recEntry g₁ (m .owner)) (recsBody g₂ (m .lists))
+        (heapOf h₀ (m .driver)) (heapEntry g₁ (m .owner)) (heapBody g₂ (m .lists))
 
     head-any : (h d : ℕ) → length (headerFor n (oemOf t) h k d) ≡ 64
     head-any h d = ap length (sym (header-joined n (oemOf t) h k d)) ∙ front.header-long n (oemOf t) h k d oem-long

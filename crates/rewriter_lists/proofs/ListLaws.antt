@@ -96,15 +96,22 @@ module _ (t : List ℕ) (b : Bytes t) (ok : Accepted t) (u : ℕ) where
         s3,
         (
           y4,
-          link y4 y3 d4 (d + length (recsList u es3)) h4 u4 (u + length (heapList u es3)) (λ h. recsList h es4) (λ h. heapList h es4) (omega (arith, e4, long3)) q4 (omega (arith, q4, g3)) s4,
+          link y4 y3 d4 (d + length (recsList u es3)) h4 u4 (u + length (heapList u es3)) (λ h. recsList h es4)
+              (λ h. heapList h es4) (omega (arith, e4, long3)) q4 (omega (arith, q4, g3)) s4,
           (
             y5,
-            link y5 y4 d5 (d + length (recsList u es3) + length (recsList u4 es4)) h5 u5 (u + length (heapList u es3) + length (heapList u4 es4)) (λ h. recsList h es5) (λ h. heapList h es5)
-                (omega (arith, e4, e5, long3, long4)) (omega (arith, q4, q5)) (omega (arith, q4, q5, g3, g4)) s5,
+            link y5 y4 d5 (d + length (recsList u es3) + length (recsList u4 es4)) h5 u5
+                (u + length (heapList u es3) + length (heapList u4 es4)) (λ h. recsList h es5)
+                (λ h. heapList h es5) (omega (arith, e4, e5, long3, long4)) (omega (arith, q4, q5))
+                (omega (arith, q4, q5, g3, g4)) s5,
             (
               y6,
-              link y6 y5 d6 (d + length (recsList u es3) + length (recsList u4 es4) + length (recsList u5 es5)) h6 u6 (u + length (heapList u es3) + length (heapList u4 es4) + length (heapList u5 es5))
-                  (λ h. recsList h es6) (λ h. heapList h es6) (omega (arith, e4, e5, e6, long3, long4, long5)) (omega (arith, q4, q5, q6)) (omega (arith, q4, q5, q6, g3, g4, g5)) s6,
+              link y6 y5 d6
+                  (d + length (recsList u es3) + length (recsList u4 es4) + length (recsList u5 es5)) h6 u6
+                  (u + length (heapList u es3) + length (heapList u4 es4) + length (heapList u5 es5))
+                  (λ h. recsList h es6) (λ h. heapList h es6)
+                  (omega (arith, e4, e5, e6, long3, long4, long5)) (omega (arith, q4, q5, q6))
+                  (omega (arith, q4, q5, q6, g3, g4, g5)) s6,
               refl,
             ),
           ),

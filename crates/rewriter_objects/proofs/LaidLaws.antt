@@ -84,12 +84,19 @@ module _ (t : List ℕ) (k a : ℕ) where
   Walk x₀ d u x h i = (h + spansOver t k a (drop i (refsOf k)) ≡ u + spansOver t k a (refsOf k)) × (u ≤ h) × (length x ≡ length x₀) × (toGo x d h i ≡ toGo x₀ d u 0)
 
 module _ (t : List ℕ) (ok : Accepted t) (k a : ℕ) (s : Seated t (layoutOf k) a true) where
-  go-more : (x : List ℕ) (d h i : ℕ) → i < length (refsOf k) → let p = getD (refsOf k) i 0 in let w = partAt t k a p .span in
+  go-more : (x : List ℕ) (d h i : ℕ)
+      → i < length (refsOf k)
+      →
+      let p = getD (refsOf k) i 0 in
+      let w = partAt t k a p .span in
       toGo t k a x d h i
-      ≡ splice (applyAt (splice x (d + p) (refNum h (partAt t k a p .len))) d (storesOver t k a (h + w) (drop (i + 1) (refsOf k)))) h (bytesAt t k a h p ++ objectsOver t k a (h + w) (drop (i + 1) (refsOf k)))
+      ≡ splice (applyAt (splice x (d + p) (refNum h (partAt t k a p .len))) d
+      (storesOver t k a (h + w) (drop (i + 1) (refsOf k)))) h
+      (bytesAt t k a h p ++ objectsOver t k a (h + w) (drop (i + 1) (refsOf k)))
   unfolding applyAt storesOver objectsOver
   go-more x d h i l =
-      ap (λ (qs : List ℕ). splice (applyAt x d (storesOver t k a h qs)) h (objectsOver t k a h qs)) (drop-cons (refsOf k) i 0 l ∙ ap (λ (j : ℕ). getD (refsOf k) i 0 ∷ drop j (refsOf k)) (sym (add-one i)))
+      ap (λ (qs : List ℕ). splice (applyAt x d (storesOver t k a h qs)) h (objectsOver t k a h qs))
+      (drop-cons (refsOf k) i 0 l ∙ ap (λ (j : ℕ). getD (refsOf k) i 0 ∷ drop j (refsOf k)) (sym (add-one i)))
 
   -- a turn: y is what the reference number i left of x
   named-turn : (x y : List ℕ) (d h i u : ℕ) → i < length (refsOf k) → let p = getD (refsOf k) i 0 in let w = partAt t k a p .span in
@@ -155,7 +162,8 @@ module _ (t : List ℕ) (ok : Accepted t) (k a : ℕ) (s : Seated t (layoutOf k)
       let y : List ℕ = imageIn (layoutOf k) t a in
       let l : length y ≡ baseOf (layoutOf k) = length-imageIn (layoutOf k) t a in
       let e = stored-all t ok k a s h in
-      at-inside (stores h (slotsIn (layoutOf k) t a)) x d y (subst (λ (es : List Edit). Below (length y) es) (sym e) (subst (λ (n : ℕ). Below n (storesOver t k a h (refsOf k))) (sym l) (refs-below t k a 0 h))) (omega (arith, l))
+      at-inside (stores h (slotsIn (layoutOf k) t a)) x d y (subst (λ (es : List Edit). Below (length y) es) (sym e)
+      (subst (λ (n : ℕ). Below n (storesOver t k a h (refsOf k))) (sym l) (refs-below t k a 0 h))) (omega (arith, l))
 
   -- ---- an object
 

@@ -15,7 +15,7 @@ use Rattle.table.specs.Layout.{Shape, Layout, Refs, none, plain, nest, Slots, b
 use Rattle.table.specs.FixedLayouts.{layoutOf, header, control, host, hfi, ssns, security, discovery, info, extended, noKind}
 use Rattle.table.specs.Objects.{sizeOf, sizeEntry, sizeList, sizeBody, spanBody, stores, heapOf, ref6}
 use Rattle.table.specs.Meaning.{Meaning, meaning, heapLen}
-use Rattle.table.specs.Reads.{seat, hasPlain, placeAt}
+use Rattle.table.specs.Reads.{seat, hasPlain, placeAt, seatOf}
 use Rattle.laws.specs.Fields.{Bytes, imageIn}
 use Rattle.laws.specs.ListWalk.{base-small}
 use Rattle.layout_images.proofs.Laws.{by-kind, part-long, other-layout}
@@ -29,7 +29,6 @@ use Rattle.reads_seats.specs.Told.{innerKind, imageOf, toldEntry, toldList, cou
 use Rattle.reads_seats.proofs.ObjectLaws.{seat-room}
 use Rattle.reads_seats.proofs.MeaningLaws.{told-all}
 use Rattle.reads_seats.proofs.SlotLaws.{objectAt, heldSlot, slotsAt, slots-at}
-use Rattle.table.specs.Reads.{seatOf}
 use Rattle.rewriter_sizes.specs.Parts.{Part, refsOf, isPlain, allPlain, slotsIn, listOf, listFrom, objectPart, recordPart, partAt, recordBytes, bytesAt, spansOver, storesOver, objectsOver}
 
 -- ---- a heap record, or none

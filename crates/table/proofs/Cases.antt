@@ -12,7 +12,30 @@ use Rattle.table.specs.declared.State.{State}
 use Rattle.table.specs.Bytes.{pick, same, padded, Edit, apply}
 use Rattle.table.specs.Layout.{image, isRight, slotAt, nil, bytes, rec}
 use Rattle.table.specs.FixedLayouts.{header, control, host, info, extended, hfi, ssns, security, discovery}
-use Rattle.table.specs.Objects.{readSlots, readEntry, readList, readBody, usedAt, usedIn, countIn, sizeOf, stores, patched, heapOf, sizeEntry, recEntry, heapEntry, sizeList, recsList, heapList, sizeBody, recsBody, heapBody, spanBody, placesBody}
+use Rattle.table.specs.Objects.{
+  readSlots,
+  readEntry,
+  readList,
+  readBody,
+  usedAt,
+  usedIn,
+  countIn,
+  sizeOf,
+  stores,
+  patched,
+  heapOf,
+  sizeEntry,
+  recEntry,
+  heapEntry,
+  sizeList,
+  recsList,
+  heapList,
+  sizeBody,
+  recsBody,
+  heapBody,
+  spanBody,
+  placesBody,
+}
 use Rattle.table.specs.Rules.{answer, done, listRegions, longEnough, versioned, refsRule, usedRule, entryRule, listRule, bodyRule}
 use Rattle.table.specs.Meaning.{limit, meaning, heapAt, heapLen, formLength, driverRef, headFront, headBack, controlBytes, behind, laidOut, form}
 use Rattle.table.specs.Numbers.{heapIn, regions, tests, driverRule, hostRule, records, check}
@@ -43,7 +66,11 @@ sameAnswer x y = eqb (x .number) (y .number) && (eqb (x .kind) (y .kind) && eqb 
 
 -- whether the definitions compute what the case says
 unfoldable pub fine : Case → Bool
-unfolding image isRight slotAt header host info extended hfi ssns security discovery readSlots readEntry readList readBody usedAt usedIn countIn sizeOf stores patched heapOf sizeEntry recEntry heapEntry sizeList recsList heapList sizeBody recsBody heapBody spanBody placesBody listRegions longEnough versioned refsRule usedRule entryRule listRule bodyRule limit meaning heapAt heapLen formLength driverRef headFront headBack controlBytes behind laidOut form heapIn regions tests driverRule hostRule records check
+unfolding image isRight slotAt header host info extended hfi ssns security discovery readSlots readEntry readList
+    readBody usedAt usedIn countIn sizeOf stores patched heapOf sizeEntry recEntry heapEntry sizeList recsList heapList
+    sizeBody recsBody heapBody spanBody placesBody listRegions longEnough versioned refsRule usedRule entryRule listRule
+    bodyRule limit meaning heapAt heapLen formLength driverRef headFront headBack controlBytes behind laidOut form
+    heapIn regions tests driverRule hostRule records check
 fine c =
     let rewritten = form (meaning (c .table)) in
     let formed = same rewritten (c .becomes) in
@@ -104,7 +131,9 @@ isRead c (field q) = isField c (readField (c .table) (c .kind) (c .position) q)
 isRead c (object q) = isPlace c (readPlace (c .table) (c .kind) (c .position) q) (readObject (c .table) (c .kind) (c .position) q)
 
 unfoldable pub fineRead : ReadCase → Bool
-unfolding control seatOf readRecord readField readPlace readObject image isRight slotAt header host info extended hfi ssns security discovery readSlots readEntry readList readBody usedAt usedIn countIn listRegions longEnough versioned refsRule usedRule entryRule listRule bodyRule limit meaning heapIn regions tests driverRule hostRule records check
+unfolding control seatOf readRecord readField readPlace readObject image isRight slotAt header host info extended hfi
+    ssns security discovery readSlots readEntry readList readBody usedAt usedIn countIn listRegions longEnough versioned
+    refsRule usedRule entryRule listRule bodyRule limit meaning heapIn regions tests driverRule hostRule records check
 fineRead c = isRead c (c .read)
 
 abbrev pub allFineReads : List ReadCase → Bool
@@ -127,7 +156,11 @@ abbrev pub written : List ℕ → List ℕ → ℕ → List ℕ → RewriteCase
 written t b n b′ = record { table = t; lent = b; says = done; size = n; leaves = b′ }
 
 unfoldable pub fineRewrite : RewriteCase → Bool
-unfolding rewriteAnswer rewrite rewriteBytes image isRight slotAt header host info extended hfi ssns security discovery readSlots readEntry readList readBody usedAt usedIn countIn sizeOf stores patched heapOf sizeEntry recEntry heapEntry sizeList recsList heapList sizeBody recsBody heapBody spanBody placesBody listRegions longEnough versioned refsRule usedRule entryRule listRule bodyRule limit meaning heapAt heapLen formLength driverRef headFront headBack controlBytes behind laidOut form heapIn regions tests driverRule hostRule records check
+unfolding rewriteAnswer rewrite rewriteBytes image isRight slotAt header host info extended hfi ssns security discovery
+    readSlots readEntry readList readBody usedAt usedIn countIn sizeOf stores patched heapOf sizeEntry recEntry
+    heapEntry sizeList recsList heapList sizeBody recsBody heapBody spanBody placesBody listRegions longEnough versioned
+    refsRule usedRule entryRule listRule bodyRule limit meaning heapAt heapLen formLength driverRef headFront headBack
+    controlBytes behind laidOut form heapIn regions tests driverRule hostRule records check
 fineRewrite c =
     let x = rewrite (c .table) (length (c .lent)) in
     sameAnswer (x .answer) (c .says) && (eqb (x .len) (c .size) && same (rewriteBytes (c .table) (c .lent)) (c .leaves))
@@ -179,7 +212,12 @@ abbrev pub stepped : State → List ℕ → Call → State → List ℕ → Buil
 stepped s b x s′ b′ = record { before = s; lent = b; call = x; says = done; after = s′; leaves = b′ }
 
 unfoldable pub fineBuild : BuildCase → Bool
-unfolding made recordsEnd placeOf next waits toldImage toldSlots slotsRule fillAnswer placed fill leave opened begin sealed finish image isRight slotAt header host info extended hfi ssns security discovery readSlots readEntry readList readBody usedAt usedIn countIn sizeOf stores patched heapOf sizeEntry recEntry heapEntry sizeList recsList heapList sizeBody recsBody heapBody spanBody placesBody listRegions longEnough versioned refsRule usedRule entryRule listRule bodyRule limit meaning heapAt heapLen formLength driverRef headFront headBack controlBytes behind laidOut form heapIn regions tests driverRule hostRule records check
+unfolding made recordsEnd placeOf next waits toldImage toldSlots slotsRule fillAnswer placed fill leave opened begin
+    sealed finish image isRight slotAt header host info extended hfi ssns security discovery readSlots readEntry
+    readList readBody usedAt usedIn countIn sizeOf stores patched heapOf sizeEntry recEntry heapEntry sizeList recsList
+    heapList sizeBody recsBody heapBody spanBody placesBody listRegions longEnough versioned refsRule usedRule entryRule
+    listRule bodyRule limit meaning heapAt heapLen formLength driverRef headFront headBack controlBytes behind laidOut
+    form heapIn regions tests driverRule hostRule records check
 fineBuild c =
     let x = made (c .call) (c .before) (c .lent) in
     sameAnswer (x .step .answer) (c .says) && (sameState (x .step .state) (c .after) && same (x .buffer) (c .leaves))

@@ -7,9 +7,36 @@ use lib.ListN.{take, replicate}
 use lib.Dec.{T}
 use Rattle.table.specs.Bytes.{checksum, splice, Edit, edit, apply}
 use Rattle.table.specs.Builder.{empty}
-use Rattle.table.proofs.Cases.{Case, refused, taken, sheet, fine, allFine}
-use Rattle.table.proofs.Cases.{ReadCase, whole, field, object, denied, found, fineRead, allFineReads, RewriteCase, unwritten, written, fineRewrite, allFineRewrites}
-use Rattle.table.proofs.Cases.{BuildCase, beginning, aHost, finishing, state, halted, stepped, fineBuild, allFineBuilds}
+use Rattle.table.proofs.Cases.{
+  Case,
+  refused,
+  taken,
+  sheet,
+  fine,
+  allFine,
+  ReadCase,
+  whole,
+  field,
+  object,
+  denied,
+  found,
+  fineRead,
+  allFineReads,
+  RewriteCase,
+  unwritten,
+  written,
+  fineRewrite,
+  allFineRewrites,
+  BuildCase,
+  beginning,
+  aHost,
+  finishing,
+  state,
+  halted,
+  stepped,
+  fineBuild,
+  allFineBuilds,
+}
 
 -- with its checksum put right
 abbrev summed : List ℕ → List ℕ

@@ -30,7 +30,48 @@ same-length : tie.Need-same-length
 same-length c = search needs
 
 returns : tie.Need-returns
-returns c = let a = c .before .before .before .before .before .before .before .before .before .before .before .before .before .before .before .args in let b = a .out .now in let ol : length (a .t2) ≡ 26 = search needs in let hl = header-length 0 (a .t2) (a .heap) 0 (length (a .signature .now)) ol in let cl = control-length (a .counts .hfi) (a .counts .ssns) (a .counts .security) (a .counts .discovery) in let H = headerFor 0 (a .t2) (a .heap) 0 (length (a .signature .now)) in let C = controlFor (a .counts .hfi ∷ a .counts .ssns ∷ a .counts .security ∷ a .counts .discovery ∷ []) in let Z = replicate {A = ℕ} (a .heap - 128) 0 in let zl = length-replicate {A = ℕ} (a .heap - 128) 0 in let sl : length (concat (H ∷ C ∷ Z ∷ (a .signature .now) ∷ [])) ≡ a .heap + length (a .signature .now) = four-long H C Z (a .signature .now) ∙ omega (arith, hl, cl, zl, c .before .before .before .before .before .before .before .before .before .before .before .before .before .before .before .pre .1) in chain-laid (H ∷ C ∷ Z ∷ (a .signature .now) ∷ []) b 0 (c .before .before .copy-into .last .0) (omega (arith, sl, c .before .before .before .before .before .before .before .before .before .before .before .before .before .before .before .pre .2)) (splice b 0 H, 0, refl, refl, (c .before .before .before .before .before .before .before .before .before .before .write-front .last .0, 64, c .before .before .before .before .before .before .before .before .before .before .write-front .ensures, omega (arith, hl), (c .before .before .before .before .before .before .fill-zero .last .0, 128, c .before .before .before .before .before .before .fill-zero .ensures, omega (arith, hl, cl), (c .before .before .copy-into .last .0, a .heap, c .before .before .copy-into .ensures, omega (arith, hl, cl, zl, c .before .before .before .before .before .before .before .before .before .before .before .before .before .before .before .pre .1), refl)))) ∙ ap (splice b 0) (opened-laid (a .t2) (a .counts) (c .before .before .before .before .before .before .before .before .before .before .before .before .before .before .before .pre .3) (a .signature .now) (a .heap) (c .before .before .before .before .before .before .before .before .before .before .before .before .before .before .before .pre .0))
+returns c =
+    let at2 = c .before .before in
+    let at6 = at2 .before .before .before .before in
+    let at10 = at6 .before .before .before .before in
+    let start = at10 .before .before .before .before .before in
+    let a = start .args in
+    let b = a .out .now in
+    let ol : length (a .t2) ≡ 26 = search needs in
+    let hl = header-length 0 (a .t2) (a .heap) 0 (length (a .signature .now)) ol in
+    let cl = control-length (a .counts .hfi) (a .counts .ssns) (a .counts .security) (a .counts .discovery) in
+    let H = headerFor 0 (a .t2) (a .heap) 0 (length (a .signature .now)) in
+    let C = controlFor (a .counts .hfi ∷ a .counts .ssns ∷ a .counts .security ∷ a .counts .discovery ∷ []) in
+    let Z = replicate {A = ℕ} (a .heap - 128) 0 in
+    let zl = length-replicate {A = ℕ} (a .heap - 128) 0 in
+    let sl : length (concat (H ∷ C ∷ Z ∷ (a .signature .now) ∷ [])) ≡ a .heap + length (a .signature .now) = four-long H
+    C Z (a .signature .now) ∙ omega (arith, hl, cl, zl, start .pre .1) in
+    chain-laid (H ∷ C ∷ Z ∷ (a .signature .now) ∷ []) b 0 (at2 .copy-into .last .0) (omega (arith, sl, start .pre .2)) (
+      splice b 0 H,
+      0,
+      refl,
+      refl,
+      (
+        at10 .write-front .last .0,
+        64,
+        at10 .write-front .ensures,
+        omega (arith, hl),
+        (
+          at6 .fill-zero .last .0,
+          128,
+          at6 .fill-zero .ensures,
+          omega (arith, hl, cl),
+          (
+            at2 .copy-into .last .0,
+            a .heap,
+            at2 .copy-into .ensures,
+            omega (arith, hl, cl, zl, start .pre .1),
+            refl,
+          ),
+        ),
+      ),
+    )
+    ∙ ap (splice b 0) (opened-laid (a .t2) (a .counts) (start .pre .3) (a .signature .now) (a .heap) (start .pre .0))
 
 pub lay-opened-spec : {M : Type 1} → statement M
 lay-opened-spec =

@@ -15,13 +15,19 @@ use Rattle.builder_discovery.proofs.discovery.Statement.{statement}
 use Rattle.builder_discovery.proofs.discovery.Tie as tie
 
 -- what was answered, by the objects
-judged-is : (c : tie.After-judged) → c .judged .result ≡ firstFail (judgeTests (layoutOf 6) (c .before .before .before .before .before .before .before .before .before .before .before .args .state)
-    (imageIn (layoutOf 6) (c .before .before .before .before .before .mark-32 .result) 0) 0 (firstOf (objectFault Optional
-    (c .before .before .before .before .before .before .before .before .before .before .before .args .address .now)) (objectFault Optional
-    (c .before .before .before .before .before .before .before .before .before .before .before .args .nqn .now))))
-judged-is c = c .judged .ensures ∙ ap (λ (f : ℕ). firstFail (judgeTests (layoutOf 6) (c .before .before .before .before .before .before .before .before .before .before .before .args .state) (imageIn
-    (layoutOf 6) (c .before .before .before .before .before .mark-32 .result) 0) 0 f)) (c .before .before .first-of .ensures ∙ ap₂ (λ (x y : ℕ). firstOf x y)
-    (c .before .before .before .before .fits2 .ensures) (c .before .before .before .fits3 .ensures))
+judged-is : (c : tie.After-judged) →
+    let at5 = c .before .before .before .before .before in
+    let start = at5 .before .before .before .before .before .before in
+    c .judged .result
+    ≡ firstFail (judgeTests (layoutOf 6) (start .args .state) (imageIn (layoutOf 6) (at5 .mark-32 .result) 0) 0
+    (firstOf (objectFault Optional (start .args .address .now)) (objectFault Optional (start .args .nqn .now))))
+judged-is c =
+    let at4 = c .before .before .before .before in
+    c .judged .ensures
+    ∙ ap (λ (f : ℕ). firstFail (judgeTests (layoutOf 6)
+    (at4 .before .before .before .before .before .before .before .args .state)
+    (imageIn (layoutOf 6) (at4 .before .mark-32 .result) 0) 0 f)) (c .before .before .first-of .ensures
+    ∙ ap₂ (λ (x y : ℕ). firstOf x y) (at4 .fits2 .ensures) (c .before .before .before .fits3 .ensures))
 
 cast-mark-32 : tie.Need-cast-mark-32
 cast-mark-32 c = search needs
@@ -51,15 +57,15 @@ refused-requires c κs = search needs
 
 returns : tie.Need-returns
 returns c =
-    let t = discovery-refused (c .before .before .before .before .before .before .before .before .before .before .before .before .before .before .args .state)
-    (c .before .before .before .before .before .before .before .before .before .before .before .before .before .before .args .out .now)
-    (c .before .before .before .before .before .before .before .before .before .before .before .before .before .before .args .told .bytes)
-    (c .before .before .before .before .before .before .before .before .mark-32 .result)
-    (c .before .before .before .before .before .before .before .before .before .before .before .before .before .before .args .address .now)
-    (c .before .before .before .before .before .before .before .before .before .before .before .before .before .before .args .nqn .now) (c .before .before .before .judged .result)
-    (c .before .before .before .before .before .before .before .before .mark-32 .ensures .0) (judged-is (c .before .before .before)) (c .before .if1 .taken) in (
-      step-is (c .refused .result) (c .before .before .before .judged .result)
-          (c .before .before .before .before .before .before .before .before .before .before .before .before .before .before .args .state) (c .refused .ensures .0) (c .refused .ensures .1) ∙ t .0,
+    let at3 = c .before .before .before in
+    let at8 = at3 .before .before .before .before .before in
+    let start = at8 .before .before .before .before .before .before in
+    let t = discovery-refused (start .args .state) (start .args .out .now) (start .args .told .bytes)
+    (at8 .mark-32 .result) (start .args .address .now) (start .args .nqn .now) (at3 .judged .result)
+    (at8 .mark-32 .ensures .0) (judged-is at3) (c .before .if1 .taken) in (
+      step-is (c .refused .result) (at3 .judged .result) (start .args .state) (c .refused .ensures .0)
+          (c .refused .ensures .1)
+          ∙ t .0,
       t .1,
     )
 
@@ -69,31 +75,29 @@ slice-aggregate-lay-discovery c = search needs
 lay-discovery-requires : tie.Need-lay-discovery-requires
 unfolding discovery
 lay-discovery-requires c κs =
-    let p = discovery-passed (c .before .before .before .before .before .before .before .before .before .before .before .before .before .before .before .args .state)
-    (c .before .before .before .before .before .before .before .before .before .before .before .before .before .before .before .args .out .now)
-    (c .before .before .before .before .before .before .before .before .before .before .before .before .before .before .before .args .told .bytes)
-    (c .before .before .before .before .before .before .before .before .before .mark-32 .result)
-    (c .before .before .before .before .before .before .before .before .before .before .before .before .before .before .before .args .address .now)
-    (c .before .before .before .before .before .before .before .before .before .before .before .before .before .before .before .args .nqn .now)
-    (c .before .before .before .before .judged .result) (c .before .before .before .before .before .before .before .before .before .mark-32 .ensures .0) (judged-is
-    (c .before .before .before .before)) (c .before .before .if1 .left) in
-    (p .0, c .before .before .before .before .before .before .before .before .before .mark-32 .ensures .2, p .1, p .2)
+    let at4 = c .before .before .before .before in
+    let at9 = at4 .before .before .before .before .before in
+    let start = at9 .before .before .before .before .before .before in
+    let p = discovery-passed (start .args .state) (start .args .out .now) (start .args .told .bytes)
+    (at9 .mark-32 .result) (start .args .address .now) (start .args .nqn .now) (at4 .judged .result)
+    (at9 .mark-32 .ensures .0) (judged-is at4) (c .before .before .if1 .left) in
+    (p .0, at9 .mark-32 .ensures .2, p .1, p .2)
 
 same-length : tie.Need-same-length
 same-length c = search needs
 
 returns-2 : tie.Need-returns-2
 returns-2 c =
-    let d = discovery-done (c .before .before .before .before .before .before .before .before .before .before .before .before .before .before .before .before .before .before .args .state)
-    (c .before .before .before .before .before .before .before .before .before .before .before .before .before .before .before .before .before .before .args .out .now)
-    (c .before .before .before .before .before .before .before .before .before .before .before .before .before .before .before .before .before .before .args .told .bytes)
-    (c .before .before .before .before .before .before .before .before .before .before .before .before .mark-32 .result)
-    (c .before .before .before .before .before .before .before .before .before .before .before .before .before .before .before .before .before .before .args .address .now)
-    (c .before .before .before .before .before .before .before .before .before .before .before .before .before .before .before .before .before .before .args .nqn .now)
-    (c .before .before .before .before .before .before .before .judged .result)
-    (c .before .before .before .before .before .before .before .before .before .before .before .before .mark-32 .ensures .0) (judged-is
-    (c .before .before .before .before .before .before .before)) (c .before .before .before .before .before .if1 .left) in
-    (c .before .before .lay-discovery .ensures .0 ∙ ap (λ (o : Outcome). o .step) d, c .before .before .lay-discovery .ensures .1 ∙ ap (λ (o : Outcome). o .buffer) d)
+    let at2 = c .before .before in
+    let at7 = at2 .before .before .before .before .before in
+    let at12 = at7 .before .before .before .before .before in
+    let start = at12 .before .before .before .before .before .before in
+    let d = discovery-done (start .args .state) (start .args .out .now) (start .args .told .bytes)
+    (at12 .mark-32 .result) (start .args .address .now) (start .args .nqn .now) (at7 .judged .result)
+    (at12 .mark-32 .ensures .0) (judged-is at7) (at2 .before .before .before .if1 .left) in (
+      at2 .lay-discovery .ensures .0 ∙ ap (λ (o : Outcome). o .step) d,
+      at2 .lay-discovery .ensures .1 ∙ ap (λ (o : Outcome). o .buffer) d,
+    )
 
 pub discovery-spec : {M : Type 1} → statement M
 discovery-spec =

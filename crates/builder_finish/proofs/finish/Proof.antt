@@ -24,11 +24,15 @@ refused-requires c κs = search needs
 
 returns : tie.Need-returns
 returns c =
-    let a = c .before .before .before .before .before .args in
+    let at3 = c .before .before .before in
+    let a = at3 .before .before .args in
     let b = a .out .now in
-    let t = finish-early (a .state) b (sym (c .before .before .before .waits .ensures) ∙ not-true (c .before .before .before .waits .result) (c .before .before .if1 .taken)) in (
-      step-is (c .refused .result) (c .before .refuse .result) (a .state) (c .refused .ensures .0) (c .refused .ensures .1) ∙ ap (λ (x : Answer). record { answer = x; state = a .state })
-          (c .before .refuse .ensures) ∙ t .0,
+    let t = finish-early (a .state) b
+    (sym (at3 .waits .ensures) ∙ not-true (at3 .waits .result) (c .before .before .if1 .taken)) in (
+      step-is (c .refused .result) (c .before .refuse .result) (a .state) (c .refused .ensures .0)
+          (c .refused .ensures .1)
+          ∙ ap (λ (x : Answer). record { answer = x; state = a .state }) (c .before .refuse .ensures)
+          ∙ t .0,
       t .1,
     )
 
@@ -40,12 +44,16 @@ refused-requires-2 c κs = search needs
 
 returns-2 : tie.Need-returns-2
 returns-2 c =
-    let a = c .before .before .before .before .before .before .before .args in
+    let at4 = c .before .before .before .before in
+    let a = at4 .before .before .before .args in
     let b = a .out .now in
-    let t = finish-short (a .state) b (sym (c .before .before .before .before .before .waits .ensures) ∙ not-false (c .before .before .before .before .before .waits .result)
-    (c .before .before .before .before .if1 .left)) (omega (arith, c .before .before .if2 .taken)) in (
-      step-is (c .refused2 .result) (c .before .refuse2 .result) (a .state) (c .refused2 .ensures .0) (c .refused2 .ensures .1) ∙ ap (λ (x : Answer). record { answer = x; state = a .state })
-          (c .before .refuse2 .ensures) ∙ t .0,
+    let t = finish-short (a .state) b
+    (sym (at4 .before .waits .ensures) ∙ not-false (at4 .before .waits .result) (at4 .if1 .left))
+    (omega (arith, c .before .before .if2 .taken)) in (
+      step-is (c .refused2 .result) (c .before .refuse2 .result) (a .state) (c .refused2 .ensures .0)
+          (c .refused2 .ensures .1)
+          ∙ ap (λ (x : Answer). record { answer = x; state = a .state }) (c .before .refuse2 .ensures)
+          ∙ t .0,
       t .1,
     )
 
@@ -54,11 +62,11 @@ finished-requires c κs = search needs
 
 judge-finished-requires : tie.Need-judge-finished-requires
 judge-finished-requires c κs =
-    let a = c .before .before .before .before .before .before .before .args in
+    let at4 = c .before .before .before .before in
+    let a = at4 .before .before .before .args in
     let b = a .out .now in (
-      sym (c .before .before .before .before .before .waits .ensures) ∙ not-false (c .before .before .before .before .before .waits .result) (c .before .before .before .before .if1 .left),
-      omega
-          (arith, c .before .before .if2 .left),
+      sym (at4 .before .waits .ensures) ∙ not-false (at4 .before .waits .result) (at4 .if1 .left),
+      omega (arith, c .before .before .if2 .left),
     )
 
 refused-requires-3 : tie.Need-refused-requires-3
@@ -69,16 +77,22 @@ same-length c = search needs
 
 returns-3 : tie.Need-returns-3
 returns-3 c =
-    let a = c .before .before .before .before .before .before .before .before .before .before .before .before .before .args in
+    let at5 = c .before .before .before .before .before in
+    let at10 = at5 .before .before .before .before .before in
+    let a = at10 .before .before .before .args in
     let b = a .out .now in
-    let j = c .before .before .before .before .before .judge-finished .ensures in
-    let t = finish-refused (a .state) b (sym (c .before .before .before .before .before .before .before .before .before .before .before .waits .ensures) ∙ not-false
-    (c .before .before .before .before .before .before .before .before .before .before .before .waits .result)
-    (c .before .before .before .before .before .before .before .before .before .before .if1 .left)) (omega (arith, c .before .before .before .before .before .before .before .before .if2 .left))
-    (c .before .before .before .before .before .judge-finished .result) (j .0) (c .before .if3 .taken) in (
-      step-is (c .refused3 .result) (c .before .before .before .before .before .judge-finished .result) (a .state) (c .refused3 .ensures .0) (c .refused3 .ensures .1) ∙ t .0,
-      j .1 ∙ ap (λ (c : Bool).
-          pick c (sealed (a .state) b) b) (ne-eqb (c .before .before .before .before .before .judge-finished .result .number) 0 (c .before .if3 .taken)) ∙ t .1,
+    let j = at5 .judge-finished .ensures in
+    let t = finish-refused (a .state) b
+    (sym (at10 .before .waits .ensures) ∙ not-false (at10 .before .waits .result) (at10 .if1 .left))
+    (omega (arith, at5 .before .before .before .if2 .left)) (at5 .judge-finished .result) (j .0)
+    (c .before .if3 .taken) in (
+      step-is (c .refused3 .result) (at5 .judge-finished .result) (a .state) (c .refused3 .ensures .0)
+          (c .refused3 .ensures .1)
+          ∙ t .0,
+      j .1
+          ∙ ap (λ (c : Bool). pick c (sealed (a .state) b) b)
+          (ne-eqb (at5 .judge-finished .result .number) 0 (c .before .if3 .taken))
+          ∙ t .1,
     )
 
 same-length-2 : tie.Need-same-length-2
@@ -86,14 +100,21 @@ same-length-2 c = search needs
 
 returns-4 : tie.Need-returns-4
 returns-4 c =
-    let a = c .before .before .before .before .before .before .before .before .before .before .before .before .args in
+    let at4 = c .before .before .before .before in
+    let at9 = at4 .before .before .before .before .before in
+    let a = at9 .before .before .before .args in
     let b = a .out .now in
-    let j = c .before .before .before .before .judge-finished .ensures in
-    let t = finish-done (a .state) b (sym (c .before .before .before .before .before .before .before .before .before .before .waits .ensures) ∙ not-false
-    (c .before .before .before .before .before .before .before .before .before .before .waits .result) (c .before .before .before .before .before .before .before .before .before .if1 .left))
-    (omega (arith, c .before .before .before .before .before .before .before .if2 .left)) (c .before .before .before .before .judge-finished .result) (j .0) (c .if3 .left) in (
-      ap (λ (y : State). record { answer = c .before .before .before .before .judge-finished .result; state = y }) (c .before .before .before .before .before .before .finished .ensures) ∙ t .0,
-      j .1 ∙ ap (λ (c : Bool). pick c (sealed (a .state) b) b) (eq-eqb (c .before .before .before .before .judge-finished .result .number) 0 (c .if3 .left)) ∙ t .1,
+    let j = at4 .judge-finished .ensures in
+    let t = finish-done (a .state) b
+    (sym (at9 .before .waits .ensures) ∙ not-false (at9 .before .waits .result) (at9 .if1 .left))
+    (omega (arith, at4 .before .before .before .if2 .left)) (at4 .judge-finished .result) (j .0) (c .if3 .left) in (
+      ap (λ (y : State). record { answer = at4 .judge-finished .result; state = y })
+          (at4 .before .before .finished .ensures)
+          ∙ t .0,
+      j .1
+          ∙ ap (λ (c : Bool). pick c (sealed (a .state) b) b)
+          (eq-eqb (at4 .judge-finished .result .number) 0 (c .if3 .left))
+          ∙ t .1,
     )
 
 pub finish-spec : {M : Type 1} → statement M

@@ -22,12 +22,15 @@ use Rattle.builder_hfi.proofs.lay_hfi.Tie as tie
 roomy-here : (c : tie.After-place-of) → let a = c .before .before .before .before .before .before .before .before .args in (recordsEnd (a .state) ≤ a .state .used) × (a .state .used + (128 + length
     (a .name .now)) ≤ 65536) × (a .state .used + (128 + length (a .name .now)) ≤ length (a .out .now))
 roomy-here c =
-    let s = c .before .before .before .before .before .before .before .before in
+    let at3 = c .before .before .before in
+    let s = at3 .before .before .before .before .before in
     let a = s .args in
-    roomy (a .state) 3 (128 + length (a .name .now)) (length (a .out .now)) (c .before .before .before .room-fault .result) (s .pre .0) (c .before .before .before .room-fault .ensures)
-    (c .before .if1 .left)
+    roomy (a .state) 3 (128 + length (a .name .now)) (length (a .out .now)) (at3 .room-fault .result) (s .pre .0)
+    (at3 .room-fault .ensures) (c .before .if1 .left)
 
-inside : (c : tie.After-place-of) → c .place-of .result + 32 ≤ length (c .before .before .before .before .before .before .before .before .args .out .now)
+inside : (c : tie.After-place-of) →
+    let start = c .before .before .before .before .before .before .before .before in
+    c .place-of .result + 32 ≤ length (start .args .out .now)
 unfolding layoutOf hfi
 inside c = omega (arith, roomy-here c, c .place-of .ensures .1)
 
@@ -45,10 +48,12 @@ refused-requires c κs = search needs
 
 returns : tie.Need-returns
 returns c =
-    let a = c .before .before .before .before .before .before .before .before .args in
-    laid-refused hfi (a .state) (a .out .now) (a .marked .now) (hfiTold (imageIn info (a .info .now) 0) (a .name .now)) (128 + length (a .name .now)) (c .before .before .before .room-fault .result)
-    (c .refused .result) (hfi-size (imageIn info (a .info .now) 0) (a .name .now)) (c .before .before .before .room-fault .ensures) (c .refused .ensures .0) (c .before .if1 .taken)
-    (c .refused .ensures .1)
+    let at3 = c .before .before .before in
+    let a = at3 .before .before .before .before .before .args in
+    laid-refused hfi (a .state) (a .out .now) (a .marked .now) (hfiTold (imageIn info (a .info .now) 0) (a .name .now))
+    (128 + length (a .name .now)) (at3 .room-fault .result) (c .refused .result)
+    (hfi-size (imageIn info (a .info .now) 0) (a .name .now)) (at3 .room-fault .ensures) (c .refused .ensures .0)
+    (c .before .if1 .taken) (c .refused .ensures .1)
 
 place-of-requires : tie.Need-place-of-requires
 place-of-requires c κs = let s = c .before .before .before .before .before .before .before in (lit≤ tt, lit≤ tt, s .pre .0)
@@ -87,30 +92,26 @@ part-write-info-end c = omega (arith, roomy-here (c .before .before .before .bef
 write-info-requires : tie.Need-write-info-requires
 unfolding info
 write-info-requires c κs =
-    let s = c .before .before .before .before .before .before .before .before .before .before .before .before .before in
+    let at5 = c .before .before .before .before .before in
+    let s = at5 .before .before .before .before .before .before .before .before in
     let a = s .args in (
       (
-        part-size _ (a .state .used) 128 (omega (arith, roomy-here (c .before .before .before .before .before), c .before .before .out .given .1)),
+        part-size _ (a .state .used) 128 (omega (arith, roomy-here at5, c .before .before .out .given .1)),
         s .pre .2,
-        omega (
-          arith,
-          roomy-here
-              (c .before .before .before .before .before),
-        ),
+        omega (arith, roomy-here at5),
       ),
       s .pre .3,
     )
 
 copy-into-requires : tie.Need-copy-into-requires
-copy-into-requires c κs = omega (
-  arith,
-  roomy-here (c .before .before .before .before .before .before .before .before .before),
-  c .before .before .before .before .before .before .out .given .1,
-  c .before .before .out2 .given .1,
-)
+copy-into-requires c κs =
+    let at6 = c .before .before .before .before .before .before in
+    omega (arith, roomy-here (at6 .before .before .before), at6 .out .given .1, c .before .before .out2 .given .1)
 
 stepped-requires : tie.Need-stepped-requires
-stepped-requires c κs = in-limit _ (roomy-here (c .before .before .before .before .before .before .before .before .before .before .before .before) .1)
+stepped-requires c κs =
+    let at12 = c .before .before .before .before .before .before .before .before .before .before .before .before in
+    in-limit _ (roomy-here at12 .1)
 
 same-length : tie.Need-same-length
 same-length c = search needs
@@ -118,41 +119,52 @@ same-length c = search needs
 returns-2 : tie.Need-returns-2
 unfolding layoutOf info
 returns-2 c =
-    let s = c .before .before .before .before .before .before .before .before .before .before .before .before .before .before .before .before .before .before .before .before .before in
+    let at3 = c .before .before .before in
+    let at7 = at3 .before .before .before .before in
+    let at11 = at7 .before .before .before .before in
+    let at13 = at11 .before .before in
+    let at16 = at13 .before .before .before in
+    let s = at16 .before .before .before .before .before in
     let a = s .args in
-    let w = c .before .before .before .before .before .before .before .before .before .before .before .write-hfi in
-    let t = c .before .before .before .before .before .before .before .before .before .before .before .before .before .place-of in
-    let q = roomy-here (c .before .before .before .before .before .before .before .before .before .before .before .before .before) in
-    let y = part-stored (a .out .now) (t .result) 32 (w .last .0) (recordWith hfi (a .marked .now) (a .state .used) (baseOf info ∷ []) ((baseOf info + length (a .name .now)) ∷ [])) (inside
-    (c .before .before .before .before .before .before .before .before .before .before .before .before .before)) (w .kept .0) (w .ensures) in
-    let v : length (take (t .result) (a .out .now) ++ (w .last .0 ++ drop (t .result + 32 - t .result) (drop (t .result) (a .out .now)))) ≡ length (a .out .now) =
-    c .before .before .before .before .before .before .before .before .before .before .out .given .1 in
-    let i = c .before .before .before .before .before .before .before .write-info in
-    let k : a .state .used + 128 ≤ length (take (t .result) (a .out .now) ++ (w .last .0 ++ drop (t .result + 32 - t .result) (drop (t .result) (a .out .now)))) = omega (arith, q, v) in
-    let l : length (i .last .0) ≡ 128 = i .kept .0 ∙ part-size (take (t .result) (a .out .now) ++ (w .last .0 ++ drop (t .result + 32 - t .result) (drop (t .result) (a .out .now)))) (a .state .used)
-    128 k in
-    let z = chain-laid (i .last .0 ∷ a .name .now ∷ []) (take (t .result) (a .out .now) ++ (w .last .0 ++ drop (t .result + 32 - t .result) (drop (t .result) (a .out .now)))) (a .state .used)
-    (c .before .before .before .copy-into .last .0) (omega (arith, two-long (i .last .0) (a .name .now), l, q, v)) (
+    let w = at11 .write-hfi in
+    let t = at13 .place-of in
+    let q = roomy-here at13 in
+    let y = part-stored (a .out .now) (t .result) 32 (w .last .0)
+    (recordWith hfi (a .marked .now) (a .state .used) (baseOf info ∷ []) ((baseOf info + length (a .name .now)) ∷ []))
+    (inside at13) (w .kept .0) (w .ensures) in
+    let v : length (take (t .result) (a .out .now)
+    ++ (w .last .0 ++ drop (t .result + 32 - t .result) (drop (t .result) (a .out .now)))) ≡ length (a .out .now) =
+    at7 .before .before .before .out .given .1 in
+    let i = at7 .write-info in
+    let k : a .state .used + 128 ≤ length (take (t .result) (a .out .now)
+    ++ (w .last .0 ++ drop (t .result + 32 - t .result) (drop (t .result) (a .out .now)))) = omega (arith, q, v) in
+    let l : length (i .last .0) ≡ 128 = i .kept .0 ∙ part-size (take (t .result) (a .out .now)
+    ++ (w .last .0 ++ drop (t .result + 32 - t .result) (drop (t .result) (a .out .now)))) (a .state .used) 128 k in
+    let z = chain-laid (i .last .0 ∷ a .name .now ∷ []) (take (t .result) (a .out .now)
+    ++ (w .last .0 ++ drop (t .result + 32 - t .result) (drop (t .result) (a .out .now)))) (a .state .used)
+    (at3 .copy-into .last .0) (omega (arith, two-long (i .last .0) (a .name .now), l, q, v)) (
       _,
       a .state .used,
-      part-stored (take (t .result) (a .out .now) ++ (w .last .0 ++
-          drop (t .result + 32 - t .result) (drop (t .result) (a .out .now)))) (a .state .used) 128 (i .last .0) (i .last .0) k (i .kept .0) refl,
+      part-stored (take (t .result) (a .out .now)
+          ++ (w .last .0 ++ drop (t .result + 32 - t .result) (drop (t .result) (a .out .now)))) (a .state .used) 128
+          (i .last .0) (i .last .0) k (i .kept .0) refl,
       refl,
       (
-        c .before .before .before .copy-into .last .0,
+        at3 .copy-into .last .0,
         a .state .used + 128,
-        c .before .before .before .copy-into .ensures,
+        at3 .copy-into .ensures,
         ap (λ (m : ℕ). a .state .used + m) (sym l),
         refl,
       ),
     ) in
-    laid-done hfi (a .state) (a .out .now) (a .marked .now) (hfiTold (imageIn info (a .info .now) 0) (a .name .now)) (128 + length (a .name .now))
-    (c .before .before .before .before .before .before .before .before .before .before .before .before .before .before .before .before .room-fault .result) (c .stepped .result) (hfi-size
-    (imageIn info (a .info .now) 0) (a .name .now))
-    (c .before .before .before .before .before .before .before .before .before .before .before .before .before .before .before .before .room-fault .ensures) (c .stepped .ensures .0)
-    (c .before .before .before .before .before .before .before .before .before .before .before .before .before .before .if1 .left) (c .stepped .ensures .1) (t .result) _ (take (t .result)
-    (a .out .now) ++ (w .last .0 ++ drop (t .result + 32 - t .result) (drop (t .result) (a .out .now)))) (c .before .before .before .copy-into .last .0) (concat (i .last .0 ∷ a .name .now ∷ []))
-    (t .ensures .0) (hfi-record (a .marked .now) (a .state .used) (imageIn info (a .info .now) 0) (a .name .now)) y (hfi-heap (a .state .used) (a .info .now) (a .name .now) (i .last .0) (i .ensures)) z
+    laid-done hfi (a .state) (a .out .now) (a .marked .now) (hfiTold (imageIn info (a .info .now) 0) (a .name .now))
+    (128 + length (a .name .now)) (at16 .room-fault .result) (c .stepped .result)
+    (hfi-size (imageIn info (a .info .now) 0) (a .name .now)) (at16 .room-fault .ensures) (c .stepped .ensures .0)
+    (at13 .before .if1 .left) (c .stepped .ensures .1) (t .result) _ (take (t .result) (a .out .now)
+    ++ (w .last .0 ++ drop (t .result + 32 - t .result) (drop (t .result) (a .out .now)))) (at3 .copy-into .last .0)
+    (concat (i .last .0 ∷ a .name .now ∷ [])) (t .ensures .0)
+    (hfi-record (a .marked .now) (a .state .used) (imageIn info (a .info .now) 0) (a .name .now)) y
+    (hfi-heap (a .state .used) (a .info .now) (a .name .now) (i .last .0) (i .ensures)) z
 
 pub lay-hfi-spec : {M : Type 1} → statement M
 lay-hfi-spec =

@@ -15,10 +15,17 @@ use Rattle.builder_host.proofs.host.Statement.{statement}
 use Rattle.builder_host.proofs.host.Tie as tie
 
 -- what was answered, by the objects
-judged-is : (c : tie.After-judged) → c .judged .result ≡ firstFail (judgeTests (layoutOf 2) (c .before .before .before .before .before .before .before .before .args .state) (imageIn (layoutOf 2)
-    (c .before .before .before .mark-32 .result) 0) 0 (objectFault Required (c .before .before .before .before .before .before .before .before .args .nqn .now)))
-judged-is c = c .judged .ensures ∙ ap (λ (f : ℕ). firstFail (judgeTests (layoutOf 2) (c .before .before .before .before .before .before .before .before .args .state) (imageIn (layoutOf 2)
-    (c .before .before .before .mark-32 .result) 0) 0 f)) (c .before .fits2 .ensures)
+judged-is : (c : tie.After-judged) →
+    let start = c .before .before .before .before .before .before .before .before in
+    c .judged .result
+    ≡ firstFail (judgeTests (layoutOf 2) (start .args .state)
+    (imageIn (layoutOf 2) (c .before .before .before .mark-32 .result) 0) 0
+    (objectFault Required (start .args .nqn .now)))
+judged-is c =
+    let start = c .before .before .before .before .before .before .before .before in
+    c .judged .ensures
+    ∙ ap (λ (f : ℕ). firstFail (judgeTests (layoutOf 2) (start .args .state)
+    (imageIn (layoutOf 2) (c .before .before .before .mark-32 .result) 0) 0 f)) (c .before .fits2 .ensures)
 
 cast-mark-32 : tie.Need-cast-mark-32
 cast-mark-32 c = search needs
@@ -42,13 +49,14 @@ refused-requires c κs = search needs
 
 returns : tie.Need-returns
 returns c =
-    let t = host-refused (c .before .before .before .before .before .before .before .before .before .before .before .args .state)
-    (c .before .before .before .before .before .before .before .before .before .before .before .args .out .now)
-    (c .before .before .before .before .before .before .before .before .before .before .before .args .told .bytes) (c .before .before .before .before .before .before .mark-32 .result)
-    (c .before .before .before .before .before .before .before .before .before .before .before .args .nqn .now) (c .before .before .before .judged .result)
-    (c .before .before .before .before .before .before .mark-32 .ensures .0) (judged-is (c .before .before .before)) (c .before .if1 .taken) in (
-      step-is (c .refused .result) (c .before .before .before .judged .result) (c .before .before .before .before .before .before .before .before .before .before .before .args .state)
-          (c .refused .ensures .0) (c .refused .ensures .1) ∙ t .0,
+    let at3 = c .before .before .before in
+    let at6 = at3 .before .before .before in
+    let start = at6 .before .before .before .before .before in
+    let t = host-refused (start .args .state) (start .args .out .now) (start .args .told .bytes) (at6 .mark-32 .result)
+    (start .args .nqn .now) (at3 .judged .result) (at6 .mark-32 .ensures .0) (judged-is at3) (c .before .if1 .taken) in (
+      step-is (c .refused .result) (at3 .judged .result) (start .args .state) (c .refused .ensures .0)
+          (c .refused .ensures .1)
+          ∙ t .0,
       t .1,
     )
 
@@ -58,27 +66,29 @@ slice-aggregate-lay-host c = search needs
 lay-host-requires : tie.Need-lay-host-requires
 unfolding host
 lay-host-requires c κs =
-    let p = host-passed (c .before .before .before .before .before .before .before .before .before .before .before .before .args .state)
-    (c .before .before .before .before .before .before .before .before .before .before .before .before .args .out .now)
-    (c .before .before .before .before .before .before .before .before .before .before .before .before .args .told .bytes)
-    (c .before .before .before .before .before .before .before .mark-32 .result)
-    (c .before .before .before .before .before .before .before .before .before .before .before .before .args .nqn .now) (c .before .before .before .before .judged .result)
-    (c .before .before .before .before .before .before .before .mark-32 .ensures .0) (judged-is (c .before .before .before .before)) (c .before .before .if1 .left) in
-    (p .0, c .before .before .before .before .before .before .before .mark-32 .ensures .2, p .1)
+    let at4 = c .before .before .before .before in
+    let at7 = at4 .before .before .before in
+    let start = at7 .before .before .before .before .before in
+    let p = host-passed (start .args .state) (start .args .out .now) (start .args .told .bytes) (at7 .mark-32 .result)
+    (start .args .nqn .now) (at4 .judged .result) (at7 .mark-32 .ensures .0) (judged-is at4)
+    (c .before .before .if1 .left) in
+    (p .0, at7 .mark-32 .ensures .2, p .1)
 
 same-length : tie.Need-same-length
 same-length c = search needs
 
 returns-2 : tie.Need-returns-2
 returns-2 c =
-    let d = host-done (c .before .before .before .before .before .before .before .before .before .before .before .before .before .before .before .args .state)
-    (c .before .before .before .before .before .before .before .before .before .before .before .before .before .before .before .args .out .now)
-    (c .before .before .before .before .before .before .before .before .before .before .before .before .before .before .before .args .told .bytes)
-    (c .before .before .before .before .before .before .before .before .before .before .mark-32 .result)
-    (c .before .before .before .before .before .before .before .before .before .before .before .before .before .before .before .args .nqn .now)
-    (c .before .before .before .before .before .before .before .judged .result) (c .before .before .before .before .before .before .before .before .before .before .mark-32 .ensures .0)
-    (judged-is (c .before .before .before .before .before .before .before)) (c .before .before .before .before .before .if1 .left) in
-    (c .before .before .lay-host .ensures .0 ∙ ap (λ (o : Outcome). o .step) d, c .before .before .lay-host .ensures .1 ∙ ap (λ (o : Outcome). o .buffer) d)
+    let at2 = c .before .before in
+    let at7 = at2 .before .before .before .before .before in
+    let at10 = at7 .before .before .before in
+    let start = at10 .before .before .before .before .before in
+    let d = host-done (start .args .state) (start .args .out .now) (start .args .told .bytes) (at10 .mark-32 .result)
+    (start .args .nqn .now) (at7 .judged .result) (at10 .mark-32 .ensures .0) (judged-is at7)
+    (at2 .before .before .before .if1 .left) in (
+      at2 .lay-host .ensures .0 ∙ ap (λ (o : Outcome). o .step) d,
+      at2 .lay-host .ensures .1 ∙ ap (λ (o : Outcome). o .buffer) d,
+    )
 
 pub host-spec : {M : Type 1} → statement M
 host-spec =

@@ -18,10 +18,11 @@ use Rattle.builder_host.proofs.lay_host.Tie as tie
 roomy-here : (c : tie.After-place-of) → let a = c .before .before .before .before .before .before .before .args in (recordsEnd (a .state) ≤ a .state .used) × (a .state .used + (length (a .nqn .now)) ≤
     65536) × (a .state .used + (length (a .nqn .now)) ≤ length (a .out .now))
 roomy-here c =
-    let s = c .before .before .before .before .before .before .before in
+    let at3 = c .before .before .before in
+    let s = at3 .before .before .before .before in
     let a = s .args in
-    roomy (a .state) 2 (length (a .nqn .now)) (length (a .out .now)) (c .before .before .before .room-fault .result) (s .pre .0) (c .before .before .before .room-fault .ensures)
-    (c .before .if1 .left)
+    roomy (a .state) 2 (length (a .nqn .now)) (length (a .out .now)) (at3 .room-fault .result) (s .pre .0)
+    (at3 .room-fault .ensures) (c .before .if1 .left)
 
 inside : (c : tie.After-place-of) → c .place-of .result + 32 ≤ length (c .before .before .before .before .before .before .before .args .out .now)
 unfolding layoutOf host
@@ -38,9 +39,11 @@ refused-requires c κs = search needs
 
 returns : tie.Need-returns
 returns c =
-    let a = c .before .before .before .before .before .before .before .args in
-    laid-refused host (a .state) (a .out .now) (a .marked .now) (hostTold (a .nqn .now)) (length (a .nqn .now)) (c .before .before .before .room-fault .result) (c .refused .result) (host-size
-    (a .nqn .now)) (c .before .before .before .room-fault .ensures) (c .refused .ensures .0) (c .before .if1 .taken) (c .refused .ensures .1)
+    let at3 = c .before .before .before in
+    let a = at3 .before .before .before .before .args in
+    laid-refused host (a .state) (a .out .now) (a .marked .now) (hostTold (a .nqn .now)) (length (a .nqn .now))
+    (at3 .room-fault .result) (c .refused .result) (host-size (a .nqn .now)) (at3 .room-fault .ensures)
+    (c .refused .ensures .0) (c .before .if1 .taken) (c .refused .ensures .1)
 
 place-of-requires : tie.Need-place-of-requires
 place-of-requires c κs = let s = c .before .before .before .before .before .before in (lit≤ tt, lit≤ tt, s .pre .0)
@@ -68,7 +71,9 @@ copy-into-requires : tie.Need-copy-into-requires
 copy-into-requires c κs = omega (arith, roomy-here (c .before .before .before .before .before), c .before .before .out .given .1)
 
 stepped-requires : tie.Need-stepped-requires
-stepped-requires c κs = in-limit _ (roomy-here (c .before .before .before .before .before .before .before .before) .1)
+stepped-requires c κs =
+    let at8 = c .before .before .before .before .before .before .before .before in
+    in-limit _ (roomy-here at8 .1)
 
 same-length : tie.Need-same-length
 same-length c = search needs
@@ -76,17 +81,21 @@ same-length c = search needs
 returns-2 : tie.Need-returns-2
 unfolding layoutOf
 returns-2 c =
-    let s = c .before .before .before .before .before .before .before .before .before .before .before .before .before .before .before .before in
+    let at7 = c .before .before .before .before .before .before .before in
+    let at9 = at7 .before .before in
+    let at12 = at9 .before .before .before in
+    let s = at12 .before .before .before .before in
     let a = s .args in
-    let w = c .before .before .before .before .before .before .before .write-host in
-    let t = c .before .before .before .before .before .before .before .before .before .place-of in
-    let y = part-stored (a .out .now) (t .result) 32 (w .last .0) (recordWith host (a .marked .now) (a .state .used) (length (a .nqn .now) ∷ []) (length (a .nqn .now) ∷ [])) (inside
-    (c .before .before .before .before .before .before .before .before .before)) (w .kept .0) (w .ensures) in
+    let w = at7 .write-host in
+    let t = at9 .place-of in
+    let y = part-stored (a .out .now) (t .result) 32 (w .last .0)
+    (recordWith host (a .marked .now) (a .state .used) (length (a .nqn .now) ∷ []) (length (a .nqn .now) ∷ []))
+    (inside at9) (w .kept .0) (w .ensures) in
     laid-done host (a .state) (a .out .now) (a .marked .now) (hostTold (a .nqn .now)) (length (a .nqn .now))
-    (c .before .before .before .before .before .before .before .before .before .before .before .before .room-fault .result) (c .stepped .result) (host-size (a .nqn .now))
-    (c .before .before .before .before .before .before .before .before .before .before .before .before .room-fault .ensures) (c .stepped .ensures .0)
-    (c .before .before .before .before .before .before .before .before .before .before .if1 .left) (c .stepped .ensures .1) (t .result) _ _ _ (a .nqn .now) (t .ensures .0) (host-record
-    (a .marked .now) (a .state .used) (a .nqn .now)) y (host-heap (a .state .used) (a .nqn .now)) (c .before .before .before .copy-into .ensures)
+    (at12 .room-fault .result) (c .stepped .result) (host-size (a .nqn .now)) (at12 .room-fault .ensures)
+    (c .stepped .ensures .0) (at9 .before .if1 .left) (c .stepped .ensures .1) (t .result) _ _ _ (a .nqn .now)
+    (t .ensures .0) (host-record (a .marked .now) (a .state .used) (a .nqn .now)) y
+    (host-heap (a .state .used) (a .nqn .now)) (c .before .before .before .copy-into .ensures)
 
 pub lay-host-spec : {M : Type 1} → statement M
 lay-host-spec =

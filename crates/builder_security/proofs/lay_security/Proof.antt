@@ -16,16 +16,24 @@ use Rattle.builder_security.proofs.lay_security.Statement.{statement}
 use Rattle.builder_security.proofs.lay_security.Tie as tie
 
 -- where there is room
-roomy-here : (c : tie.After-place-of) → let a = c .before .before .before .before .before .before .before .before .before .before .before .before .args in (recordsEnd (a .state) ≤ a .state .used) ×
-    (a .state .used + (length (a .algorithms .now) + length (a .protocols .now) + length (a .ciphers .now) + length (a .groups .now) + length (a .hashes .now) + length (a .keypath .now)) ≤ 65536) × (a .state .used + (length
-    (a .algorithms .now) + length (a .protocols .now) + length (a .ciphers .now) + length (a .groups .now) + length (a .hashes .now) + length (a .keypath .now)) ≤ length (a .out .now))
+roomy-here : (c : tie.After-place-of) →
+    let a = c .before .before .before .before .before .before .before .before .before .before .before .before .args in
+    (recordsEnd (a .state) ≤ a .state .used)
+    × (a .state .used + (length (a .algorithms .now) + length (a .protocols .now) + length (a .ciphers .now) + length
+    (a .groups .now) + length (a .hashes .now) + length (a .keypath .now)) ≤ 65536)
+    × (a .state .used + (length (a .algorithms .now) + length (a .protocols .now) + length (a .ciphers .now) + length
+    (a .groups .now) + length (a .hashes .now) + length (a .keypath .now)) ≤ length (a .out .now))
 roomy-here c =
-    let s = c .before .before .before .before .before .before .before .before .before .before .before .before in
+    let at3 = c .before .before .before in
+    let s = at3 .before .before .before .before .before .before .before .before .before in
     let a = s .args in
-    roomy (a .state) 5 (length (a .algorithms .now) + length (a .protocols .now) + length (a .ciphers .now) + length (a .groups .now) + length (a .hashes .now) + length (a .keypath .now)) (length (a .out .now))
-    (c .before .before .before .room-fault .result) (s .pre .0 .0) (c .before .before .before .room-fault .ensures) (c .before .if1 .left)
+    roomy (a .state) 5 (length (a .algorithms .now) + length (a .protocols .now) + length (a .ciphers .now) + length
+    (a .groups .now) + length (a .hashes .now) + length (a .keypath .now)) (length (a .out .now))
+    (at3 .room-fault .result) (s .pre .0 .0) (at3 .room-fault .ensures) (c .before .if1 .left)
 
-inside : (c : tie.After-place-of) → c .place-of .result + 64 ≤ length (c .before .before .before .before .before .before .before .before .before .before .before .before .args .out .now)
+inside : (c : tie.After-place-of) →
+    let start = c .before .before .before .before .before .before .before .before .before .before .before .before in
+    c .place-of .result + 64 ≤ length (start .args .out .now)
 unfolding layoutOf security
 inside c = omega (arith, roomy-here c, c .place-of .ensures .1)
 
@@ -55,10 +63,15 @@ refused-requires c κs = search needs
 
 returns : tie.Need-returns
 returns c =
-    let a = c .before .before .before .before .before .before .before .before .before .before .before .before .args in
-    laid-refused security (a .state) (a .out .now) (a .marked .now) (securityTold (a .algorithms .now) (a .protocols .now) (a .ciphers .now) (a .groups .now) (a .hashes .now) (a .keypath .now)) (length (a .algorithms .now) + length (a .protocols .now)
-    + length (a .ciphers .now) + length (a .groups .now) + length (a .hashes .now) + length (a .keypath .now)) (c .before .before .before .room-fault .result) (c .refused .result) (security-size (a .algorithms .now)
-    (a .protocols .now) (a .ciphers .now) (a .groups .now) (a .hashes .now) (a .keypath .now)) (c .before .before .before .room-fault .ensures) (c .refused .ensures .0) (c .before .if1 .taken) (c .refused .ensures .1)
+    let at3 = c .before .before .before in
+    let a = at3 .before .before .before .before .before .before .before .before .before .args in
+    laid-refused security (a .state) (a .out .now) (a .marked .now) (securityTold (a .algorithms .now)
+    (a .protocols .now) (a .ciphers .now) (a .groups .now) (a .hashes .now) (a .keypath .now))
+    (length (a .algorithms .now) + length (a .protocols .now) + length (a .ciphers .now) + length (a .groups .now)
+    + length (a .hashes .now) + length (a .keypath .now)) (at3 .room-fault .result) (c .refused .result)
+    (security-size (a .algorithms .now) (a .protocols .now) (a .ciphers .now) (a .groups .now) (a .hashes .now)
+    (a .keypath .now)) (at3 .room-fault .ensures) (c .refused .ensures .0) (c .before .if1 .taken)
+    (c .refused .ensures .1)
 
 place-of-requires : tie.Need-place-of-requires
 place-of-requires c κs = let s = c .before .before .before .before .before .before .before .before .before .before .before in (lit≤ tt, lit≤ tt, s .pre .0 .0)
@@ -91,11 +104,20 @@ write-security-requires c κs =
 
 lay-pieces-requires : tie.Need-lay-pieces-requires
 lay-pieces-requires c κs =
-    let a = c .before .before .before .before .before .before .before .before .before .before .before .before .before .before .before .before .before .args in
-    omega (arith, roomy-here (c .before .before .before .before .before), c .before .before .out .given .1, six-long (a .algorithms .now) (a .protocols .now) (a .ciphers .now) (a .groups .now) (a .hashes .now) (a .keypath .now))
+    let at5 = c .before .before .before .before .before in
+    let a = at5 .before .before .before .before .before .before .before .before .before .before .before .before .args in
+    omega (
+      arith,
+      roomy-here at5,
+      c .before .before .out .given .1,
+      six-long (a .algorithms .now) (a .protocols .now) (a .ciphers .now) (a .groups .now) (a .hashes .now)
+          (a .keypath .now),
+    )
 
 stepped-requires : tie.Need-stepped-requires
-stepped-requires c κs = in-limit _ (roomy-here (c .before .before .before .before .before .before .before .before) .1)
+stepped-requires c κs =
+    let at8 = c .before .before .before .before .before .before .before .before in
+    in-limit _ (roomy-here at8 .1)
 
 same-length : tie.Need-same-length
 same-length c = search needs
@@ -103,20 +125,30 @@ same-length c = search needs
 returns-2 : tie.Need-returns-2
 unfolding layoutOf
 returns-2 c =
-    let s = c .before .before .before .before .before .before .before .before .before .before .before .before .before .before .before .before .before .before .before .before .before in
+    let at7 = c .before .before .before .before .before .before .before in
+    let at9 = at7 .before .before in
+    let at12 = at9 .before .before .before in
+    let s = at12 .before .before .before .before .before .before .before .before .before in
     let a = s .args in
-    let w = c .before .before .before .before .before .before .before .write-security in
-    let t = c .before .before .before .before .before .before .before .before .before .place-of in
-    let y = part-stored (a .out .now) (t .result) 64 (w .last .0) (recordWith security (a .marked .now) (a .state .used) (length (a .algorithms .now) ∷ length (a .protocols .now) ∷ length (a .ciphers .now) ∷ length
-    (a .groups .now) ∷ length (a .hashes .now) ∷ length (a .keypath .now) ∷ []) (length (a .algorithms .now) ∷ length (a .protocols .now) ∷ length (a .ciphers .now) ∷ length (a .groups .now) ∷ length (a .hashes .now) ∷ length
-    (a .keypath .now) ∷ [])) (inside (c .before .before .before .before .before .before .before .before .before)) (w .kept .0) (w .ensures) in
-    laid-done security (a .state) (a .out .now) (a .marked .now) (securityTold (a .algorithms .now) (a .protocols .now) (a .ciphers .now) (a .groups .now) (a .hashes .now) (a .keypath .now)) (length (a .algorithms .now) + length (a .protocols .now) +
-    length (a .ciphers .now) + length (a .groups .now) + length (a .hashes .now) + length (a .keypath .now))
-    (c .before .before .before .before .before .before .before .before .before .before .before .before .room-fault .result) (c .stepped .result) (security-size (a .algorithms .now) (a .protocols .now)
-    (a .ciphers .now) (a .groups .now) (a .hashes .now) (a .keypath .now)) (c .before .before .before .before .before .before .before .before .before .before .before .before .room-fault .ensures)
-    (c .stepped .ensures .0) (c .before .before .before .before .before .before .before .before .before .before .if1 .left) (c .stepped .ensures .1) (t .result) _ _ _ (concat (a .algorithms .now ∷
-    a .protocols .now ∷ a .ciphers .now ∷ a .groups .now ∷ a .hashes .now ∷ a .keypath .now ∷ [])) (t .ensures .0) (security-record (a .algorithms .now) (a .protocols .now) (a .ciphers .now) (a .groups .now) (a .hashes .now) (a .keypath .now)
-    (a .marked .now) (a .state .used)) y (security-heap (a .algorithms .now) (a .protocols .now) (a .ciphers .now) (a .groups .now) (a .hashes .now) (a .keypath .now) (a .state .used)) (c .before .before .before .lay-pieces .ensures)
+    let w = at7 .write-security in
+    let t = at9 .place-of in
+    let y = part-stored (a .out .now) (t .result) 64 (w .last .0) (recordWith security (a .marked .now) (a .state .used)
+    (length (a .algorithms .now) ∷ length (a .protocols .now) ∷ length (a .ciphers .now) ∷ length (a .groups .now)
+    ∷ length (a .hashes .now) ∷ length (a .keypath .now) ∷ []) (length (a .algorithms .now) ∷ length (a .protocols .now)
+    ∷ length (a .ciphers .now) ∷ length (a .groups .now) ∷ length (a .hashes .now) ∷ length (a .keypath .now) ∷ []))
+    (inside at9) (w .kept .0) (w .ensures) in
+    laid-done security (a .state) (a .out .now) (a .marked .now) (securityTold (a .algorithms .now) (a .protocols .now)
+    (a .ciphers .now) (a .groups .now) (a .hashes .now) (a .keypath .now)) (length (a .algorithms .now) + length
+    (a .protocols .now) + length (a .ciphers .now) + length (a .groups .now) + length (a .hashes .now) + length
+    (a .keypath .now)) (at12 .room-fault .result) (c .stepped .result) (security-size (a .algorithms .now)
+    (a .protocols .now) (a .ciphers .now) (a .groups .now) (a .hashes .now) (a .keypath .now))
+    (at12 .room-fault .ensures) (c .stepped .ensures .0) (at9 .before .if1 .left) (c .stepped .ensures .1) (t .result) _
+    _ _ (concat
+    (a .algorithms .now ∷ a .protocols .now ∷ a .ciphers .now ∷ a .groups .now ∷ a .hashes .now ∷ a .keypath .now ∷ []))
+    (t .ensures .0) (security-record (a .algorithms .now) (a .protocols .now) (a .ciphers .now) (a .groups .now)
+    (a .hashes .now) (a .keypath .now) (a .marked .now) (a .state .used)) y (security-heap (a .algorithms .now)
+    (a .protocols .now) (a .ciphers .now) (a .groups .now) (a .hashes .now) (a .keypath .now) (a .state .used))
+    (c .before .before .before .lay-pieces .ensures)
 
 pub lay-security-spec : {M : Type 1} → statement M
 lay-security-spec =

@@ -59,26 +59,29 @@ first-of-requires-5 : tie.Need-first-of-requires-5
 first-of-requires-5 c κs = search needs
 
 returns : tie.Need-returns
-returns c = c .first-of5 .ensures ∙ ap₂ (λ (x y : ℕ). firstOf x y) (c .before .before .before .before .fits6 .ensures ∙ ap (λ (n : Need). objectFault n
-    (c .before .before .before .before .before .before .before .before .before .before .before .before .before .before .before .before .before .before .before .before .before .before .before
-    .before .args .algorithms .now)) (c .before .before .before .before .before .security-need5 .ensures)) (c .before .first-of4 .ensures ∙ ap₂ (λ (x y : ℕ). firstOf x y)
-    (c .before .before .fits7 .ensures ∙ ap (λ (n : Need). objectFault n
-    (c .before .before .before .before .before .before .before .before .before .before .before .before .before .before .before .before .before .before .before .before .before .before .before
-    .before .args .protocols .now)) (c .before .before .before .security-need6 .ensures)) (c .before .before .before .before .before .before .first-of3 .ensures ∙ ap₂ (λ (x y : ℕ). firstOf x y)
-    (c .before .before .before .before .before .before .before .fits5 .ensures ∙ ap (λ (n : Need). objectFault n
-    (c .before .before .before .before .before .before .before .before .before .before .before .before .before .before .before .before .before .before .before .before .before .before .before
-    .before .args .ciphers .now)) (c .before .before .before .before .before .before .before .before .security-need4 .ensures))
-    (c .before .before .before .before .before .before .before .before .before .first-of2 .ensures ∙ ap₂ (λ (x y : ℕ). firstOf x y)
-    (c .before .before .before .before .before .before .before .before .before .before .fits4 .ensures ∙ ap (λ (n : Need). objectFault n
-    (c .before .before .before .before .before .before .before .before .before .before .before .before .before .before .before .before .before .before .before .before .before .before .before
-    .before .args .groups .now)) (c .before .before .before .before .before .before .before .before .before .before .before .security-need3 .ensures))
-    (c .before .before .before .before .before .before .before .before .before .before .before .before .first-of .ensures ∙ ap₂ (λ (x y : ℕ). firstOf x y)
-    (c .before .before .before .before .before .before .before .before .before .before .before .before .before .before .before .fits2 .ensures ∙ ap (λ (n : Need). objectFault n
-    (c .before .before .before .before .before .before .before .before .before .before .before .before .before .before .before .before .before .before .before .before .before .before .before
-    .before .args .hashes .now)) (c .before .before .before .before .before .before .before .before .before .before .before .before .before .before .before .before .security-need .ensures))
-    (c .before .before .before .before .before .before .before .before .before .before .before .before .before .fits3 .ensures ∙ ap (λ (n : Need). objectFault n
-    (c .before .before .before .before .before .before .before .before .before .before .before .before .before .before .before .before .before .before .before .before .before .before .before
-    .before .args .keypath .now)) (c .before .before .before .before .before .before .before .before .before .before .before .before .before .before .security-need2 .ensures))))))
+returns c =
+    let at4 = c .before .before .before .before in
+    let at8 = at4 .before .before .before .before in
+    let at12 = at8 .before .before .before .before in
+    let at16 = at12 .before .before .before .before in
+    let start = at16 .before .before .before .before .before .before .before .before in
+    c .first-of5 .ensures
+    ∙ ap₂ (λ (x y : ℕ). firstOf x y) (at4 .fits6 .ensures
+    ∙ ap (λ (n : Need). objectFault n (start .args .algorithms .now)) (at4 .before .security-need5 .ensures))
+    (c .before .first-of4 .ensures
+    ∙ ap₂ (λ (x y : ℕ). firstOf x y) (c .before .before .fits7 .ensures
+    ∙ ap (λ (n : Need). objectFault n (start .args .protocols .now))
+    (c .before .before .before .security-need6 .ensures)) (at4 .before .before .first-of3 .ensures
+    ∙ ap₂ (λ (x y : ℕ). firstOf x y) (at4 .before .before .before .fits5 .ensures
+    ∙ ap (λ (n : Need). objectFault n (start .args .ciphers .now)) (at8 .security-need4 .ensures))
+    (at8 .before .first-of2 .ensures
+    ∙ ap₂ (λ (x y : ℕ). firstOf x y) (at8 .before .before .fits4 .ensures
+    ∙ ap (λ (n : Need). objectFault n (start .args .groups .now)) (at8 .before .before .before .security-need3 .ensures))
+    (at12 .first-of .ensures
+    ∙ ap₂ (λ (x y : ℕ). firstOf x y) (at12 .before .before .before .fits2 .ensures
+    ∙ ap (λ (n : Need). objectFault n (start .args .hashes .now)) (at16 .security-need .ensures))
+    (at12 .before .fits3 .ensures
+    ∙ ap (λ (n : Need). objectFault n (start .args .keypath .now)) (at12 .before .before .security-need2 .ensures))))))
 
 pub security-fault-spec : {M : Type 1} → statement M
 security-fault-spec =

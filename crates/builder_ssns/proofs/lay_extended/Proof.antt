@@ -40,9 +40,10 @@ write-extended-requires c κs =
 
 copy-into-requires : tie.Need-copy-into-requires
 copy-into-requires c κs =
-    let s = c .before .before .before .before .before .before .before .before .before in
+    let at5 = c .before .before .before .before .before in
+    let s = at5 .before .before .before .before in
     let a = s .args in
-    omega (arith, s .pre .3, extended-long (a .size) (a .path .now) (c .before .before .before .before .before .if1 .left), c .before .before .out .given .1)
+    omega (arith, s .pre .3, extended-long (a .size) (a .path .now) (at5 .if1 .left), c .before .before .out .given .1)
 
 same-length : tie.Need-same-length
 same-length c = search needs
@@ -50,27 +51,25 @@ same-length c = search needs
 returns-2 : tie.Need-returns-2
 unfolding extended
 returns-2 c =
-    let s = c .before .before .before .before .before .before .before .before .before .before .before .before in
+    let at2 = c .before .before in
+    let at6 = at2 .before .before .before .before in
+    let at8 = at6 .before .before in
+    let s = at8 .before .before .before .before in
     let a = s .args in
-    let w = c .before .before .before .before .before .before .write-extended in
-    let n = extended-long (a .size) (a .path .now) (c .before .before .before .before .before .before .before .before .if1 .left) in
+    let w = at6 .write-extended in
+    let n = extended-long (a .size) (a .path .now) (at8 .if1 .left) in
     let k : a .at + 18 ≤ length (a .out .now) = omega (arith, s .pre .3, n) in
     let l : length (w .last .0) ≡ 18 = w .kept .0 ∙ part-size (a .out .now) (a .at) 18 k in
-    chain-laid (w .last .0 ∷ a .path .now ∷ []) (a .out .now) (a .at) (c .before .before .copy-into .last .0) (omega (arith, two-long (w .last .0) (a .path .now), l, n, s .pre .3)) (
+    chain-laid (w .last .0 ∷ a .path .now ∷ []) (a .out .now) (a .at) (at2 .copy-into .last .0)
+    (omega (arith, two-long (w .last .0) (a .path .now), l, n, s .pre .3)) (
       _,
       a .at,
       part-stored (a .out .now) (a .at) 18 (w .last .0) (w .last .0) k (w .kept .0) refl,
       refl,
-      (
-        c .before .before .copy-into .last .0,
-        a .at + 18,
-        c .before .before .copy-into .ensures,
-        ap (λ (m
-            : ℕ). a .at + m) (sym l),
-        refl,
-      ),
-    ) ∙ ap (splice (a .out .now) (a .at)) (extended-some (a .size) (a .path .now) (c .before .before .before .before .before .before .before .before .if1 .left)
-    (a .extended .now) (a .at) (w .last .0) (w .ensures))
+      (at2 .copy-into .last .0, a .at + 18, at2 .copy-into .ensures, ap (λ (m : ℕ). a .at + m) (sym l), refl),
+    )
+    ∙ ap (splice (a .out .now) (a .at))
+    (extended-some (a .size) (a .path .now) (at8 .if1 .left) (a .extended .now) (a .at) (w .last .0) (w .ensures))
 
 pub lay-extended-spec : {M : Type 1} → statement M
 lay-extended-spec =

@@ -30,19 +30,27 @@ lay-pieces-requires c κs =
 
 add-at : tie.Need-add-at
 unfolding limit
-add-at c = omega (arith, c .before .before .before .before .before .before .before .before .before .before .before .before .pre .1)
+add-at c =
+    let start = c .before .before .before .before .before .before .before .before .before .before .before .before in
+    omega (arith, start .pre .1)
 
 add-at-2 : tie.Need-add-at-2
 unfolding limit
-add-at-2 c = omega (arith, c .before .before .before .before .before .before .before .before .before .before .before .before .pre .1)
+add-at-2 c =
+    let start = c .before .before .before .before .before .before .before .before .before .before .before .before in
+    omega (arith, start .pre .1)
 
 add-at-3 : tie.Need-add-at-3
 unfolding limit
-add-at-3 c = omega (arith, c .before .before .before .before .before .before .before .before .before .before .before .before .pre .1)
+add-at-3 c =
+    let start = c .before .before .before .before .before .before .before .before .before .before .before .before in
+    omega (arith, start .pre .1)
 
 add-at-4 : tie.Need-add-at-4
 unfolding limit
-add-at-4 c = omega (arith, c .before .before .before .before .before .before .before .before .before .before .before .before .pre .1)
+add-at-4 c =
+    let start = c .before .before .before .before .before .before .before .before .before .before .before .before in
+    omega (arith, start .pre .1)
 
 lay-extended-requires : tie.Need-lay-extended-requires
 unfolding limit
@@ -56,22 +64,25 @@ same-length c = search needs
 returns : tie.Need-returns
 unfolding namedPart
 returns c =
-    let s = c .before .before .before .before .before .before .before .before .before .before .before .before .before .before .before .before in
+    let at6 = c .before .before .before .before .before .before in
+    let s = at6 .before .before .before .before .before .before .before .before .before .before in
     let a = s .args in
     let p = concat (a .address .now ∷ a .service .now ∷ a .others .now ∷ a .nqn .now ∷ [] ∷ [] ∷ []) in
-    let l : a .next + length (a .address .now) + length (a .service .now) + length (a .others .now) + length (a .nqn .now) ≡ a .next + length p = omega (
-      arith,
-      six-long (a .address .now)
-          (a .service .now) (a .others .now) (a .nqn .now) [] [],
-    ) in
-    let x : List ℕ = extendedPart (a .extended .now) (a .next + length (a .address .now) + length (a .service .now) + length (a .others .now) + length (a .nqn .now)) (a .size) (a .path .now) in
-    c .before .before .lay-extended .ensures ∙ ap (λ (t : List ℕ). splice t (a .next + length (a .address .now) + length (a .service .now) + length (a .others .now) + length (a .nqn .now)) x)
-    (c .before .before .before .before .before .before .lay-pieces .ensures) ∙ ap (λ (m : ℕ). splice (splice (a .out .now) (a .next) p) m x) l ∙ splice-join (a .out .now) (a .next) p x (omega (
-      arith,
-      s .pre .1,
-      six-long (a .address .now) (a .service .now) (a .others .now) (a .nqn .now) [] [],
-    )) ∙ ap (splice (a .out .now) (a .next)) (four-then (a .address .now) (a .service .now)
-    (a .others .now) (a .nqn .now) x)
+    let l : a .next + length (a .address .now) + length (a .service .now) + length (a .others .now) + length
+    (a .nqn .now) ≡ a .next + length p =
+    omega (arith, six-long (a .address .now) (a .service .now) (a .others .now) (a .nqn .now) [] []) in
+    let x : List ℕ = extendedPart (a .extended .now)
+    (a .next + length (a .address .now) + length (a .service .now) + length (a .others .now) + length (a .nqn .now))
+    (a .size) (a .path .now) in
+    c .before .before .lay-extended .ensures
+    ∙ ap (λ (t : List ℕ). splice t
+    (a .next + length (a .address .now) + length (a .service .now) + length (a .others .now) + length (a .nqn .now)) x)
+    (at6 .lay-pieces .ensures)
+    ∙ ap (λ (m : ℕ). splice (splice (a .out .now) (a .next) p) m x) l
+    ∙ splice-join (a .out .now) (a .next) p x
+    (omega (arith, s .pre .1, six-long (a .address .now) (a .service .now) (a .others .now) (a .nqn .now) [] []))
+    ∙ ap (splice (a .out .now) (a .next))
+    (four-then (a .address .now) (a .service .now) (a .others .now) (a .nqn .now) x)
 
 pub lay-named-spec : {M : Type 1} → statement M
 lay-named-spec =

@@ -14,17 +14,20 @@ use Rattle.builder_ssns.proofs.ssns.Statement.{statement}
 use Rattle.builder_ssns.proofs.ssns.Tie as tie
 
 -- what was answered, by the objects
-judged-is : (c : tie.After-judged) → c .judged .result ≡ firstFail (judgeTests (layoutOf 4)
-    (c .before .before .before .before .before .before .before .before .before .before .before .before .before .before .before .before .args .state) (imageIn (layoutOf 4)
-    (c .before .before .before .before .before .before .before .mark-128 .result) 0) 0 (ssnsFault (imageIn ssns (c .before .before .before .before .before .before .before .mark-128 .result) 0)
-    (c .before .before .before .before .before .before .before .before .before .before .before .before .before .before .before .before .args .address .now)
-    (c .before .before .before .before .before .before .before .before .before .before .before .before .before .before .before .before .args .service .now)
-    (c .before .before .before .before .before .before .before .before .before .before .before .before .before .before .before .before .args .others .now)
-    (c .before .before .before .before .before .before .before .before .before .before .before .before .before .before .before .before .args .nqn .now)
-    (c .before .before .before .before .before .before .before .before .before .before .before .before .before .before .before .before .args .path .now)))
-judged-is c = c .judged .ensures ∙ ap (λ (f : ℕ). firstFail (judgeTests (layoutOf 4)
-    (c .before .before .before .before .before .before .before .before .before .before .before .before .before .before .before .before .args .state) (imageIn (layoutOf 4)
-    (c .before .before .before .before .before .before .before .mark-128 .result) 0) 0 f)) (c .before .before .ssns-fault .ensures)
+judged-is : (c : tie.After-judged) →
+    let at7 = c .before .before .before .before .before .before .before in
+    let start = at7 .before .before .before .before .before .before .before .before .before in
+    c .judged .result
+    ≡ firstFail (judgeTests (layoutOf 4) (start .args .state) (imageIn (layoutOf 4) (at7 .mark-128 .result) 0) 0
+    (ssnsFault (imageIn ssns (at7 .mark-128 .result) 0) (start .args .address .now) (start .args .service .now)
+    (start .args .others .now) (start .args .nqn .now) (start .args .path .now)))
+judged-is c =
+    let at7 = c .before .before .before .before .before .before .before in
+    let start = at7 .before .before .before .before .before .before .before .before .before in
+    c .judged .ensures
+    ∙ ap (λ (f : ℕ). firstFail
+    (judgeTests (layoutOf 4) (start .args .state) (imageIn (layoutOf 4) (at7 .mark-128 .result) 0) 0 f))
+    (c .before .before .ssns-fault .ensures)
 
 cast-mark-128 : tie.Need-cast-mark-128
 cast-mark-128 c = search needs
@@ -58,22 +61,18 @@ refused-requires c κs = search needs
 
 returns : tie.Need-returns
 returns c =
-    let t = ssns-refused (c .before .before .before .before .before .before .before .before .before .before .before .before .before .before .before .before .before .before .before .args .state)
-    (c .before .before .before .before .before .before .before .before .before .before .before .before .before .before .before .before .before .before .before .args .out .now)
-    (c .before .before .before .before .before .before .before .before .before .before .before .before .before .before .before .before .before .before .before .args .told .bytes)
-    (c .before .before .before .before .before .before .before .before .before .before .mark-128 .result)
-    (c .before .before .before .before .before .before .before .before .before .before .before .before .before .before .before .before .before .before .before .args .address .now)
-    (c .before .before .before .before .before .before .before .before .before .before .before .before .before .before .before .before .before .before .before .args .service .now)
-    (c .before .before .before .before .before .before .before .before .before .before .before .before .before .before .before .before .before .before .before .args .others .now)
-    (c .before .before .before .before .before .before .before .before .before .before .before .before .before .before .before .before .before .before .before .args .nqn .now)
-    (c .before .before .before .before .before .before .before .before .before .before .before .before .before .before .before .before .before .before .before .args .extended .bytes)
-    (c .before .before .before .before .before .before .before .mark-18 .result)
-    (c .before .before .before .before .before .before .before .before .before .before .before .before .before .before .before .before .before .before .before .args .path .now)
-    (c .before .before .before .judged .result) (c .before .before .before .before .before .before .before .before .before .before .mark-128 .ensures .0)
-    (c .before .before .before .before .before .before .before .mark-18 .ensures .0) (judged-is (c .before .before .before)) (c .before .if1 .taken) in (
-      step-is (c .refused .result) (c .before .before .before .judged .result)
-          (c .before .before .before .before .before .before .before .before .before .before .before .before .before .before .before .before .before .before .before .args .state) (c .refused .ensures .0)
-          (c .refused .ensures .1) ∙ t .0,
+    let at3 = c .before .before .before in
+    let at7 = at3 .before .before .before .before in
+    let at10 = at7 .before .before .before in
+    let start = at10 .before .before .before .before .before .before .before .before .before in
+    let t = ssns-refused (start .args .state) (start .args .out .now) (start .args .told .bytes)
+    (at10 .mark-128 .result) (start .args .address .now) (start .args .service .now) (start .args .others .now)
+    (start .args .nqn .now) (start .args .extended .bytes) (at7 .mark-18 .result) (start .args .path .now)
+    (at3 .judged .result) (at10 .mark-128 .ensures .0) (at7 .mark-18 .ensures .0) (judged-is at3)
+    (c .before .if1 .taken) in (
+      step-is (c .refused .result) (at3 .judged .result) (start .args .state) (c .refused .ensures .0)
+          (c .refused .ensures .1)
+          ∙ t .0,
       t .1,
     )
 
@@ -86,55 +85,34 @@ slice-aggregate-lay-ssns-2 c = search needs
 lay-ssns-requires : tie.Need-lay-ssns-requires
 unfolding ssns extended
 lay-ssns-requires c κs =
-    let p = ssns-passed (c .before .before .before .before .before .before .before .before .before .before .before .before .before .before .before .before .before .before .before .before .before
-    .args .state) (c .before .before .before .before .before .before .before .before .before .before .before .before .before .before .before .before .before .before .before .before .before .args
-    .out .now) (c .before .before .before .before .before .before .before .before .before .before .before .before .before .before .before .before .before .before .before .before .before .args .told
-    .bytes) (c .before .before .before .before .before .before .before .before .before .before .before .before .mark-128 .result)
-    (c .before .before .before .before .before .before .before .before .before .before .before .before .before .before .before .before .before .before .before .before .before .args .address
-    .now) (c .before .before .before .before .before .before .before .before .before .before .before .before .before .before .before .before .before .before .before .before .before .args
-    .service .now) (c .before .before .before .before .before .before .before .before .before .before .before .before .before .before .before .before .before .before .before .before .before
-    .args .others .now) (c .before .before .before .before .before .before .before .before .before .before .before .before .before .before .before .before .before .before .before .before .before
-    .args .nqn .now) (c .before .before .before .before .before .before .before .before .before .before .before .before .before .before .before .before .before .before .before .before .before
-    .args .extended .bytes) (c .before .before .before .before .before .before .before .before .before .mark-18 .result)
-    (c .before .before .before .before .before .before .before .before .before .before .before .before .before .before .before .before .before .before .before .before .before .args .path .now)
-    (c .before .before .before .before .before .judged .result) (c .before .before .before .before .before .before .before .before .before .before .before .before .mark-128 .ensures .0)
-    (c .before .before .before .before .before .before .before .before .before .mark-18 .ensures .0) (judged-is (c .before .before .before .before .before))
-    (c .before .before .before .if1 .left) in (
-      (
-        p .0,
-        c .before .before .before .before .before .before .before .before .before .before .before .before .mark-128 .ensures .2,
-        c .before .before .before .before .before .before .before .before .before .mark-18 .ensures .2,
-      ),
-      (p .1, p .2, p .3, p .4, p .5),
-    )
+    let at5 = c .before .before .before .before .before in
+    let at9 = at5 .before .before .before .before in
+    let at12 = at9 .before .before .before in
+    let start = at12 .before .before .before .before .before .before .before .before .before in
+    let p = ssns-passed (start .args .state) (start .args .out .now) (start .args .told .bytes) (at12 .mark-128 .result)
+    (start .args .address .now) (start .args .service .now) (start .args .others .now) (start .args .nqn .now)
+    (start .args .extended .bytes) (at9 .mark-18 .result) (start .args .path .now) (at5 .judged .result)
+    (at12 .mark-128 .ensures .0) (at9 .mark-18 .ensures .0) (judged-is at5) (c .before .before .before .if1 .left) in
+    ((p .0, at12 .mark-128 .ensures .2, at9 .mark-18 .ensures .2), (p .1, p .2, p .3, p .4, p .5))
 
 same-length : tie.Need-same-length
 same-length c = search needs
 
 returns-2 : tie.Need-returns-2
 returns-2 c =
-    let d = ssns-done (c .before .before .before .before .before .before .before .before .before .before .before .before .before .before .before .before .before .before .before .before .before
-    .before .before .before .args .state)
-    (c .before .before .before .before .before .before .before .before .before .before .before .before .before .before .before .before .before .before .before .before .before .before .before
-    .before .args .out .now)
-    (c .before .before .before .before .before .before .before .before .before .before .before .before .before .before .before .before .before .before .before .before .before .before .before
-    .before .args .told .bytes) (c .before .before .before .before .before .before .before .before .before .before .before .before .before .before .before .mark-128 .result)
-    (c .before .before .before .before .before .before .before .before .before .before .before .before .before .before .before .before .before .before .before .before .before .before .before
-    .before .args .address .now)
-    (c .before .before .before .before .before .before .before .before .before .before .before .before .before .before .before .before .before .before .before .before .before .before .before
-    .before .args .service .now)
-    (c .before .before .before .before .before .before .before .before .before .before .before .before .before .before .before .before .before .before .before .before .before .before .before
-    .before .args .others .now)
-    (c .before .before .before .before .before .before .before .before .before .before .before .before .before .before .before .before .before .before .before .before .before .before .before
-    .before .args .nqn .now)
-    (c .before .before .before .before .before .before .before .before .before .before .before .before .before .before .before .before .before .before .before .before .before .before .before
-    .before .args .extended .bytes) (c .before .before .before .before .before .before .before .before .before .before .before .before .mark-18 .result)
-    (c .before .before .before .before .before .before .before .before .before .before .before .before .before .before .before .before .before .before .before .before .before .before .before
-    .before .args .path .now) (c .before .before .before .before .before .before .before .before .judged .result)
-    (c .before .before .before .before .before .before .before .before .before .before .before .before .before .before .before .mark-128 .ensures .0)
-    (c .before .before .before .before .before .before .before .before .before .before .before .before .mark-18 .ensures .0) (judged-is
-    (c .before .before .before .before .before .before .before .before)) (c .before .before .before .before .before .before .if1 .left) in
-    (c .before .before .lay-ssns .ensures .0 ∙ ap (λ (o : Outcome). o .step) d, c .before .before .lay-ssns .ensures .1 ∙ ap (λ (o : Outcome). o .buffer) d)
+    let at2 = c .before .before in
+    let at6 = at2 .before .before .before .before in
+    let at8 = at6 .before .before in
+    let at12 = at8 .before .before .before .before in
+    let at15 = at12 .before .before .before in
+    let start = at15 .before .before .before .before .before .before .before .before .before in
+    let d = ssns-done (start .args .state) (start .args .out .now) (start .args .told .bytes) (at15 .mark-128 .result)
+    (start .args .address .now) (start .args .service .now) (start .args .others .now) (start .args .nqn .now)
+    (start .args .extended .bytes) (at12 .mark-18 .result) (start .args .path .now) (at8 .judged .result)
+    (at15 .mark-128 .ensures .0) (at12 .mark-18 .ensures .0) (judged-is at8) (at6 .if1 .left) in (
+      at2 .lay-ssns .ensures .0 ∙ ap (λ (o : Outcome). o .step) d,
+      at2 .lay-ssns .ensures .1 ∙ ap (λ (o : Outcome). o .buffer) d,
+    )
 
 pub ssns-spec : {M : Type 1} → statement M
 ssns-spec =

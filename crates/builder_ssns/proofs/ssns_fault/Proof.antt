@@ -38,12 +38,16 @@ first-of-requires-4 : tie.Need-first-of-requires-4
 first-of-requires-4 c κs = search needs
 
 returns : tie.Need-returns
-returns c = c .first-of4 .ensures ∙ ap₂ (λ (x y : ℕ). firstOf x y) (c .before .before .before .fits5 .ensures) (c .before .first-of3 .ensures ∙ ap₂ (λ (x y : ℕ). firstOf x y)
-    (c .before .before .fits6 .ensures) (c .before .before .before .before .first-of2 .ensures ∙ ap₂ (λ (x y : ℕ). firstOf x y) (c .before .before .before .before .before .fits4 .ensures)
-    (c .before .before .before .before .before .before .first-of .ensures ∙ ap₂ (λ (x y : ℕ). firstOf x y)
-    (c .before .before .before .before .before .before .before .before .before .fits2 .ensures) (c .before .before .before .before .before .before .before .fits3 .ensures ∙ ap (λ (n : Need).
-    objectFault n (c .before .before .before .before .before .before .before .before .before .before .before .before .before .before .before .before .args .path .now))
-    (c .before .before .before .before .before .before .before .before .own-need .ensures)))))
+returns c =
+    let at4 = c .before .before .before .before in
+    let at8 = at4 .before .before .before .before in
+    let start = at8 .before .before .before .before .before .before .before .before in
+    c .first-of4 .ensures
+    ∙ ap₂ (λ (x y : ℕ). firstOf x y) (c .before .before .before .fits5 .ensures) (c .before .first-of3 .ensures
+    ∙ ap₂ (λ (x y : ℕ). firstOf x y) (c .before .before .fits6 .ensures) (at4 .first-of2 .ensures
+    ∙ ap₂ (λ (x y : ℕ). firstOf x y) (at4 .before .fits4 .ensures) (at4 .before .before .first-of .ensures
+    ∙ ap₂ (λ (x y : ℕ). firstOf x y) (at8 .before .fits2 .ensures) (at4 .before .before .before .fits3 .ensures
+    ∙ ap (λ (n : Need). objectFault n (start .args .path .now)) (at8 .own-need .ensures)))))
 
 pub ssns-fault-spec : {M : Type 1} → statement M
 ssns-fault-spec =

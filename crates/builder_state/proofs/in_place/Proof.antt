@@ -14,7 +14,12 @@ in-list-requires : tie.Need-in-list-requires
 in-list-requires c κs = search needs
 
 returns-3 : tie.Need-returns-3
-returns-3 c = rw (ne-eqb (c .before .before .before .args .kind) 2 (c .before .before .if1 .left), ne-eqb (c .before .before .before .args .kind) 7 (c .before .if2 .left)) (c .in-list .ensures)
+returns-3 c =
+    let start = c .before .before .before in
+    rw (
+      ne-eqb (start .args .kind) 2 (c .before .before .if1 .left),
+      ne-eqb (start .args .kind) 7 (c .before .if2 .left),
+    ) (c .in-list .ensures)
 
 pub in-place-spec : {M : Type 1} → statement M
 in-place-spec = tie.close (tie.spec returns returns-2 in-list-requires returns-3)

@@ -59,7 +59,20 @@ returns-4 c = rw (c .match .keys4) (omega arith, omega (arith, c .before .struct
 
 returns-5 : tie.Need-returns-5
 unfolding hfi ssns security discovery
-returns-5 c = let m = c .before .match .rest in let k = c .before .before .before .before .before .args .kind in rw (ne-eqb k 3 (m .0 .0 .0 .1), ne-eqb k 4 (m .0 .0 .1), ne-eqb k 5 (m .0 .1), ne-eqb k 6 (m .1)) (omega arith, omega (arith, c .struct-known4 .given, c .before .before .struct-known3 .given, c .before .before .before .struct-known2 .given, c .before .before .before .before .struct-known .given))
+returns-5 c =
+    let at4 = c .before .before .before .before in
+    let m = c .before .match .rest in
+    let k = at4 .before .args .kind in
+    rw (ne-eqb k 3 (m .0 .0 .0 .1), ne-eqb k 4 (m .0 .0 .1), ne-eqb k 5 (m .0 .1), ne-eqb k 6 (m .1)) (
+      omega arith,
+      omega (
+        arith,
+        c .struct-known4 .given,
+        c .before .before .struct-known3 .given,
+        c .before .before .before .struct-known2 .given,
+        at4 .struct-known .given,
+      ),
+    )
 
 pub list-start-spec : {M : Type 1} → statement M
 list-start-spec =

@@ -29,7 +29,12 @@ moved-to-requires : tie.Need-moved-to-requires
 moved-to-requires c κs = search needs
 
 returns : tie.Need-returns
-returns c = c .moved-to .ensures ∙ next-inside (c .before .before .before .before .before .before .args .state) (c .before .before .before .before .before .before .args .written) (c .before .before .before .count-of .result) (c .before .before .before .count-of .ensures .0) (c .before .before .if1 .taken)
+returns c =
+    let at3 = c .before .before .before in
+    let start = at3 .before .before .before in
+    c .moved-to .ensures
+    ∙ next-inside (start .args .state) (start .args .written) (at3 .count-of .result) (at3 .count-of .ensures .0)
+    (c .before .before .if1 .taken)
 
 later-list-requires : tie.Need-later-list-requires
 later-list-requires c κs = search needs
@@ -38,13 +43,30 @@ moved-to-requires-2 : tie.Need-moved-to-requires-2
 moved-to-requires-2 c κs = search needs
 
 returns-2 : tie.Need-returns-2
-returns-2 c = c .moved-to2 .ensures ∙ ap (λ x. moved (c .before .before .before .before .before .before .before .args .state) x (c .before .before .before .before .before .before .before .args .state .used + c .before .before .before .before .before .before .before .args .written)) (sym (ap (λ (k : ℕ). turn k (pick (eqb k 7) 0 1)) (c .before .if2 .taken)) ∙ c .before .before .later-list .ensures) ∙ next-later (c .before .before .before .before .before .before .before .args .state) (c .before .before .before .before .before .before .before .args .written) (c .before .before .before .before .count-of .result) (c .before .before .before .before .count-of .ensures .0) (omega (arith, c .before .before .before .if1 .left))
+returns-2 c =
+    let at4 = c .before .before .before .before in
+    let start = at4 .before .before .before in
+    c .moved-to2 .ensures
+    ∙ ap (λ x. moved (start .args .state) x (start .args .state .used + start .args .written))
+    (sym (ap (λ (k : ℕ). turn k (pick (eqb k 7) 0 1)) (c .before .if2 .taken)) ∙ c .before .before .later-list .ensures)
+    ∙ next-later (start .args .state) (start .args .written) (at4 .count-of .result) (at4 .count-of .ensures .0)
+    (omega (arith, c .before .before .before .if1 .left))
 
 moved-to-requires-3 : tie.Need-moved-to-requires-3
 moved-to-requires-3 c κs = search needs
 
 returns-3 : tie.Need-returns-3
-returns-3 c = c .moved-to3 .ensures ∙ ap (λ x. moved (c .before .before .before .before .before .before .before .args .state) x (c .before .before .before .before .before .before .before .args .state .used + c .before .before .before .before .before .before .before .args .written)) (ap (λ (b : Bool). turn (c .before .before .later-list .result) (pick b 0 1)) (sym (ne-eqb (c .before .before .later-list .result) 7 (c .before .if2 .left))) ∙ c .before .before .later-list .ensures) ∙ next-later (c .before .before .before .before .before .before .before .args .state) (c .before .before .before .before .before .before .before .args .written) (c .before .before .before .before .count-of .result) (c .before .before .before .before .count-of .ensures .0) (omega (arith, c .before .before .before .if1 .left))
+returns-3 c =
+    let at2 = c .before .before in
+    let at4 = at2 .before .before in
+    let start = at4 .before .before .before in
+    c .moved-to3 .ensures
+    ∙ ap (λ x. moved (start .args .state) x (start .args .state .used + start .args .written))
+    (ap (λ (b : Bool). turn (at2 .later-list .result) (pick b 0 1))
+    (sym (ne-eqb (at2 .later-list .result) 7 (c .before .if2 .left)))
+    ∙ at2 .later-list .ensures)
+    ∙ next-later (start .args .state) (start .args .written) (at4 .count-of .result) (at4 .count-of .ensures .0)
+    (omega (arith, at2 .before .if1 .left))
 
 pub next-spec : {M : Type 1} → statement M
 next-spec =

@@ -1,8 +1,7 @@
-use Rattle.builder_state.proofs.Laws.{list-kind}
+use Rattle.builder_state.proofs.Laws.{list-kind, host-place, hfi-place, ssns-place, security-place, discovery-place, in-its-list}
 use mathlib.Core.Path.{_≡_, ap, _∙_}
 use Prim.Native.Nat.{ℕ, _+_, _-_, _*_}
 use Rattle.table.specs.FixedLayouts.{layoutOf}
-use Rattle.builder_state.proofs.Laws.{host-place, hfi-place, ssns-place, security-place, discovery-place, in-its-list}
 use native.Mathlib.Omega.{arith}
 use borrow.Author.Needs.{needs}
 use Rattle.builder_state.proofs.place_of.Statement.{statement}
@@ -16,7 +15,10 @@ cast-i : tie.Need-cast-i
 cast-i c = search needs
 
 sub-i : tie.Need-sub-i
-sub-i c = in-its-list (c .before .before .args .state) (c .before .before .args .kind) (list-kind (c .before .before .args .kind) (c .before .before .pre .1) (c .before .if1 .left)) (c .before .before .pre .2) .0
+sub-i c =
+    let start = c .before .before in
+    in-its-list (start .args .state) (start .args .kind)
+    (list-kind (start .args .kind) (start .pre .1) (c .before .if1 .left)) (start .pre .2) .0
 
 list-start-requires : tie.Need-list-start-requires
 list-start-requires c κs = search needs
@@ -47,19 +49,39 @@ add-result-4 c = search needs
 
 returns-2 : tie.Need-returns-2
 unfolding layoutOf
-returns-2 c = let k = c .match .keys1 in let p = hfi-place (c .before .before .before .before .args .state) (rw k at (c .before .before .before .before .pre .2)) in let q = rw k at (c .before .list-start .ensures .0) in rw k (ap (λ (n : ℕ). n + (c .before .before .before .before .args .state .position - 1) * 32) q ∙ p .0, omega (arith, p .1, q))
+returns-2 c =
+    let start = c .before .before .before .before in
+    let k = c .match .keys1 in
+    let p = hfi-place (start .args .state) (rw k at (start .pre .2)) in
+    let q = rw k at (c .before .list-start .ensures .0) in
+    rw k (ap (λ (n : ℕ). n + (start .args .state .position - 1) * 32) q ∙ p .0, omega (arith, p .1, q))
 
 returns-3 : tie.Need-returns-3
 unfolding layoutOf
-returns-3 c = let k = c .match .keys2 in let p = ssns-place (c .before .before .before .before .args .state) (rw k at (c .before .before .before .before .pre .2)) in let q = rw k at (c .before .list-start .ensures .0) in rw k (ap (λ (n : ℕ). n + (c .before .before .before .before .args .state .position - 1) * 128) q ∙ p .0, omega (arith, p .1, q))
+returns-3 c =
+    let start = c .before .before .before .before in
+    let k = c .match .keys2 in
+    let p = ssns-place (start .args .state) (rw k at (start .pre .2)) in
+    let q = rw k at (c .before .list-start .ensures .0) in
+    rw k (ap (λ (n : ℕ). n + (start .args .state .position - 1) * 128) q ∙ p .0, omega (arith, p .1, q))
 
 returns-4 : tie.Need-returns-4
 unfolding layoutOf
-returns-4 c = let k = c .match .keys3 in let p = security-place (c .before .before .before .before .args .state) (rw k at (c .before .before .before .before .pre .2)) in let q = rw k at (c .before .list-start .ensures .0) in rw k (ap (λ (n : ℕ). n + (c .before .before .before .before .args .state .position - 1) * 64) q ∙ p .0, omega (arith, p .1, q))
+returns-4 c =
+    let start = c .before .before .before .before in
+    let k = c .match .keys3 in
+    let p = security-place (start .args .state) (rw k at (start .pre .2)) in
+    let q = rw k at (c .before .list-start .ensures .0) in
+    rw k (ap (λ (n : ℕ). n + (start .args .state .position - 1) * 64) q ∙ p .0, omega (arith, p .1, q))
 
 returns-5 : tie.Need-returns-5
 unfolding layoutOf
-returns-5 c = let k : c .before .before .before .before .args .kind ≡ 6 = omega (arith, c .match .rest, c .before .before .before .before .pre, c .before .before .before .if1 .left) in let p = discovery-place (c .before .before .before .before .args .state) (rw k at (c .before .before .before .before .pre .2)) in let q = rw k at (c .before .list-start .ensures .0) in rw k (ap (λ (n : ℕ). n + (c .before .before .before .before .args .state .position - 1) * 32) q ∙ p .0, omega (arith, p .1, q))
+returns-5 c =
+    let start = c .before .before .before .before in
+    let k : start .args .kind ≡ 6 = omega (arith, c .match .rest, start .pre, c .before .before .before .if1 .left) in
+    let p = discovery-place (start .args .state) (rw k at (start .pre .2)) in
+    let q = rw k at (c .before .list-start .ensures .0) in
+    rw k (ap (λ (n : ℕ). n + (start .args .state .position - 1) * 32) q ∙ p .0, omega (arith, p .1, q))
 
 pub place-of-spec : {M : Type 1} → statement M
 place-of-spec =

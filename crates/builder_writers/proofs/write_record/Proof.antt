@@ -19,12 +19,13 @@ reference-offsets-requires c κs = search needs
 
 put-refs-requires : tie.Need-put-refs-requires
 put-refs-requires c κs =
-    let a = c .before .before .before .before .before .before .before .before .args in
+    let at4 = c .before .before .before .before in
+    let start = at4 .before .before .before .before in
+    let a = start .args in
     let o = c .reference-offsets in (
-      refs-room (a .kind) (o .result .at) (a .sizes .span) (o .result .count) _ (o .ensures .0) (o .ensures .1) (o .ensures .2)
-          (c .before .before .before .before .before .before .before .before .pre .1) (c .before .before .before .before .put-image .kept .0 ∙
-          c .before .before .before .before .before .before .before .before .pre .0 .0),
-      c .before .before .before .before .before .before .before .before .pre .0 .2,
+      refs-room (a .kind) (o .result .at) (a .sizes .span) (o .result .count) _ (o .ensures .0) (o .ensures .1)
+          (o .ensures .2) (start .pre .1) (at4 .put-image .kept .0 ∙ start .pre .0 .0),
+      start .pre .0 .2,
     )
 
 same-length : tie.Need-same-length
@@ -32,13 +33,18 @@ same-length c = search needs
 
 returns : tie.Need-returns
 returns c =
-    let a = c .before .before .before .before .before .before .before .before .before .before .before .args in
+    let at7 = c .before .before .before .before .before .before .before in
+    let start = at7 .before .before .before .before in
+    let a = start .args in
     let o = c .before .before .before .reference-offsets in
     let l = layoutOf (a .kind) in
-    let i = c .before .before .before .before .before .before .before .put-image .ensures ∙ splice-all (a .part .now) (imageIn l (a .told .now) 0) (length-imageIn l (a .told .now) 0 ∙ sym
-    (c .before .before .before .before .before .before .before .before .before .before .before .pre .0 .0)) in
-    c .before .before .put-refs .ensures ∙ ap (λ (x : List ℕ). apply x (storesFrom (o .result .at) (a .sizes .len) (a .sizes .span) (a .heap) 0 (o .result .count))) i ∙ by-table l (a .told .now)
-    (o .result .at) (a .sizes .len) (a .sizes .span) (o .result .count) (a .heap) (o .ensures .0) (o .ensures .1)
+    let i = at7 .put-image .ensures ∙ splice-all (a .part .now) (imageIn l (a .told .now) 0)
+    (length-imageIn l (a .told .now) 0 ∙ sym (start .pre .0 .0)) in
+    c .before .before .put-refs .ensures
+    ∙ ap (λ (x : List ℕ). apply x
+    (storesFrom (o .result .at) (a .sizes .len) (a .sizes .span) (a .heap) 0 (o .result .count))) i
+    ∙ by-table l (a .told .now) (o .result .at) (a .sizes .len) (a .sizes .span) (o .result .count) (a .heap)
+    (o .ensures .0) (o .ensures .1)
 
 pub write-record-spec : {M : Type 1} → statement M
 write-record-spec =

@@ -26,9 +26,12 @@ same-length c = search needs
 returns : tie.Need-returns
 unfolding recordWith layoutOf security storesFrom
 returns c =
-    let a = c .before .before .before .before .before .before .before .args in
-    let z = c .before .before .before .before .plain-sizes in
-    c .before .before .write-record .ensures ∙ same-record (layoutOf 5) (a .told .now) (a .heap) (z .result .len) _ (z .result .span) _ (z .ensures .0) (z .ensures .1)
+    let at4 = c .before .before .before .before in
+    let a = at4 .before .before .before .args in
+    let z = at4 .plain-sizes in
+    c .before .before .write-record .ensures
+    ∙ same-record (layoutOf 5) (a .told .now) (a .heap) (z .result .len) _ (z .result .span) _ (z .ensures .0)
+    (z .ensures .1)
 
 pub write-security-spec : {M : Type 1} → statement M
 write-security-spec = tie.close (tie.spec plain-sizes-requires write-record-requires same-length returns)

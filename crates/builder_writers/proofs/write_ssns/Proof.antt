@@ -26,9 +26,12 @@ same-length c = search needs
 returns : tie.Need-returns
 unfolding recordWith layoutOf ssns storesFrom
 returns c =
-    let a = c .before .before .before .before .before .before .before .args in
-    let z = c .before .before .before .before .nested-sizes in
-    c .before .before .write-record .ensures ∙ same-record (layoutOf 4) (a .told .now) (a .heap) (z .result .len) _ (z .result .span) _ (z .ensures .0) (z .ensures .1)
+    let at4 = c .before .before .before .before in
+    let a = at4 .before .before .before .args in
+    let z = at4 .nested-sizes in
+    c .before .before .write-record .ensures
+    ∙ same-record (layoutOf 4) (a .told .now) (a .heap) (z .result .len) _ (z .result .span) _ (z .ensures .0)
+    (z .ensures .1)
 
 pub write-ssns-spec : {M : Type 1} → statement M
 write-ssns-spec = tie.close (tie.spec nested-sizes-requires write-record-requires same-length returns)

@@ -34,16 +34,31 @@ same-length c = search needs
 
 returns : tie.Need-returns
 returns c =
-    let s = c .before .before .before .before .before .before .before .before .before .before .before .before .before .before .before .before .before in
+    let at6 = c .before .before .before .before .before .before in
+    let at10 = at6 .before .before .before .before in
+    let at14 = at10 .before .before .before .before in
+    let s = at14 .before .before .before in
     let a = s .args in
-    let p0 = c .before .before .before .before .before .before .before .before .before .before .before .before .before .before .put-u32 in
-    let p1 = c .before .before .before .before .before .before .before .before .before .before .put-u16 in
-    let p2 = c .before .before .before .before .before .before .put-u8 in
+    let p0 = at14 .put-u32 in
+    let p1 = at10 .put-u16 in
+    let p2 = at6 .put-u8 in
     let p3 = c .before .before .put-u82 in
     let w2 : a .at + 6 ≡ a .at + 4 + 2 = omega arith in
     let w3 : a .at + 7 ≡ a .at + 4 + 2 + 1 = omega arith in
-    chain-laid (le 4 (a .place) ∷ le 2 (a .size) ∷ (1 ∷ []) ∷ (a .last ∷ []) ∷ []) (a .part .now) (a .at) (p3 .last .0) (s .pre)
-    (p0 .last .0, a .at, p0 .ensures, refl, (p1 .last .0, a .at + 4, p1 .ensures, refl, (p2 .last .0, a .at + 6, p2 .ensures, w2, (p3 .last .0, a .at + 7, p3 .ensures, w3, refl))))
+    chain-laid (le 4 (a .place) ∷ le 2 (a .size) ∷ (1 ∷ []) ∷ (a .last ∷ []) ∷ []) (a .part .now) (a .at) (p3 .last .0)
+    (s .pre) (
+      p0 .last .0,
+      a .at,
+      p0 .ensures,
+      refl,
+      (
+        p1 .last .0,
+        a .at + 4,
+        p1 .ensures,
+        refl,
+        (p2 .last .0, a .at + 6, p2 .ensures, w2, (p3 .last .0, a .at + 7, p3 .ensures, w3, refl)),
+      ),
+    )
 
 pub put-place-spec : {M : Type 1} → statement M
 put-place-spec =

@@ -59,25 +59,46 @@ put-entry-requires-4 : tie.Need-put-entry-requires-4
 put-entry-requires-4 c κs = search needs
 
 fill-zero-requires : tie.Need-fill-zero-requires
-fill-zero-requires c κs = omega (arith, c .before .before .before .before .before .before .before .before .before .before .before .before .before .before .before .before .before .before .before .before .before .before .before .before .before .before .before .before .before .before .pre, c .before .before .before .before .before .before .before .before .before .before .before .before .before .before .before .before .before .before .before .before .before .before .before .copy-into .kept .0, c .before .before .before .before .before .before .before .before .before .before .before .before .before .before .before .before .before .before .before .put-place .kept .0, c .before .before .before .before .before .before .before .before .before .before .before .before .before .before .before .put-entry .kept .0, c .before .before .before .before .before .before .before .before .before .before .before .put-entry2 .kept .0, c .before .before .before .before .before .before .before .put-entry3 .kept .0, c .before .before .before .put-entry4 .kept .0)
+fill-zero-requires c κs =
+    let at7 = c .before .before .before .before .before .before .before in
+    let at11 = at7 .before .before .before .before in
+    let at15 = at11 .before .before .before .before in
+    let at19 = at15 .before .before .before .before in
+    let at23 = at19 .before .before .before .before in
+    omega (
+      arith,
+      at23 .before .before .before .before .before .before .before .pre,
+      at23 .copy-into .kept .0,
+      at19 .put-place .kept .0,
+      at15 .put-entry .kept .0,
+      at11 .put-entry2 .kept .0,
+      at7 .put-entry3 .kept .0,
+      c .before .before .before .put-entry4 .kept .0,
+    )
 
 same-length : tie.Need-same-length
 same-length c = search needs
 
 returns : tie.Need-returns
 returns c =
-    let s = c .before .before .before .before .before .before .before .before .before .before .before .before .before .before .before .before .before .before .before .before .before .before .before .before .before .before .before .before .before .before .before .before .before in
+    let at6 = c .before .before .before .before .before .before in
+    let at10 = at6 .before .before .before .before in
+    let at14 = at10 .before .before .before .before in
+    let at18 = at14 .before .before .before .before in
+    let at22 = at18 .before .before .before .before in
+    let at26 = at22 .before .before .before .before in
+    let s = at26 .before .before .before .before .before .before .before in
     let a = s .args in
     let h = a .counts .hfi in
     let n = a .counts .ssns in
     let k = a .counts .security in
     let d = a .counts .discovery in
-    let p0 = c .before .before .before .before .before .before .before .before .before .before .before .before .before .before .before .before .before .before .before .before .before .before .before .before .before .before .copy-into in
-    let p1 = c .before .before .before .before .before .before .before .before .before .before .before .before .before .before .before .before .before .before .before .before .before .before .put-place in
-    let p2 = c .before .before .before .before .before .before .before .before .before .before .before .before .before .before .before .before .before .before .put-entry in
-    let p3 = c .before .before .before .before .before .before .before .before .before .before .before .before .before .before .put-entry2 in
-    let p4 = c .before .before .before .before .before .before .before .before .before .before .put-entry3 in
-    let p5 = c .before .before .before .before .before .before .put-entry4 in
+    let p0 = at26 .copy-into in
+    let p1 = at22 .put-place in
+    let p2 = at18 .put-entry in
+    let p3 = at14 .put-entry2 in
+    let p4 = at10 .put-entry3 in
+    let p5 = at6 .put-entry4 in
     let p6 = c .before .before .fill-zero in
     let l = control-long h n k d in
     let e₂ = length-entry 160 32 h in
@@ -86,10 +107,42 @@ returns c =
     let e₅ = length-entry (160 + h * 32 + n * 128 + k * 64) 32 d in
     let w3 : 24 ≡ 16 + length (entryFor 160 32 h) = omega (arith, e₂) in
     let w4 : 32 ≡ 16 + length (entryFor 160 32 h) + length (entryFor (160 + h * 32) 128 n) = omega (arith, e₂, e₃) in
-    let w5 : 40 ≡ 16 + length (entryFor 160 32 h) + length (entryFor (160 + h * 32) 128 n) + length (entryFor (160 + h * 32 + n * 128) 64 k) = omega (arith, e₂, e₃, e₄) in
-    let w6 : 48 ≡ 16 + length (entryFor 160 32 h) + length (entryFor (160 + h * 32) 128 n) + length (entryFor (160 + h * 32 + n * 128) 64 k) + length (entryFor (160 + h * 32 + n * 128 + k * 64) 32 d) = omega (arith, e₂, e₃, e₄, e₅) in
-    chain-laid (controlPieces h n k d) (a .part .now) 0 (p6 .last .0) (omega (arith, l, s .pre))
-    (p0 .last .0, 0, p0 .ensures, refl, (p1 .last .0, 8, p1 .ensures, refl, (p2 .last .0, 16, p2 .ensures, refl, (p3 .last .0, 24, p3 .ensures, w3, (p4 .last .0, 32, p4 .ensures, w4, (p5 .last .0, 40, p5 .ensures, w5, (p6 .last .0, 48, p6 .ensures, w6, refl)))))))
+    let w5 : 40 ≡ 16 + length (entryFor 160 32 h) + length (entryFor (160 + h * 32) 128 n) + length
+    (entryFor (160 + h * 32 + n * 128) 64 k) = omega (arith, e₂, e₃, e₄) in
+    let w6 : 48 ≡ 16 + length (entryFor 160 32 h) + length (entryFor (160 + h * 32) 128 n) + length
+    (entryFor (160 + h * 32 + n * 128) 64 k) + length (entryFor (160 + h * 32 + n * 128 + k * 64) 32 d) =
+    omega (arith, e₂, e₃, e₄, e₅) in
+    chain-laid (controlPieces h n k d) (a .part .now) 0 (p6 .last .0) (omega (arith, l, s .pre)) (
+      p0 .last .0,
+      0,
+      p0 .ensures,
+      refl,
+      (
+        p1 .last .0,
+        8,
+        p1 .ensures,
+        refl,
+        (
+          p2 .last .0,
+          16,
+          p2 .ensures,
+          refl,
+          (
+            p3 .last .0,
+            24,
+            p3 .ensures,
+            w3,
+            (
+              p4 .last .0,
+              32,
+              p4 .ensures,
+              w4,
+              (p5 .last .0, 40, p5 .ensures, w5, (p6 .last .0, 48, p6 .ensures, w6, refl)),
+            ),
+          ),
+        ),
+      ),
+    )
     ∙ splice-all (a .part .now) (concat (controlPieces h n k d)) (omega (arith, l, s .pre))
     ∙ control-joined h n k d
 

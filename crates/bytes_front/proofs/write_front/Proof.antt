@@ -39,7 +39,21 @@ same-length : tie.Need-same-length
 same-length c = search needs
 
 returns : tie.Need-returns
-returns c = let a = c .before .before .before .before .before .before .before .before .before .before .args in let x = a .out .now in let p = c .before .before .before .before .before .before .write-header in let q = c .before .before .write-control in let nh : length (p .last .0) ≡ 64 = p .kept .0 ∙ simp (length-take, length-drop) (omega (arith, c .before .before .before .before .before .before .before .before .before .before .pre)) in let y : List ℕ = take 0 x ++ (p .last .0 ++ drop 64 (drop 0 x)) in let e : y ≡ splice x 0 (p .last .0) = lent x 0 64 (p .last .0) nh in let l : length y ≡ length x = ap length e ∙ length-splice x 0 (p .last .0) (omega (arith, nh, c .before .before .before .before .before .before .before .before .before .before .pre)) in let m : length (take 64 (drop 64 y)) ≡ 64 = length-take-le 64 (drop 64 y) (rw length-drop (omega (arith, l, c .before .before .before .before .before .before .before .before .before .before .pre))) in lent y 64 64 (q .last .0) (q .kept .0 ∙ m) ∙ ap₂ (λ (z r : List ℕ). splice z 64 r) (e ∙ ap (splice x 0) (p .ensures)) (q .ensures)
+returns c =
+    let at6 = c .before .before .before .before .before .before in
+    let start = at6 .before .before .before .before in
+    let a = start .args in
+    let x = a .out .now in
+    let p = at6 .write-header in
+    let q = c .before .before .write-control in
+    let nh : length (p .last .0) ≡ 64 = p .kept .0 ∙ simp (length-take, length-drop) (omega (arith, start .pre)) in
+    let y : List ℕ = take 0 x ++ (p .last .0 ++ drop 64 (drop 0 x)) in
+    let e : y ≡ splice x 0 (p .last .0) = lent x 0 64 (p .last .0) nh in
+    let l : length y ≡ length x = ap length e ∙ length-splice x 0 (p .last .0) (omega (arith, nh, start .pre)) in
+    let m : length (take 64 (drop 64 y)) ≡ 64 = length-take-le 64 (drop 64 y)
+    (rw length-drop (omega (arith, l, start .pre))) in
+    lent y 64 64 (q .last .0) (q .kept .0 ∙ m)
+    ∙ ap₂ (λ (z r : List ℕ). splice z 64 r) (e ∙ ap (splice x 0) (p .ensures)) (q .ensures)
 
 pub write-front-spec : {M : Type 1} → statement M
 write-front-spec =

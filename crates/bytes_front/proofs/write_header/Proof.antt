@@ -36,21 +36,23 @@ put-slot-requires c κs = search needs
 
 fill-zero-requires : tie.Need-fill-zero-requires
 fill-zero-requires c κs =
+    let at7 = c .before .before .before .before .before .before .before in
+    let at11 = at7 .before .before .before .before in
+    let at15 = at11 .before .before .before .before in
+    let at19 = at15 .before .before .before .before in
+    let at23 = at19 .before .before .before .before in
+    let at27 = at23 .before .before .before .before in
+    let at31 = at27 .before .before .before .before in
     omega (
       arith,
-      c .before .before .before .before .before .before .before .before .before .before .before .before .before .before .before .before .before .before .before .before .before .before
-          .before .before .before .before .before .before .before .before .before .before .before .before .before .pre,
-      c .before .before .before .before .before .before .before .before .before .before .before .before .before .before .before .before .before .before .before .before .before .before .before
-          .before .before .before .before .before .before .before .before .put-u32 .kept .0,
-      c .before .before .before .before .before .before .before .before .before .before .before .before .before .before .before .before .before .before .before .before .before .before .before
-          .before .before .before .before .put-u322 .kept .0,
-      c .before .before .before .before .before .before .before .before .before .before .before .before .before .before .before .before .before .before .before .before .before .before .before
-          .put-u8 .kept .0,
-      c .before .before .before .before .before .before .before .before .before .before .before .before .before .before .before .before .before .before .before .put-u82 .kept
-          .0,
-      c .before .before .before .before .before .before .before .before .before .before .before .before .before .before .before .copy-into .kept .0,
-      c .before .before .before .before .before .before .before .before .before .before .before .put-u323 .kept .0,
-      c .before .before .before .before .before .before .before .put-u324 .kept .0,
+      at31 .before .before .before .before .pre,
+      at31 .put-u32 .kept .0,
+      at27 .put-u322 .kept .0,
+      at23 .put-u8 .kept .0,
+      at19 .put-u82 .kept .0,
+      at15 .copy-into .kept .0,
+      at11 .put-u323 .kept .0,
+      at7 .put-u324 .kept .0,
       c .before .before .before .put-slot .kept .0,
     )
 
@@ -59,29 +61,34 @@ same-length c = search needs
 
 returns : tie.Need-returns
 returns c =
-    let s = c .before .before .before .before .before .before .before .before .before .before .before .before .before .before .before .before .before .before .before .before .before .before
-    .before .before .before .before .before .before .before .before .before .before .before .before .before .before .before .before in
+    let at6 = c .before .before .before .before .before .before in
+    let at10 = at6 .before .before .before .before in
+    let at14 = at10 .before .before .before .before in
+    let at18 = at14 .before .before .before .before in
+    let at22 = at18 .before .before .before .before in
+    let at26 = at22 .before .before .before .before in
+    let at30 = at26 .before .before .before .before in
+    let at34 = at30 .before .before .before .before in
+    let s = at34 .before .before .before .before in
     let a = s .args in
-    let p0 = c .before .before .before .before .before .before .before .before .before .before .before .before .before .before .before .before .before .before .before .before .before .before
-    .before .before .before .before .before .before .before .before .before .before .before .before .put-u32 in
-    let p1 = c .before .before .before .before .before .before .before .before .before .before .before .before .before .before .before .before .before .before .before .before .before .before
-    .before .before .before .before .before .before .before .before .put-u322 in
-    let p2 = c .before .before .before .before .before .before .before .before .before .before .before .before .before .before .before .before .before .before .before .before .before .before
-    .before .before .before .before .put-u8 in
-    let p3 = c .before .before .before .before .before .before .before .before .before .before .before .before .before .before .before .before .before .before .before .before .before .before
-    .put-u82 in
-    let p4 = c .before .before .before .before .before .before .before .before .before .before .before .before .before .before .before .before .before .before .copy-into in
-    let p5 = c .before .before .before .before .before .before .before .before .before .before .before .before .before .before .put-u323 in
-    let p6 = c .before .before .before .before .before .before .before .before .before .before .put-u324 in
-    let p7 = c .before .before .before .before .before .before .put-slot in
+    let p0 = at34 .put-u32 in
+    let p1 = at30 .put-u322 in
+    let p2 = at26 .put-u8 in
+    let p3 = at22 .put-u82 in
+    let p4 = at18 .copy-into in
+    let p5 = at14 .put-u323 in
+    let p6 = at10 .put-u324 in
+    let p7 = at6 .put-slot in
     let p8 = c .before .before .fill-zero in
     let o = a .oem .now in
     let l = header-long (a .size) o (a .heap) (a .heapsize) (a .signature) (s .pre .1) in
     let w5 : 36 ≡ 10 + length o = omega (arith, s .pre) in
     let w6 : 40 ≡ 10 + length o + 4 = omega (arith, s .pre) in
     let w7 : 44 ≡ 10 + length o + 4 + 4 = omega (arith, s .pre) in
-    let w8 : 50 ≡ 10 + length o + 4 + 4 + length (refNum (a .heap) (a .signature)) = omega (arith, s .pre, length-ref (a .heap) (a .signature)) in
-    chain-laid (headerPieces (a .size) o (a .heap) (a .heapsize) (a .signature)) (a .part .now) 0 (p8 .last .0) (omega (arith, l, s .pre)) (
+    let w8 : 50 ≡ 10 + length o + 4 + 4 + length (refNum (a .heap) (a .signature)) =
+    omega (arith, s .pre, length-ref (a .heap) (a .signature)) in
+    chain-laid (headerPieces (a .size) o (a .heap) (a .heapsize) (a .signature)) (a .part .now) 0 (p8 .last .0)
+    (omega (arith, l, s .pre)) (
       p0 .last .0,
       0,
       p0 .ensures,
@@ -106,13 +113,26 @@ returns c =
               10,
               p4 .ensures,
               refl,
-              (p5 .last .0, 36, p5 .ensures, w5, (p6 .last .0, 40, p6 .ensures, w6, (p7 .last .0, 44, p7 .ensures, w7, (p8 .last .0, 50, p8 .ensures, w8, refl)))),
+              (
+                p5 .last .0,
+                36,
+                p5 .ensures,
+                w5,
+                (
+                  p6 .last .0,
+                  40,
+                  p6 .ensures,
+                  w6,
+                  (p7 .last .0, 44, p7 .ensures, w7, (p8 .last .0, 50, p8 .ensures, w8, refl)),
+                ),
+              ),
             ),
           ),
         ),
       ),
     )
-    ∙ splice-all (a .part .now) (concat (headerPieces (a .size) o (a .heap) (a .heapsize) (a .signature))) (omega (arith, l, s .pre))
+    ∙ splice-all (a .part .now) (concat (headerPieces (a .size) o (a .heap) (a .heapsize) (a .signature)))
+    (omega (arith, l, s .pre))
     ∙ header-joined (a .size) o (a .heap) (a .heapsize) (a .signature)
 
 pub write-header-spec : {M : Type 1} → statement M

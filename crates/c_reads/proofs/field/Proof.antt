@@ -13,11 +13,17 @@ store-requires : tie.Need-store-requires
 store-requires c κs = search needs
 
 pack-field-requires : tie.Need-pack-field-requires
-pack-field-requires c κs = let a = c .before .before .before .before .before .before .args in rw (c .before .before .before .before .field .ensures) (field-fits (a .t .now) (λ i. omega (arith, c .before .before .before .before .before .shared-slice-known .given i)) (a .kind) (a .position) (a .offset))
+pack-field-requires c κs =
+    let at4 = c .before .before .before .before in
+    let a = at4 .before .before .args in
+    rw (at4 .field .ensures) (field-fits (a .t .now) (λ i. omega (arith, at4 .before .shared-slice-known .given i))
+    (a .kind) (a .position) (a .offset))
 
 returns : tie.Need-returns
 unfolding valueAfter
-returns c = (c .pack-field .ensures ∙ ap packedField (c .before .before .before .before .before .field .ensures), rw (← c .before .before .before .before .before .field .ensures) (c .before .store .ensures))
+returns c =
+    let field = c .before .before .before .before .before .field in
+    (c .pack-field .ensures ∙ ap packedField (field .ensures), rw (← field .ensures) (c .before .store .ensures))
 
 pub field-spec : {M : Type 1} → statement M
 field-spec = tie.close (tie.spec field-requires store-requires pack-field-requires returns)

@@ -10,7 +10,11 @@ object-place-requires : tie.Need-object-place-requires
 object-place-requires c κs = search needs
 
 cast-result : tie.Need-cast-result
-cast-result c = let a = c .before .before .before .args in let f = place-fits (a .t .now) (λ i. omega (arith, c .before .before .shared-slice-known .given i)) (a .kind) (a .position) (a .offset) in omega (arith, f .2, ap (λ (p : Place). p .at) (c .before .object-place .ensures))
+cast-result c =
+    let a = c .before .before .before .args in
+    let f = place-fits (a .t .now) (λ i. omega (arith, c .before .before .shared-slice-known .given i)) (a .kind)
+    (a .position) (a .offset) in
+    omega (arith, f .2, ap (λ (p : Place). p .at) (c .before .object-place .ensures))
 
 returns : tie.Need-returns
 returns c = ap (λ (p : Place). p .at) (c .before .object-place .ensures)

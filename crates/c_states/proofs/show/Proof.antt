@@ -19,7 +19,13 @@ pack-requires c κs = search needs
 
 returns : tie.Need-returns
 unfolding stateAfter
-returns c = let a = c .before .before .before .before .before .before .args in (c .pack .ensures, c .before .store .ensures ∙ ap (λ (x : List ℕ). pick (eqb (a .step .answer .number) 0) x (a .state .now)) (c .before .before .state-bytes .ensures))
+returns c =
+    let a = c .before .before .before .before .before .before .args in (
+      c .pack .ensures,
+      c .before .store .ensures
+          ∙ ap (λ (x : List ℕ). pick (eqb (a .step .answer .number) 0) x (a .state .now))
+          (c .before .before .state-bytes .ensures),
+    )
 
 pub show-spec : {M : Type 1} → statement M
 show-spec = tie.close (tie.spec state-bytes-requires store-requires pack-requires returns)

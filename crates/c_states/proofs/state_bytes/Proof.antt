@@ -48,7 +48,23 @@ low-requires-12 c κs = search needs
 
 returns : tie.Need-returns
 unfolding stateBytes
-returns c = rw (c .before .before .before .before .before .before .before .before .before .before .before .low .ensures, c .before .before .before .before .before .before .before .before .before .before .low2 .ensures, c .before .before .before .before .before .before .before .before .before .low3 .ensures, c .before .before .before .before .before .before .before .before .low4 .ensures, c .before .before .before .before .before .before .before .low5 .ensures, c .before .before .before .before .before .before .low6 .ensures, c .before .before .before .before .before .low7 .ensures, c .before .before .before .before .low8 .ensures, c .before .before .before .low9 .ensures, c .before .before .low10 .ensures, c .before .low11 .ensures, c .low12 .ensures) refl
+returns c =
+    let at4 = c .before .before .before .before in
+    let at8 = at4 .before .before .before .before in
+    rw (
+      at8 .before .before .before .low .ensures,
+      at8 .before .before .low2 .ensures,
+      at8 .before .low3 .ensures,
+      at8 .low4 .ensures,
+      at4 .before .before .before .low5 .ensures,
+      at4 .before .before .low6 .ensures,
+      at4 .before .low7 .ensures,
+      at4 .low8 .ensures,
+      c .before .before .before .low9 .ensures,
+      c .before .before .low10 .ensures,
+      c .before .low11 .ensures,
+      c .low12 .ensures,
+    ) refl
 
 pub state-bytes-spec : {M : Type 1} → statement M
 state-bytes-spec =

@@ -41,7 +41,20 @@ shared-slice-read-t17 : tie.Need-shared-slice-read-t17
 shared-slice-read-t17 c = search needs
 
 returns : tie.Need-returns
-returns c = (state-read (c .before .before .before .before .before .before .before .before .before .args .b .now) (c .before .before .before .before .before .before .before .u16-at .result) (c .before .before .before .before .before .before .u16-at2 .result) (c .before .before .before .before .before .u32-at .result) (c .before .before .before .before .u32-at2 .result) (c .before .before .before .before .before .before .before .u16-at .ensures .0) (c .before .before .before .before .before .before .u16-at2 .ensures .0) (c .before .before .before .before .before .u32-at .ensures .0) (c .before .before .before .before .u32-at2 .ensures .0), (omega (arith, c .before .before .before .before .before .before .before .before .shared-slice-known .given 4), omega (arith, c .before .before .before .before .before .before .before .before .shared-slice-known .given 5), omega (arith, c .before .before .before .before .before .before .before .before .shared-slice-known .given 6), omega (arith, c .before .before .before .before .before .before .before .before .shared-slice-known .given 7)))
+returns c =
+    let at4 = c .before .before .before .before in
+    let at6 = at4 .before .before in
+    let at8 = at6 .before .before in (
+      state-read (at8 .before .args .b .now) (at6 .before .u16-at .result) (at6 .u16-at2 .result)
+          (at4 .before .u32-at .result) (at4 .u32-at2 .result) (at6 .before .u16-at .ensures .0)
+          (at6 .u16-at2 .ensures .0) (at4 .before .u32-at .ensures .0) (at4 .u32-at2 .ensures .0),
+      (
+        omega (arith, at8 .shared-slice-known .given 4),
+        omega (arith, at8 .shared-slice-known .given 5),
+        omega (arith, at8 .shared-slice-known .given 6),
+        omega (arith, at8 .shared-slice-known .given 7),
+      ),
+    )
 
 pub state-in-spec : {M : Type 1} → statement M
 state-in-spec =

@@ -42,7 +42,15 @@ same-length-2 : tie.Need-same-length-2
 same-length-2 c = search needs
 
 returns-4 : tie.Need-returns-4
-returns-4 c = λ z. let s = c .before .before .before .before .before .before .before .before .before .before .before .before .before .before .before .args .w .state in let b = c .before .before .before .before .before .before .before .before .before .before .before .before .before .before .before .args .out .now in let f = finish-accepted s b (sym (ap (λ (x : Step). x .answer .number) (c .before .before .before .before .before .finish .ensures .0)) ∙ c .if3 .left) in let l : s .used ≤ length (c .before .before .before .before .before .finish .last .0) = omega (arith, f .0, c .before .before .before .before .before .finish .kept .0) in ((l, sym (length-take-le (s .used) (c .before .before .before .before .before .finish .last .0) l)), ap (λ (x : List ℕ). check (take (s .used) x) .number) (c .before .before .before .before .before .finish .ensures .1) ∙ f .1)
+returns-4 c =
+    let at5 = c .before .before .before .before .before in
+    let start = at5 .before .before .before .before .before .before .before .before .before .before in
+    λ z. let s = start .args .w .state in let b = start .args .out .now in let f = finish-accepted s b
+    (sym (ap (λ (x : Step). x .answer .number) (at5 .finish .ensures .0)) ∙ c .if3 .left) in let l : s .used ≤ length
+    (at5 .finish .last .0) = omega (arith, f .0, at5 .finish .kept .0) in (
+      (l, sym (length-take-le (s .used) (at5 .finish .last .0) l)),
+      ap (λ (x : List ℕ). check (take (s .used) x) .number) (at5 .finish .ensures .1) ∙ f .1,
+    )
 
 pub finish-spec : {M : Type 1} → statement M
 finish-spec =

@@ -35,17 +35,24 @@ security-pairs-requires : tie.Need-security-pairs-requires
 security-pairs-requires c κs = search needs
 
 returns : tie.Need-returns
-returns c = rw (c .before .before .before .match .keys1, ← host-pairs (c .before .before .before .before .before .args .t .now) (c .before .before .before .before .before .args .a)) (cc)
+returns c =
+    let start = c .before .before .before .before .before in
+    rw (c .before .before .before .match .keys1, ← host-pairs (start .args .t .now) (start .args .a)) (cc)
 
 returns-2 : tie.Need-returns-2
-returns-2 c = rw (c .before .before .match .keys2, ← ssns-pairs (c .before .before .before .before .args .t .now) (c .before .before .before .before .args .a)) (cc)
+returns-2 c =
+    let start = c .before .before .before .before in
+    rw (c .before .before .match .keys2, ← ssns-pairs (start .args .t .now) (start .args .a)) (cc)
 
 returns-3 : tie.Need-returns-3
-returns-3 c = rw (c .before .before .match .keys3, ← security-pairs (c .before .before .before .before .args .t .now) (c .before .before .before .before .args .a)) (cc)
+returns-3 c =
+    let start = c .before .before .before .before in
+    rw (c .before .before .match .keys3, ← security-pairs (start .args .t .now) (start .args .a)) (cc)
 
 returns-4 : tie.Need-returns-4
 returns-4 c =
-    pairs-none (c .before .before .args .kind) (imageIn (layoutOf (c .before .before .args .kind)) (c .before .before .args .t .now) (c .before .before .args .a))
+    let start = c .before .before in
+    pairs-none (start .args .kind) (imageIn (layoutOf (start .args .kind)) (start .args .t .now) (start .args .a))
     (search picks) (search picks) (search picks)
 
 pub pairs-right-spec : {M : Type 1} → statement M

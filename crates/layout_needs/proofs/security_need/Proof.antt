@@ -23,11 +23,10 @@ security-judge-requires c κs = search needs
 
 returns : tie.Need-returns
 returns c =
+    let start = c .before .before .before .before .before in
     rw (
-      ← security-need (imageIn security (c .before .before .before .before .before .args .t .now) (c .before .before .before .before .before .args .a))
-          (c .before .before .before .before .before .args .off),
-      security-secret (c .before .before .before .before .before .args .t .now)
-          (c .before .before .before .before .before .args .a),
+      ← security-need (imageIn security (start .args .t .now) (start .args .a)) (start .args .off),
+      security-secret (start .args .t .now) (start .args .a),
     ) (cc)
 
 pub security-need-spec : {M : Type 1} → statement M

@@ -11,7 +11,11 @@ rewrite-requires : tie.Need-rewrite-requires
 rewrite-requires c κs = search needs
 
 pack-rewritten-requires : tie.Need-pack-rewritten-requires
-pack-rewritten-requires c κs = let a = c .before .before .before .before .before .before .args in rw (c .before .before .rewrite .ensures .0) (rewrite-fits (a .t .now) (λ i. omega (arith, c .before .before .before .before .before .shared-slice-known .given i)) (length (a .out .now)))
+pack-rewritten-requires c κs =
+    let at5 = c .before .before .before .before .before in
+    let a = at5 .before .args in
+    rw (c .before .before .rewrite .ensures .0)
+    (rewrite-fits (a .t .now) (λ i. omega (arith, at5 .shared-slice-known .given i)) (length (a .out .now)))
 
 same-length : tie.Need-same-length
 same-length c = search needs

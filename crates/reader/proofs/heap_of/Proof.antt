@@ -23,7 +23,9 @@ part-result-end : tie.Need-part-result-end
 part-result-end c = let w = c .before .pre .0 (omega (arith, c .if1 .left)) in omega arith
 
 returns-2 : tie.Need-returns-2
-returns-2 c = rw (add-sub-cancel-left (c .before .before .args .at) (c .before .before .args .len))
+returns-2 c =
+    let start = c .before .before in
+    rw (add-sub-cancel-left (start .args .at) (start .args .len))
 
 pub heap-of-spec : {M : Type 1} → statement M
 heap-of-spec =

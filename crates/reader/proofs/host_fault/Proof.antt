@@ -20,18 +20,21 @@ flags-at-requires c κs = search needs
 add-if1 : tie.Need-add-if1
 unfolding layoutOf host
 add-if1 c =
+    let start = c .before .before .before .before in
     let g : c .flags-at .result ≡ 1 = c .flags-at .ensures in
-    let e : c .before .reference-at .result .at ≡ num (c .before .before .before .before .args .t .now) 72 4 = ap (λ (x : Region). x .at)
+    let e : c .before .reference-at .result .at ≡ num (start .args .t .now) 72 4 = ap (λ (x : Region). x .at)
     (c .before .reference-at .ensures .0) in
-    omega (arith, g, e, c .before .before .before .before .pre .0 .owner, c .before .before .before .before .pre .0 .lent, c .before .reference-at .ensures .1)
+    omega (arith, g, e, start .pre .0 .owner, start .pre .0 .lent, c .before .reference-at .ensures .1)
 
 shared-slice-read-if1 : tie.Need-shared-slice-read-if1
 unfolding layoutOf host
 shared-slice-read-if1 c =
+    let at2 = c .before .before in
+    let start = at2 .before .before .before in
     let g : c .before .flags-at .result ≡ 1 = c .before .flags-at .ensures in
-    let e : c .before .before .reference-at .result .at ≡ num (c .before .before .before .before .before .args .t .now) 72 4 = ap (λ (x : Region). x .at)
-    (c .before .before .reference-at .ensures .0) in
-    omega (arith, g, e, c .before .before .before .before .before .pre .0 .owner)
+    let e : at2 .reference-at .result .at ≡ num (start .args .t .now) 72 4 = ap (λ (x : Region). x .at)
+    (at2 .reference-at .ensures .0) in
+    omega (arith, g, e, start .pre .0 .owner)
 
 refuse-requires : tie.Need-refuse-requires
 refuse-requires c κs = search needs
@@ -39,26 +42,24 @@ refuse-requires c κs = search needs
 returns : tie.Need-returns
 unfolding layoutOf host
 returns c =
-    let g : c .before .before .before .flags-at .result ≡ 1 = c .before .before .before .flags-at .ensures in
-    let e : c .before .before .before .before .reference-at .result .at ≡ num (c .before .before .before .before .before .before .before .args .t .now) 72 4 = ap
-    (λ (x : Region). x .at) (c .before .before .before .before .reference-at .ensures .0) in
-    c .refuse .ensures ∙ host-off (region (c .before .before .before .before .before .before .before .args .from)
-    (length (c .before .before .before .before .before .before .before .args .heap .now))) (c .before .before .before .before .before .before .before .args .t .now)
-    (c .before .before .before .before .reference-at .result .at) e (rw g at (c .before .if1 .taken))
+    let at3 = c .before .before .before in
+    let start = at3 .before .before .before .before in
+    let g : at3 .flags-at .result ≡ 1 = at3 .flags-at .ensures in
+    let e : at3 .before .reference-at .result .at ≡ num (start .args .t .now) 72 4 = ap (λ (x : Region). x .at)
+    (at3 .before .reference-at .ensures .0) in
+    c .refuse .ensures
+    ∙ host-off (region (start .args .from) (length (start .args .heap .now))) (start .args .t .now)
+    (at3 .before .reference-at .result .at) e (rw g at (c .before .if1 .taken))
 
 used-fault-requires : tie.Need-used-fault-requires
 unfolding layoutOf host
 used-fault-requires c κs =
-    let g : c .before .before .flags-at .result ≡ 1 = c .before .before .flags-at .ensures in
-    let e : c .before .before .before .reference-at .result .at ≡ num (c .before .before .before .before .before .before .args .t .now) 72 4 = ap (λ (x : Region). x .at)
-    (c .before .before .before .reference-at .ensures .0) in (
-      c .before .before .before .before .before .before .pre .0,
-      lit≤ tt,
-      lit≤ tt,
-      rw e
-          (c .before .before .before .before .before .before .pre .0 .owner),
-      c .before .before .before .before .before .before .pre .1,
-    )
+    let at2 = c .before .before in
+    let start = at2 .before .before .before .before in
+    let g : at2 .flags-at .result ≡ 1 = at2 .flags-at .ensures in
+    let e : at2 .before .reference-at .result .at ≡ num (start .args .t .now) 72 4 = ap (λ (x : Region). x .at)
+    (at2 .before .reference-at .ensures .0) in
+    (start .pre .0, lit≤ tt, lit≤ tt, rw e (start .pre .0 .owner), start .pre .1)
 
 answer-of-requires : tie.Need-answer-of-requires
 answer-of-requires c κs = search needs
@@ -66,14 +67,15 @@ answer-of-requires c κs = search needs
 returns-2 : tie.Need-returns-2
 unfolding layoutOf host
 returns-2 c =
-    let g : c .before .before .before .before .flags-at .result ≡ 1 = c .before .before .before .before .flags-at .ensures in
-    let e : c .before .before .before .before .before .reference-at .result .at ≡ num
-    (c .before .before .before .before .before .before .before .before .args .t .now) 72 4 = ap (λ (x : Region). x .at)
-    (c .before .before .before .before .before .reference-at .ensures .0) in
-    c .answer-of .ensures ∙ host-on (region (c .before .before .before .before .before .before .before .before .args .from)
-    (length (c .before .before .before .before .before .before .before .before .args .heap .now)))
-    (c .before .before .before .before .before .before .before .before .args .t .now) (c .before .before .before .before .before .reference-at .result .at)
-    (c .before .used-fault .result) e (rw g at (c .before .before .if1 .left)) (c .before .used-fault .ensures)
+    let at4 = c .before .before .before .before in
+    let start = at4 .before .before .before .before in
+    let g : at4 .flags-at .result ≡ 1 = at4 .flags-at .ensures in
+    let e : at4 .before .reference-at .result .at ≡ num (start .args .t .now) 72 4 = ap (λ (x : Region). x .at)
+    (at4 .before .reference-at .ensures .0) in
+    c .answer-of .ensures
+    ∙ host-on (region (start .args .from) (length (start .args .heap .now))) (start .args .t .now)
+    (at4 .before .reference-at .result .at) (c .before .used-fault .result) e (rw g at (c .before .before .if1 .left))
+    (c .before .used-fault .ensures)
 
 pub host-fault-spec : {M : Type 1} → statement M
 host-fault-spec =

@@ -14,10 +14,19 @@ heap-of-requires : tie.Need-heap-of-requires
 heap-of-requires c κs = let e = c .region-at .ensures in (rw (e .0) (c .before .before .pre .heap .heap-in), e .1 .0, e .1 .1)
 
 parts-fault-requires : tie.Need-parts-fault-requires
-parts-fault-requires c κs = let s = c .before .before .before in let t = s .args .t .now in let r = c .before .region-at .result in let e = c .before .region-at .ensures in let h = c .heap-of .ensures in
+parts-fault-requires c κs =
+    let s = c .before .before .before in
+    let t = s .args .t .now in
+    let r = c .before .region-at .result in
+    let e = c .before .region-at .ensures in
+    let h = c .heap-of .ensures in
     let w : 0 < r .len → r .at + r .len ≤ length t = rw (e .0) (s .pre .heap .heap-in) in
-    let n : length (c .heap-of .result .now) ≡ r .len = ap length h ∙ heap-length t (r .at) (r .len) w in
-    (s .pre, is-heap t (c .heap-of .result .now) (r .at) (r .len) h n (e .1 .0) (e .1 .1), ap (λ (x : Region). x .at) (e .0), n ∙ ap (λ (x : Region). x .len) (e .0))
+    let n : length (c .heap-of .result .now) ≡ r .len = ap length h ∙ heap-length t (r .at) (r .len) w in (
+      s .pre,
+      is-heap t (c .heap-of .result .now) (r .at) (r .len) h n (e .1 .0) (e .1 .1),
+      ap (λ (x : Region). x .at) (e .0),
+      n ∙ ap (λ (x : Region). x .len) (e .0),
+    )
 
 returns : tie.Need-returns
 returns c = search needs

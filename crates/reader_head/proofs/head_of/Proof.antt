@@ -50,12 +50,16 @@ entry-at-requires-3 : tie.Need-entry-at-requires-3
 entry-at-requires-3 c κs = search needs
 
 entry-at-requires-4 : tie.Need-entry-at-requires-4
-entry-at-requires-4 c κs = omega (arith, c .before .before .before .before .before .before .before .before .before .before .before .before .before .before .before .before .pre)
+entry-at-requires-4 c κs =
+    let start = c .before .before .before .before .before .before .before .before .before .before .before .before
+    .before .before .before .before in
+    omega (arith, start .pre)
 
 returns : tie.Need-returns
 unfolding headOf
 returns c =
-    let e = c .before .before .before in
+    let at2 = c .before .before in
+    let e = at2 .before in
     let h = e .before .before .before in
     let s = h .before .before in
     let n = s .before .before .before .before .before .before in (
@@ -66,7 +70,7 @@ returns c =
         h .reference-at .ensures .0,
         e .before .region-at .ensures .0,
         e .entry-at .ensures .0,
-        c .before .before .entry-at2 .ensures .0,
+        at2 .entry-at2 .ensures .0,
         c .before .entry-at3 .ensures .0,
         c .entry-at4 .ensures .0,
       ),
@@ -75,7 +79,7 @@ returns c =
         host = (h .reference-at .ensures .1, omega (arith, h .reference-at .ensures .2));
         heap = e .before .region-at .ensures .1;
         hfi = e .entry-at .ensures .1;
-        ssns = c .before .before .entry-at2 .ensures .1;
+        ssns = at2 .entry-at2 .ensures .1;
         security = c .before .entry-at3 .ensures .1;
         discovery = c .entry-at4 .ensures .1;
       },

@@ -1,9 +1,8 @@
 use Rattle.reader_heap_records.specs.HeapRecords.{spot}
 use Rattle.table.specs.Rules.{isSound}
 use mathlib.Core.Path.{_≡_, _∙_}
-use Rattle.reader_heap_records.proofs.Laws.{extended-sound, extended-own}
+use Rattle.reader_heap_records.proofs.Laws.{extended-sound, extended-own, part-short, part-stop, part-on}
 use Rattle.table.specs.Bytes.{pick}
-use Rattle.reader_heap_records.proofs.Laws.{part-short, part-stop, part-on}
 use Rattle.table.specs.FixedLayouts.{layoutOf, extended}
 use Rattle.table.specs.Layout.{region, image}
 use native.Mathlib.Omega.{arith}
@@ -16,15 +15,16 @@ judged : (c : tie.After-sound) → let s = c .before .before .before .before .be
     (isSound (extended .shape) (spot (s .position)) (image (extended .shape .keep) (s .x .now))) 0 12
 unfolding extended
 judged c =
-    rw (← extended-sound (c .before .before .before .before .before .before .before .args .x .now)
-    (c .before .before .before .before .before .before .before .args .position)
-    (λ i. omega (arith, c .before .before .before .before .before .before .shared-slice-known .given i))) (cc (c .sound .ensures, c .before .u16-at .ensures .0))
+    let at6 = c .before .before .before .before .before .before in
+    rw (← extended-sound (at6 .before .args .x .now) (at6 .before .args .position)
+    (λ i. omega (arith, at6 .shared-slice-known .given i))) (cc (c .sound .ensures, c .before .u16-at .ensures .0))
 
 returns : tie.Need-returns
 unfolding extended
 returns c =
-    part-short (region (c .before .before .args .from) (c .before .before .args .n)) (c .before .before .args .position) (extended .shape) (extended .refs)
-    (c .before .before .args .x .now) (omega (arith, c .if1 .taken))
+    let start = c .before .before in
+    part-short (region (start .args .from) (start .args .n)) (start .args .position) (extended .shape) (extended .refs)
+    (start .args .x .now) (omega (arith, c .if1 .taken))
 
 shared-slice-read-sound : tie.Need-shared-slice-read-sound
 shared-slice-read-sound c = search needs
@@ -44,20 +44,25 @@ sound-requires c κs = search needs
 returns-2 : tie.Need-returns-2
 unfolding extended
 returns-2 c =
-    let s = c .before .before .before .before .before .before .before .before .args in
-    part-stop (region (s .from) (s .n)) (s .position) (extended .shape) (extended .refs) (s .x .now) (c .before .sound .result)
-    (omega (arith, c .before .before .before .before .before .before .if1 .left)) (judged (c .before)) (c .if2 .taken)
+    let at6 = c .before .before .before .before .before .before in
+    let s = at6 .before .before .args in
+    part-stop (region (s .from) (s .n)) (s .position) (extended .shape) (extended .refs) (s .x .now)
+    (c .before .sound .result) (omega (arith, at6 .if1 .left)) (judged (c .before)) (c .if2 .taken)
 
 own-fault-requires : tie.Need-own-fault-requires
 unfolding layoutOf extended
-own-fault-requires c κs = (omega (arith, c .before .before .before .before .before .before .if1 .left), c .before .before .before .before .before .before .before .before .pre)
+own-fault-requires c κs =
+    let at6 = c .before .before .before .before .before .before in
+    (omega (arith, at6 .if1 .left), at6 .before .before .pre)
 
 returns-3 : tie.Need-returns-3
 unfolding extended
 returns-3 c =
-    let s = c .before .before .before .before .before .before .before .before .before .args in
-    part-on (region (s .from) (s .n)) (s .position) (extended .shape) (extended .refs) (s .x .now) (c .before .before .sound .result)
-    (omega (arith, c .before .before .before .before .before .before .before .if1 .left)) (judged (c .before .before)) (c .own-fault .result) (c .before .if2 .left)
+    let at2 = c .before .before in
+    let at7 = at2 .before .before .before .before .before in
+    let s = at7 .before .before .args in
+    part-on (region (s .from) (s .n)) (s .position) (extended .shape) (extended .refs) (s .x .now) (at2 .sound .result)
+    (omega (arith, at7 .if1 .left)) (judged at2) (c .own-fault .result) (c .before .if2 .left)
     (c .own-fault .ensures ∙ extended-own (region (s .from) (s .n)) (s .x .now))
 
 pub extended-fault-spec : {M : Type 1} → statement M

@@ -23,7 +23,9 @@ module _ (c : tie.After-plain-fault Inv-loop μ-loop) where
   abbrev F : ℕ → ℕ
   F = let s = c .before .before .before .before .before .before .before .args in ownFault (s .kind) (region (s .from) (s .n)) (s .x .now)
 
-  turn : c .plain-fault .result ≡ F (getD (c .before .before .before .before .before .reference-offsets .result .at) (c .before .before .before .before .loop .i) 0)
+  turn :
+      let at4 = c .before .before .before .before in
+      c .plain-fault .result ≡ F (getD (at4 .before .reference-offsets .result .at) (at4 .loop .i) 0)
   unfolding ownFault
   turn = rw (c .before .plain-need .ensures) at (c .plain-fault .ensures)
 
@@ -44,10 +46,11 @@ plain-need-requires c κs = search picks
 
 plain-fault-requires : tie.Need-plain-fault-requires Inv-loop μ-loop
 plain-fault-requires c κs =
-    let s = c .before .before .before .before .before .before in
+    let at4 = c .before .before .before .before in
+    let s = at4 .before .before in
     let k = s .args .kind in
     let i = c .before .before .before .loop .i in
-    let o = c .before .before .before .before .reference-offsets in
+    let o = at4 .reference-offsets in
     let l = c .before .before .loop-test .taken in
     let h : i < length (offsets (layoutOf k .refs)) = omega (arith, o .ensures .1) in
     let w = refs-within k i h in
@@ -57,9 +60,11 @@ plain-fault-requires c κs =
 returns : tie.Need-returns Inv-loop μ-loop
 unfolding ownFaults
 returns c =
-    let o = c .before .before .before .before .before .before .reference-offsets in
-    over-stop (F (c .before)) (o .result .count) (o .result .at) (o .ensures .0) (o .ensures .1) (c .before .before .before .before .loop-test .taken) (turn (c .before))
-    (c .if1 .taken) ∙ c .before .before .before .before .before .loop .inv .1
+    let at4 = c .before .before .before .before in
+    let o = at4 .before .before .reference-offsets in
+    over-stop (F (c .before)) (o .result .count) (o .result .at) (o .ensures .0) (o .ensures .1) (at4 .loop-test .taken)
+    (turn (c .before)) (c .if1 .taken)
+    ∙ at4 .before .loop .inv .1
 
 add-i : tie.Need-add-i Inv-loop μ-loop
 add-i c = search picks
@@ -69,10 +74,12 @@ loop-less c = search picks
 
 loop-again : tie.Need-loop-again Inv-loop μ-loop
 loop-again c =
-    let o = c .before .before .before .before .before .before .reference-offsets in (
+    let at4 = c .before .before .before .before in
+    let o = at4 .before .before .reference-offsets in (
       search picks,
-      over-more (F (c .before)) (o .result .count) (o .result .at) (o .ensures .0) (o .ensures .1) (c .before .before .before .before .loop-test .taken)
-          (turn (c .before)) (c .if1 .left) ∙ c .before .before .before .before .before .loop .inv .1,
+      over-more (F (c .before)) (o .result .count) (o .result .at) (o .ensures .0) (o .ensures .1)
+          (at4 .loop-test .taken) (turn (c .before)) (c .if1 .left)
+          ∙ at4 .before .loop .inv .1,
     )
 
 returns-2 : tie.Need-returns-2 Inv-loop μ-loop

@@ -19,16 +19,48 @@ sub-i : tie.Need-sub-i
 sub-i c = search needs
 
 mul-d : tie.Need-mul-d
-mul-d c = let a = c .before .before .args in let p = c .before .before .pre in let i : a .n - 1 < a .count = omega arith in let s = stride (a .n - 1) (a .count) (a .step) i in let w = p .0 (omega arith) in let f = p .1 (omega arith) in omega arith
+mul-d c =
+    let start = c .before .before in
+    let a = start .args in
+    let p = start .pre in
+    let i : a .n - 1 < a .count = omega arith in
+    let s = stride (a .n - 1) (a .count) (a .step) i in
+    let w = p .0 (omega arith) in
+    let f = p .1 (omega arith) in
+    omega arith
 
 add-result : tie.Need-add-result
-add-result c = let a = c .before .before .args in let p = c .before .before .pre in let i : a .n - 1 < a .count = omega arith in let s = stride (a .n - 1) (a .count) (a .step) i in let w = p .0 (omega arith) in let f = p .1 (omega arith) in omega arith
+add-result c =
+    let start = c .before .before in
+    let a = start .args in
+    let p = start .pre in
+    let i : a .n - 1 < a .count = omega arith in
+    let s = stride (a .n - 1) (a .count) (a .step) i in
+    let w = p .0 (omega arith) in
+    let f = p .1 (omega arith) in
+    omega arith
 
 add-result-2 : tie.Need-add-result-2
-add-result-2 c = let a = c .before .before .args in let p = c .before .before .pre in let i : a .n - 1 < a .count = omega arith in let s = stride (a .n - 1) (a .count) (a .step) i in let w = p .0 (omega arith) in let f = p .1 (omega arith) in omega arith
+add-result-2 c =
+    let start = c .before .before in
+    let a = start .args in
+    let p = start .pre in
+    let i : a .n - 1 < a .count = omega arith in
+    let s = stride (a .n - 1) (a .count) (a .step) i in
+    let w = p .0 (omega arith) in
+    let f = p .1 (omega arith) in
+    omega arith
 
 shared-slice-read-result : tie.Need-shared-slice-read-result
-shared-slice-read-result c = let a = c .before .before .before .args in let p = c .before .before .before .pre in let i : a .n - 1 < a .count = omega arith in let s = stride (a .n - 1) (a .count) (a .step) i in let w = p .0 (omega arith) in let f = p .1 (omega arith) in omega arith
+shared-slice-read-result c =
+    let start = c .before .before .before in
+    let a = start .args in
+    let p = start .pre in
+    let i : a .n - 1 < a .count = omega arith in
+    let s = stride (a .n - 1) (a .count) (a .step) i in
+    let w = p .0 (omega arith) in
+    let f = p .1 (omega arith) in
+    omega arith
 
 returns-3 : tie.Need-returns-3
 unfolding flagged

@@ -22,7 +22,10 @@ wide-requires : tie.Need-wide-requires
 wide-requires c κs = search needs
 
 listed-requires : tie.Need-listed-requires
-listed-requires c κs = let p = c .before .before .before .before .before .pre .1 in rw (c .wide .ensures .0, c .before .before .u16-at .ensures .0, c .before .before .before .u32-at .ensures .0) (p .within, (λ h. let l = p .long h in omega arith))
+listed-requires c κs =
+    let p = c .before .before .before .before .before .pre .1 in
+    rw (c .wide .ensures .0, c .before .before .u16-at .ensures .0, c .before .before .before .u32-at .ensures .0)
+    (p .within, (λ h. let l = p .long h in omega arith))
 
 returns : tie.Need-returns
 returns c = cc

@@ -22,7 +22,17 @@ wide-requires : tie.Need-wide-requires
 wide-requires c κs = search needs
 
 list-from-requires : tie.Need-list-from-requires
-list-from-requires c κs = let p = c .before .before .before .before .before .before .pre in (p .0, (rw (c .wide .ensures .0, c .before .before .u16-at .ensures .0, c .before .before .before .u32-at .ensures .0) (p .1 .1 .within), rw (c .wide .ensures .0, c .before .before .u16-at .ensures .0) (p .1 .1 .long), c .wide .ensures .1, c .before .before .before .u32-at .ensures .1))
+list-from-requires c κs =
+    let at2 = c .before .before in
+    let p = at2 .before .before .before .before .pre in (
+      p .0,
+      (
+        rw (c .wide .ensures .0, at2 .u16-at .ensures .0, at2 .before .u32-at .ensures .0) (p .1 .1 .within),
+        rw (c .wide .ensures .0, at2 .u16-at .ensures .0) (p .1 .1 .long),
+        c .wide .ensures .1,
+        at2 .before .u32-at .ensures .1,
+      ),
+    )
 
 returns : tie.Need-returns
 unfolding listFault

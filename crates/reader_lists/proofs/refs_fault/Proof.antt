@@ -34,31 +34,29 @@ element-copy-out-off c = search picks
 
 ref-fault-requires : tie.Need-ref-fault-requires Inv-loop μ-loop
 ref-fault-requires c κs =
-    let s = c .before .before .before .before .before .before in
+    let at3 = c .before .before .before in
+    let s = at3 .before .before .before in
     let k = s .args .kind in
     let i = c .before .before .loop .i in
-    let p = c .before .before .before .reference-offsets .ensures in
+    let p = at3 .reference-offsets .ensures in
     let l = c .before .loop-test .taken in
     let h : i < length (offsets (layoutOf k .refs)) = omega (arith, p .1) in
     let w = refs-within k i h in
-    let e = lists-at (c .before .before .before .reference-offsets .result .count) (c .before .before .before .reference-offsets .result .at) (p .0) i l in
+    let e = lists-at (at3 .reference-offsets .result .count) (at3 .reference-offsets .result .at) (p .0) i l in
     (s .pre .0, s .pre .1, omega (arith, w, e, s .pre .1), s .pre .2)
 
 returns : tie.Need-returns Inv-loop μ-loop
 returns c =
-    over-stop (refFault (c .before .before .before .before .before .before .before .before .args .kind)
-    (region (c .before .before .before .before .before .before .before .before .args .from)
-    (length (c .before .before .before .before .before .before .before .before .args .heap .now)))
-    (c .before .before .before .before .before .before .before .before .args .t .now) (c .before .before .before .before .before .before .before .before .args .a)
-    (c .before .before .before .before .before .before .before .before .args .position)) (c .before .before .before .before .before .reference-offsets .result .count)
-    (c .before .before .before .before .before .reference-offsets .result .at) (c .before .before .before .before .before .reference-offsets .ensures .0)
-    (c .before .before .before .before .before .reference-offsets .ensures .1) (c .before .before .before .loop-test .taken) (c .before .ref-fault .ensures)
-    (c .if1 .taken) ∙ c .before .before .before .before .loop .inv .1 ∙ sym
-    (refs-are (c .before .before .before .before .before .before .before .before .args .kind)
-    (region (c .before .before .before .before .before .before .before .before .args .from)
-    (length (c .before .before .before .before .before .before .before .before .args .heap .now)))
-    (c .before .before .before .before .before .before .before .before .args .t .now) (c .before .before .before .before .before .before .before .before .args .a)
-    (c .before .before .before .before .before .before .before .before .args .position))
+    let at4 = c .before .before .before .before in
+    let start = at4 .before .before .before .before in
+    over-stop (refFault (start .args .kind) (region (start .args .from) (length (start .args .heap .now)))
+    (start .args .t .now) (start .args .a) (start .args .position)) (at4 .before .reference-offsets .result .count)
+    (at4 .before .reference-offsets .result .at) (at4 .before .reference-offsets .ensures .0)
+    (at4 .before .reference-offsets .ensures .1) (c .before .before .before .loop-test .taken)
+    (c .before .ref-fault .ensures) (c .if1 .taken)
+    ∙ at4 .loop .inv .1
+    ∙ sym (refs-are (start .args .kind) (region (start .args .from) (length (start .args .heap .now)))
+    (start .args .t .now) (start .args .a) (start .args .position))
 
 add-i : tie.Need-add-i Inv-loop μ-loop
 add-i c = search picks
@@ -67,29 +65,27 @@ loop-less : tie.Need-loop-less Inv-loop μ-loop
 loop-less c = search picks
 
 loop-again : tie.Need-loop-again Inv-loop μ-loop
-loop-again c = (
-  search picks,
-  over-more (refFault (c .before .before .before .before .before .before .before .before .args .kind)
-      (region (c .before .before .before .before .before .before .before .before .args .from)
-      (length (c .before .before .before .before .before .before .before .before .args .heap .now)))
-      (c .before .before .before .before .before .before .before .before .args .t .now) (c .before .before .before .before .before .before .before .before .args .a)
-      (c .before .before .before .before .before .before .before .before .args .position)) (c .before .before .before .before .before .reference-offsets .result .count)
-      (c .before .before .before .before .before .reference-offsets .result .at) (c .before .before .before .before .before .reference-offsets .ensures .0)
-      (c .before .before .before .before .before .reference-offsets .ensures .1) (c .before .before .before .loop-test .taken) (c .before .ref-fault .ensures)
-      (c .if1 .left) ∙ c .before .before .before .before .loop .inv .1,
-)
+loop-again c =
+    let at4 = c .before .before .before .before in
+    let start = at4 .before .before .before .before in (
+      search picks,
+      over-more (refFault (start .args .kind) (region (start .args .from) (length (start .args .heap .now)))
+          (start .args .t .now) (start .args .a) (start .args .position))
+          (at4 .before .reference-offsets .result .count) (at4 .before .reference-offsets .result .at)
+          (at4 .before .reference-offsets .ensures .0) (at4 .before .reference-offsets .ensures .1)
+          (c .before .before .before .loop-test .taken) (c .before .ref-fault .ensures) (c .if1 .left)
+          ∙ at4 .loop .inv .1,
+    )
 
 returns-2 : tie.Need-returns-2 Inv-loop μ-loop
 returns-2 c =
-    over-none (refFault (c .before .before .before .before .before .args .kind)
-    (region (c .before .before .before .before .before .args .from) (length (c .before .before .before .before .before .args .heap .now)))
-    (c .before .before .before .before .before .args .t .now) (c .before .before .before .before .before .args .a)
-    (c .before .before .before .before .before .args .position)) (offsets (layoutOf (c .before .before .before .before .before .args .kind) .refs)) (c .before .loop .i)
-    (omega (arith, c .before .before .reference-offsets .ensures .1)) ∙ c .before .loop .inv .1 ∙ sym
-    (refs-are (c .before .before .before .before .before .args .kind)
-    (region (c .before .before .before .before .before .args .from) (length (c .before .before .before .before .before .args .heap .now)))
-    (c .before .before .before .before .before .args .t .now) (c .before .before .before .before .before .args .a)
-    (c .before .before .before .before .before .args .position))
+    let start = c .before .before .before .before .before in
+    over-none (refFault (start .args .kind) (region (start .args .from) (length (start .args .heap .now)))
+    (start .args .t .now) (start .args .a) (start .args .position)) (offsets (layoutOf (start .args .kind) .refs))
+    (c .before .loop .i) (omega (arith, c .before .before .reference-offsets .ensures .1))
+    ∙ c .before .loop .inv .1
+    ∙ sym (refs-are (start .args .kind) (region (start .args .from) (length (start .args .heap .now)))
+    (start .args .t .now) (start .args .a) (start .args .position))
 
 pub refs-fault-spec : {M : Type 1} → statement M
 refs-fault-spec =

@@ -12,32 +12,33 @@ right-fault-requires c κs = search needs
 
 returns : tie.Need-returns
 returns c =
-    stop _ (c .before .right-fault .ensures) (c .if1 .taken) ∙ used-is (c .before .before .before .before .args .kind)
-    (region (c .before .before .before .before .args .from) (length (c .before .before .before .before .args .heap .now)))
-    (c .before .before .before .before .args .t .now) (c .before .before .before .before .args .a) (c .before .before .before .before .args .position)
+    let start = c .before .before .before .before in
+    stop _ (c .before .right-fault .ensures) (c .if1 .taken)
+    ∙ used-is (start .args .kind) (region (start .args .from) (length (start .args .heap .now))) (start .args .t .now)
+    (start .args .a) (start .args .position)
 
 refs-fault-requires : tie.Need-refs-fault-requires
 refs-fault-requires c κs = search needs
 
 returns-2 : tie.Need-returns-2
 returns-2 c =
-    more (c .before .before .before .right-fault .ensures) (c .before .before .if1 .left) (stop _ (c .before .refs-fault .ensures) (c .if2 .taken)) ∙ used-is
-    (c .before .before .before .before .before .before .args .kind)
-    (region (c .before .before .before .before .before .before .args .from) (length (c .before .before .before .before .before .before .args .heap .now)))
-    (c .before .before .before .before .before .before .args .t .now) (c .before .before .before .before .before .before .args .a)
-    (c .before .before .before .before .before .before .args .position)
+    let start = c .before .before .before .before .before .before in
+    more (c .before .before .before .right-fault .ensures) (c .before .before .if1 .left)
+    (stop _ (c .before .refs-fault .ensures) (c .if2 .taken))
+    ∙ used-is (start .args .kind) (region (start .args .from) (length (start .args .heap .now))) (start .args .t .now)
+    (start .args .a) (start .args .position)
 
 names-fault-requires : tie.Need-names-fault-requires
 names-fault-requires c κs = search needs
 
 returns-3 : tie.Need-returns-3
 returns-3 c =
-    more (c .before .before .before .before .right-fault .ensures) (c .before .before .before .if1 .left)
-    (more (c .before .before .refs-fault .ensures) (c .before .if2 .left) (c .names-fault .ensures)) ∙ used-is
-    (c .before .before .before .before .before .before .before .args .kind)
-    (region (c .before .before .before .before .before .before .before .args .from) (length (c .before .before .before .before .before .before .before .args .heap .now)))
-    (c .before .before .before .before .before .before .before .args .t .now) (c .before .before .before .before .before .before .before .args .a)
-    (c .before .before .before .before .before .before .before .args .position)
+    let at4 = c .before .before .before .before in
+    let start = at4 .before .before .before in
+    more (at4 .right-fault .ensures) (c .before .before .before .if1 .left)
+    (more (c .before .before .refs-fault .ensures) (c .before .if2 .left) (c .names-fault .ensures))
+    ∙ used-is (start .args .kind) (region (start .args .from) (length (start .args .heap .now))) (start .args .t .now)
+    (start .args .a) (start .args .position)
 
 pub used-fault-spec : {M : Type 1} → statement M
 used-fault-spec =

@@ -74,10 +74,11 @@ returns-2 c =
 
 returns-3 : tie.Need-returns-3
 returns-3 c =
-    let s = c .before .before .before .before .before .before .before .args in
+    let at2 = c .before .before in
+    let s = at2 .before .before .before .before .before .args in
     let x = referenceAt (s .t .now) (s .r) in
     let f = there (c .before) in
-    rw (add-sub-cancel-left (c .before .before .x .given .0 .0 - s .from) (c .before .before .x .given .0 .1 .0), f .1, f .2)
+    rw (add-sub-cancel-left (at2 .x .given .0 .0 - s .from) (at2 .x .given .0 .1 .0), f .1, f .2)
     (part-yes (s .heap .now) (s .from) (x .at) (x .len) (f .0))
 
 pub part-at-spec : {M : Type 1} → statement M

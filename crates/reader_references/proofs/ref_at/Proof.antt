@@ -13,7 +13,11 @@ ref-of-requires : tie.Need-ref-of-requires
 ref-of-requires c κs = search needs
 
 returns : tie.Need-returns
-returns c = c .ref-of .ensures ∙ ap (λ (x : Region). refOf (region (c .before .before .before .args .from) (c .before .before .before .args .n)) (x .at) (x .len)) (c .before .reference-at .ensures .0)
+returns c =
+    let start = c .before .before .before in
+    c .ref-of .ensures
+    ∙ ap (λ (x : Region). refOf (region (start .args .from) (start .args .n)) (x .at) (x .len))
+    (c .before .reference-at .ensures .0)
 
 pub ref-at-spec : {M : Type 1} → statement M
 ref-at-spec = tie.close (tie.spec reference-at-requires ref-of-requires returns)

@@ -32,7 +32,10 @@ returns-5 : tie.Need-returns-5
 returns-5 c = let a = c .before .before .before .before .args in ref-out (a .from) (a .n) (a .off) (a .len) (c .before .before .before .if1 .left) (omega arith)
 
 returns-6 : tie.Need-returns-6
-returns-6 c = let a = c .before .before .before .before .args in ref-in (a .from) (a .n) (a .off) (a .len) (c .before .before .before .if1 .left) (c .before .before .if3 .left) (omega arith) (omega arith)
+returns-6 c =
+    let a = c .before .before .before .before .args in
+    ref-in (a .from) (a .n) (a .off) (a .len) (c .before .before .before .if1 .left) (c .before .before .if3 .left)
+    (omega arith) (omega arith)
 
 pub ref-of-spec : {M : Type 1} → statement M
 ref-of-spec =

@@ -40,13 +40,16 @@ extended-fault-requires c κs = search needs
 
 returns-3 : tie.Need-returns-3
 returns-3 c =
-    let s = c .before .before .before .before .before .before .before in
+    let at2 = c .before .before in
+    let s = at2 .before .before .before .before .before in
     let x = referenceAt (s .args .t .now) (s .args .a + 60) in
-    let r = part-some (s .args .heap .now) (s .args .from) (x .at) (x .len) (rw (c .before .before .part-at .ensures) at (c .before .if2 .left)) in
-    c .extended-fault .ensures ∙ ap (partRule (region (s .args .from) (length (s .args .heap .now))) (spot (s .args .position)) (extended .shape) (extended .refs))
-    (c .before .before .part-at .ensures ∙ sym (part-yes (s .args .heap .now) (s .args .from) (x .at) (x .len) r)) ∙ extended-yes (s .args .t .now) (s .args .heap .now)
-    (s .args .from) (s .args .a) (s .args .position) (s .pre .1)
-    (ne-eqb _ 0 (rw (c .before .before .before .before .ssns-flags .ensures) at (c .before .before .before .if1 .left))) r
+    let r = part-some (s .args .heap .now) (s .args .from) (x .at) (x .len)
+    (rw (at2 .part-at .ensures) at (c .before .if2 .left)) in
+    c .extended-fault .ensures
+    ∙ ap (partRule (region (s .args .from) (length (s .args .heap .now))) (spot (s .args .position)) (extended .shape)
+    (extended .refs)) (at2 .part-at .ensures ∙ sym (part-yes (s .args .heap .now) (s .args .from) (x .at) (x .len) r))
+    ∙ extended-yes (s .args .t .now) (s .args .heap .now) (s .args .from) (s .args .a) (s .args .position) (s .pre .1)
+    (ne-eqb _ 0 (rw (at2 .before .before .ssns-flags .ensures) at (at2 .before .if1 .left))) r
 
 pub extended-ref-spec : {M : Type 1} → statement M
 extended-ref-spec =

@@ -13,7 +13,10 @@ returns : tie.Need-returns
 returns c = rw (c .before .if1 .taken) (c .info-ref .ensures)
 
 returns-2 : tie.Need-returns-2
-returns-2 c = hfi-other (region (c .before .before .before .args .from) (length (c .before .before .before .args .heap .now))) (c .before .before .before .args .t .now) (c .before .before .before .args .a) (c .before .before .before .args .position) (c .before .before .before .args .off) (ne-eqb _ 16 (c .if1 .left))
+returns-2 c =
+    let start = c .before .before .before in
+    hfi-other (region (start .args .from) (length (start .args .heap .now))) (start .args .t .now) (start .args .a)
+    (start .args .position) (start .args .off) (ne-eqb _ 16 (c .if1 .left))
 
 pub hfi-ref-spec : {M : Type 1} → statement M
 hfi-ref-spec = tie.close (tie.spec info-ref-requires returns returns-2)

@@ -29,12 +29,15 @@ info-fault-requires c κs = search needs
 
 returns-2 : tie.Need-returns-2
 returns-2 c =
-    let s = c .before .before .before .before .before in
+    let at2 = c .before .before in
+    let s = at2 .before .before .before in
     let x = referenceAt (s .args .t .now) (s .args .a + 16) in
-    let r = part-some (s .args .heap .now) (s .args .from) (x .at) (x .len) (rw (c .before .before .part-at .ensures) at (c .before .if1 .left)) in
-    c .info-fault .ensures ∙ ap (partRule (region (s .args .from) (length (s .args .heap .now))) (spot (s .args .position)) (info .shape) (info .refs))
-    (c .before .before .part-at .ensures ∙ sym (part-yes (s .args .heap .now) (s .args .from) (x .at) (x .len) r)) ∙ info-yes (s .args .t .now) (s .args .heap .now)
-    (s .args .from) (s .args .a) (s .args .position) (s .pre .1) r
+    let r = part-some (s .args .heap .now) (s .args .from) (x .at) (x .len)
+    (rw (at2 .part-at .ensures) at (c .before .if1 .left)) in
+    c .info-fault .ensures
+    ∙ ap (partRule (region (s .args .from) (length (s .args .heap .now))) (spot (s .args .position)) (info .shape)
+    (info .refs)) (at2 .part-at .ensures ∙ sym (part-yes (s .args .heap .now) (s .args .from) (x .at) (x .len) r))
+    ∙ info-yes (s .args .t .now) (s .args .heap .now) (s .args .from) (s .args .a) (s .args .position) (s .pre .1) r
 
 pub info-ref-spec : {M : Type 1} → statement M
 info-ref-spec =

@@ -9,11 +9,15 @@ use Rattle.reader_rules.proofs.ref_fault.Tie as tie
 
 hfi-ref-requires : tie.Need-hfi-ref-requires
 unfolding layoutOf hfi
-hfi-ref-requires c κs = (rw (c .match .keys1) at (c .before .before .before .pre .1), c .before .before .before .pre .3)
+hfi-ref-requires c κs =
+    let start = c .before .before .before in
+    (rw (c .match .keys1) at (start .pre .1), start .pre .3)
 
 ssns-ref-requires : tie.Need-ssns-ref-requires
 unfolding layoutOf ssns
-ssns-ref-requires c κs = (rw (c .match .keys2) at (c .before .before .before .pre .1), c .before .before .before .pre .2, c .before .before .before .pre .3)
+ssns-ref-requires c κs =
+    let start = c .before .before .before in
+    (rw (c .match .keys2) at (start .pre .1), start .pre .2, start .pre .3)
 
 add-plain-fault : tie.Need-add-plain-fault
 add-plain-fault c = search needs
@@ -41,10 +45,20 @@ returns-2 : tie.Need-returns-2
 returns-2 c = rw (c .before .match .keys2) (c .ssns-ref .ensures)
 
 returns-3 : tie.Need-returns-3
-returns-3 c = rw (c .before .before .match .keys3, ← security-plain (region (c .before .before .before .before .before .args .from) (length (c .before .before .before .before .before .args .heap .now))) (c .before .before .before .before .before .args .t .now) (c .before .before .before .before .before .args .a) (c .before .before .before .before .before .args .position) (c .before .before .before .before .before .args .off)) (cc)
+returns-3 c =
+    let start = c .before .before .before .before .before in
+    rw (
+      c .before .before .match .keys3,
+      ← security-plain (region (start .args .from) (length (start .args .heap .now))) (start .args .t .now)
+          (start .args .a) (start .args .position) (start .args .off),
+    ) (cc)
 
 returns-4 : tie.Need-returns-4
-returns-4 c = rw (← plain-left (region (c .before .before .before .before .before .args .from) (length (c .before .before .before .before .before .args .heap .now))) (c .before .before .before .before .before .args .t .now) (c .before .before .before .before .before .args .a) (c .before .before .before .before .before .args .position) (c .before .before .before .before .before .args .off) (c .before .before .before .before .before .args .kind) (c .before .before .before .before .before .pre .0) (search picks) (search picks) (search picks)) (cc)
+returns-4 c =
+    let start = c .before .before .before .before .before in
+    rw (← plain-left (region (start .args .from) (length (start .args .heap .now))) (start .args .t .now)
+    (start .args .a) (start .args .position) (start .args .off) (start .args .kind) (start .pre .0) (search picks)
+    (search picks) (search picks)) (cc)
 
 pub ref-fault-spec : {M : Type 1} → statement M
 ref-fault-spec =

@@ -25,7 +25,11 @@ plain-fault-requires : tie.Need-plain-fault-requires
 plain-fault-requires c κs = search needs
 
 returns-2 : tie.Need-returns-2
-returns-2 c = rw (← ssns-plain (region (c .before .before .before .before .before .before .args .from) (length (c .before .before .before .before .before .before .args .heap .now))) (c .before .before .before .before .before .before .args .t .now) (c .before .before .before .before .before .before .args .a) (c .before .before .before .before .before .before .args .position) (c .before .before .before .before .before .before .args .off) (ne-eqb _ 60 (c .before .before .before .if1 .left))) (cc)
+returns-2 c =
+    let start = c .before .before .before .before .before .before in
+    rw (← ssns-plain (region (start .args .from) (length (start .args .heap .now))) (start .args .t .now)
+    (start .args .a) (start .args .position) (start .args .off) (ne-eqb _ 60 (c .before .before .before .if1 .left)))
+    (cc)
 
 pub ssns-ref-spec : {M : Type 1} → statement M
 ssns-ref-spec =

@@ -30,15 +30,20 @@ same-requires c κs = search needs
 
 returns : tie.Need-returns
 returns c =
-    let given = c .before .before .before .before .before .before .before .before .before .before .before .args in
+    let at7 = c .before .before .before .before .before .before .before in
+    let given = at7 .before .before .before .before .args in
     let t = given .t .now in
     let u = given .u .now in
-    let p : Bytes t = λ i. omega (arith, c .before .before .before .before .before .before .before .before .before .before .shared-slice-known .given i) in
-    let q : Bytes u = λ i. omega (arith, c .before .before .before .before .before .before .before .before .before .shared-slice-known2 .given i) in
-    let one = c .before .before .before .before .before .before .before .before .form-of .ensures in
-    let other = c .before .before .before .before .before .before .before .form-of2 .ensures in
-    let same = c .before .before .same .ensures in
-    (one .0, other .0, λ x y. same-tells t u _ _ _ (rewritable t limit p (sym (ap numberOf (one .0)) ∙ x)) (rewritable u limit q (sym (ap numberOf (other .0)) ∙ y)) (one .2 x) (other .2 y) (same .0) (same .1))
+    let p : Bytes t = λ i. omega (arith, at7 .before .before .before .shared-slice-known .given i) in
+    let q : Bytes u = λ i. omega (arith, at7 .before .before .shared-slice-known2 .given i) in
+    let one = at7 .before .form-of .ensures in
+    let other = at7 .form-of2 .ensures in
+    let same = c .before .before .same .ensures in (
+      one .0,
+      other .0,
+      λ x y. same-tells t u _ _ _ (rewritable t limit p (sym (ap numberOf (one .0)) ∙ x))
+          (rewritable u limit q (sym (ap numberOf (other .0)) ∙ y)) (one .2 x) (other .2 y) (same .0) (same .1),
+    )
 
 pub compare-spec : {M : Type 1} → statement M
 compare-spec =

@@ -20,17 +20,22 @@ rewrite-requires c κs = search needs
 returns : tie.Need-returns
 unfolding limit
 returns c =
-    let a = c .before .before .before .before .before .before .args in
+    let at2 = c .before .before in
+    let at4 = at2 .before .before in
+    let a = at4 .before .before .args in
     let t = a .t .now in
-    let out = c .before .before .before .before .large-buffer .result in
-    let long = c .before .before .before .before .large-buffer .ensures in
-    let left = c .before .before .rewrite .last .1 .0 in
-    let r = c .before .before .rewrite .result in
-    let made = c .before .before .rewrite .ensures .0 in
-    let stored = c .before .before .rewrite .ensures .1 in
-    let kept = c .before .before .rewrite .kept .1 .0 in
-    let b : Bytes t = λ i. omega (arith, c .before .before .before .before .before .shared-slice-known .given i) in
-    (made-answer t out left r made stored kept ∙ ap (rewriteAnswer t) (sym long), made-counts t out left r made stored kept, made-form t out left r made stored kept b)
+    let out = at4 .large-buffer .result in
+    let long = at4 .large-buffer .ensures in
+    let left = at2 .rewrite .last .1 .0 in
+    let r = at2 .rewrite .result in
+    let made = at2 .rewrite .ensures .0 in
+    let stored = at2 .rewrite .ensures .1 in
+    let kept = at2 .rewrite .kept .1 .0 in
+    let b : Bytes t = λ i. omega (arith, at4 .before .shared-slice-known .given i) in (
+      made-answer t out left r made stored kept ∙ ap (rewriteAnswer t) (sym long),
+      made-counts t out left r made stored kept,
+      made-form t out left r made stored kept b,
+    )
 
 pub form-of-spec : {M : Type 1} → statement M
 form-of-spec =

@@ -20,7 +20,11 @@ part-form-sum-end : tie.Need-part-form-sum-end
 part-form-sum-end c = search needs
 
 form-sum-requires : tie.Need-form-sum-requires
-form-sum-requires c κs = let s = c .before .before .before .before in let a = s .args in let l = length-take-le (a .size) (a .out .now) (s .pre .0 .1) in rw (sub-zero (a .size)) (s .pre .0 .2, omega (arith, l, s .pre .1 .0), s .pre .1 .1)
+form-sum-requires c κs =
+    let s = c .before .before .before .before in
+    let a = s .args in
+    let l = length-take-le (a .size) (a .out .now) (s .pre .0 .1) in
+    rw (sub-zero (a .size)) (s .pre .0 .2, omega (arith, l, s .pre .1 .0), s .pre .1 .1)
 
 wrapping-sub-u8-requires : tie.Need-wrapping-sub-u8-requires
 wrapping-sub-u8-requires c κs = search needs
@@ -32,9 +36,14 @@ same-length : tie.Need-same-length
 same-length c = search needs
 
 returns : tie.Need-returns
-returns c = let a = c .before .before .before .before .before .before .before .before .before .before .args in
-    let e : c .before .before .before .before .before .form-sum .result ≡ total (take (a .size) (a .out .now)) % 256 = c .before .before .before .before .before .form-sum .ensures ∙ ap (λ (m : ℕ). total (take m (a .out .now)) % 256) (sub-zero (a .size)) in
-    let f : c .before .before .before .wrapping-sub-u8 .result ≡ checksum (take (a .size) (a .out .now)) = omega (arith, e, c .before .before .before .wrapping-sub-u8 .ensures) in
+returns c =
+    let at3 = c .before .before .before in
+    let at5 = at3 .before .before in
+    let a = at5 .before .before .before .before .before .args in
+    let e : at5 .form-sum .result ≡ total (take (a .size) (a .out .now)) % 256 = at5 .form-sum .ensures ∙ ap
+    (λ (m : ℕ). total (take m (a .out .now)) % 256) (sub-zero (a .size)) in
+    let f : at3 .wrapping-sub-u8 .result ≡ checksum (take (a .size) (a .out .now)) =
+    omega (arith, e, at3 .wrapping-sub-u8 .ensures) in
     c .before .before .put-u8 .ensures ∙ ap (λ (x : ℕ). splice (a .out .now) 9 (x ∷ [])) f
 
 pub seal-spec : {M : Type 1} → statement M

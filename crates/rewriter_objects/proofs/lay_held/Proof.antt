@@ -21,7 +21,9 @@ put-slot-requires c κs = search needs
 
 put-record-requires : tie.Need-put-record-requires
 unfolding recordPart
-put-record-requires c κs = let s = c .before .before .before .before .before .before .before .before in (s .pre .0 .0, s .pre .0 .1, omega (arith, s .pre .1, c .before .before .before .put-slot .kept .0))
+put-record-requires c κs =
+    let s = c .before .before .before .before .before .before .before .before in
+    (s .pre .0 .0, s .pre .0 .1, omega (arith, s .pre .1, c .before .before .before .put-slot .kept .0))
 
 add-lay-objects : tie.Need-add-lay-objects
 unfolding recordPart
@@ -29,18 +31,41 @@ add-lay-objects c = search needs
 
 lay-objects-requires : tie.Need-lay-objects-requires
 unfolding recordPart
-lay-objects-requires c κs = let s = c .before .before .before .before .before .before .before .before .before .before .before .before in let b = c .before .before .before .before .before .before .before .before .before .base-size .ensures in (s .pre .0, (omega (arith, b), omega (arith, b, s .pre .1, c .before .before .before .before .before .before .before .put-slot .kept .0, c .before .before .before .put-record .kept .0)))
+lay-objects-requires c κs =
+    let at7 = c .before .before .before .before .before .before .before in
+    let s = at7 .before .before .before .before .before in
+    let b = at7 .before .before .base-size .ensures in (
+      s .pre .0,
+      (
+        omega (arith, b),
+        omega (arith, b, s .pre .1, at7 .put-slot .kept .0, c .before .before .before .put-record .kept .0),
+      ),
+    )
 
 same-length : tie.Need-same-length
 same-length c = search needs
 
 returns : tie.Need-returns
 unfolding recordPart
-returns c = let s = c .before .before .before .before .before .before .before .before .before .before .before .before .before .before .before in let a = s .args in let t = a .t .now in let k = a .kind in let x = a .out .now in let b = c .before .before .before .before .before .before .before .before .before .before .before .before .base-size .ensures in let l = c .before .before .lay-objects .ensures in (
-  omega (arith, l .0, b),
-  held-laid t (s .pre .0 .0) k (a .source) (s .pre .0 .1) x (c .before .before .lay-objects .last .0) (a .slot) (a .next) (s .pre .1 .0) (s .pre .1 .1)
-      (l .1 ∙ ap₂ (λ (y : List ℕ) (v : ℕ). named y (a .next) (a .next + v) (slotsIn (layoutOf k) t (a .source))) (c .before .before .before .before .before .before .put-record .ensures ∙ ap (λ (y : List ℕ). splice y (a .next) (imageIn (layoutOf k) t (a .source))) (c .before .before .before .before .before .before .before .before .before .before .put-slot .ensures ∙ ap (λ (m : ℕ). splice x (a .slot) (refNum (a .next) m)) b)) b),
-)
+returns c =
+    let at2 = c .before .before in
+    let at6 = at2 .before .before .before .before in
+    let at10 = at6 .before .before .before .before in
+    let s = at10 .before .before .before .before .before in
+    let a = s .args in
+    let t = a .t .now in
+    let k = a .kind in
+    let x = a .out .now in
+    let b = at10 .before .before .base-size .ensures in
+    let l = at2 .lay-objects .ensures in (
+      omega (arith, l .0, b),
+      held-laid t (s .pre .0 .0) k (a .source) (s .pre .0 .1) x (at2 .lay-objects .last .0) (a .slot) (a .next)
+          (s .pre .1 .0) (s .pre .1 .1) (l .1
+          ∙ ap₂ (λ (y : List ℕ) (v : ℕ). named y (a .next) (a .next + v) (slotsIn (layoutOf k) t (a .source)))
+          (at6 .put-record .ensures
+          ∙ ap (λ (y : List ℕ). splice y (a .next) (imageIn (layoutOf k) t (a .source)))
+          (at10 .put-slot .ensures ∙ ap (λ (m : ℕ). splice x (a .slot) (refNum (a .next) m)) b)) b),
+    )
 
 pub lay-held-spec : {M : Type 1} → statement M
 lay-held-spec =

@@ -27,14 +27,59 @@ same-length : tie.Need-same-length
 same-length c = search needs
 
 returns : tie.Need-returns
-returns c = let s = c .before .before .before .before .before .before .before .before in let a = s .args in let t = a .t .now in let k = a .kind in let ok = s .pre .0 .0 in let d = s .pre .0 .1 in let w = s .pre .0 .2 in let o = c .before .before .before .before .before .object-len in let r = refNum (a .next) (partAt t k (a .source) (a .offset) .len) in
-    (omega (arith, object-size t ok k (a .source) d (a .offset) w (o .result) (o .ensures .0), c .if1 .taken), c .before .before .before .put-slot .ensures ∙ ap (λ (m : ℕ). splice (a .out .now) (a .place + a .offset) (refNum (a .next) m)) (object-len t ok k (a .source) d (a .offset) w (o .result) (o .ensures .0)) ∙ splice-none (splice (a .out .now) (a .place + a .offset) r) (a .next) ∙ ap (λ (g : List ℕ). laid (a .out .now) (a .place + a .offset) r (a .next) g) (sym (object-none t ok k (a .source) d (a .offset) w (o .result) (o .ensures .0) (c .if1 .taken) (a .next))))
+returns c =
+    let at5 = c .before .before .before .before .before in
+    let s = at5 .before .before .before in
+    let a = s .args in
+    let t = a .t .now in
+    let k = a .kind in
+    let ok = s .pre .0 .0 in
+    let d = s .pre .0 .1 in
+    let w = s .pre .0 .2 in
+    let o = at5 .object-len in
+    let r = refNum (a .next) (partAt t k (a .source) (a .offset) .len) in (
+      omega (arith, object-size t ok k (a .source) d (a .offset) w (o .result) (o .ensures .0), c .if1 .taken),
+      c .before .before .before .put-slot .ensures
+          ∙ ap (λ (m : ℕ). splice (a .out .now) (a .place + a .offset) (refNum (a .next) m))
+          (object-len t ok k (a .source) d (a .offset) w (o .result) (o .ensures .0))
+          ∙ splice-none (splice (a .out .now) (a .place + a .offset) r) (a .next)
+          ∙ ap (λ (g : List ℕ). laid (a .out .now) (a .place + a .offset) r (a .next) g)
+          (sym (object-none t ok k (a .source) d (a .offset) w (o .result) (o .ensures .0) (c .if1 .taken) (a .next))),
+    )
 
 object-bytes-requires : tie.Need-object-bytes-requires
-object-bytes-requires c κs = let s = c .before .before .before .before .before .before .before .before .before in let a = s .args in let t = a .t .now in let k = a .kind in let ok = s .pre .0 .0 in let d = s .pre .0 .1 in let w = s .pre .0 .2 in let o = c .before .before .before .before .before .before .object-len in ((ok, d, w), (o .ensures .0, omega (arith, c .before .if1 .left)))
+object-bytes-requires c κs =
+    let at6 = c .before .before .before .before .before .before in
+    let s = at6 .before .before .before in
+    let a = s .args in
+    let t = a .t .now in
+    let k = a .kind in
+    let ok = s .pre .0 .0 in
+    let d = s .pre .0 .1 in
+    let w = s .pre .0 .2 in
+    let o = at6 .object-len in
+    ((ok, d, w), (o .ensures .0, omega (arith, c .before .if1 .left)))
 
 copy-into-requires : tie.Need-copy-into-requires
-copy-into-requires c κs = let s = c .before .before .before .before .before .before .before .before .before .before in let a = s .args in let t = a .t .now in let k = a .kind in let ok = s .pre .0 .0 in let d = s .pre .0 .1 in let w = s .pre .0 .2 in let o = c .before .before .before .before .before .before .before .object-len in let x = c .object-bytes in omega (arith, object-size t ok k (a .source) d (a .offset) w (o .result) (o .ensures .0), ap length (object-laid t ok k (a .source) d (a .offset) w (x .result .now) (x .ensures) 0) ∙ bytes-long t ok k (a .source) d 0 (a .offset), s .pre .1, c .before .before .before .before .before .put-slot .kept .0)
+copy-into-requires c κs =
+    let at5 = c .before .before .before .before .before in
+    let s = at5 .before .before .before .before .before in
+    let a = s .args in
+    let t = a .t .now in
+    let k = a .kind in
+    let ok = s .pre .0 .0 in
+    let d = s .pre .0 .1 in
+    let w = s .pre .0 .2 in
+    let o = at5 .before .before .object-len in
+    let x = c .object-bytes in
+    omega (
+      arith,
+      object-size t ok k (a .source) d (a .offset) w (o .result) (o .ensures .0),
+      ap length (object-laid t ok k (a .source) d (a .offset) w (x .result .now) (x .ensures) 0)
+          ∙ bytes-long t ok k (a .source) d 0 (a .offset),
+      s .pre .1,
+      at5 .put-slot .kept .0,
+    )
 
 add-result : tie.Need-add-result
 add-result c = search needs
@@ -43,7 +88,24 @@ same-length-2 : tie.Need-same-length-2
 same-length-2 c = search needs
 
 returns-2 : tie.Need-returns-2
-returns-2 c = let s = c .before .before .before .before .before .before .before .before .before .before .before .before .before in let a = s .args in let t = a .t .now in let k = a .kind in let ok = s .pre .0 .0 in let d = s .pre .0 .1 in let w = s .pre .0 .2 in let o = c .before .before .before .before .before .before .before .before .before .before .object-len in let x = c .before .before .before .object-bytes in (ap (λ (m : ℕ). a .next + m) (object-size t ok k (a .source) d (a .offset) w (o .result) (o .ensures .0)), c .before .before .copy-into .ensures ∙ ap₂ (λ (y g : List ℕ). splice y (a .next) g) (c .before .before .before .before .before .before .before .before .put-slot .ensures ∙ ap (λ (m : ℕ). splice (a .out .now) (a .place + a .offset) (refNum (a .next) m)) (object-len t ok k (a .source) d (a .offset) w (o .result) (o .ensures .0))) (object-laid t ok k (a .source) d (a .offset) w (x .result .now) (x .ensures) (a .next)))
+returns-2 c =
+    let at8 = c .before .before .before .before .before .before .before .before in
+    let s = at8 .before .before .before .before .before in
+    let a = s .args in
+    let t = a .t .now in
+    let k = a .kind in
+    let ok = s .pre .0 .0 in
+    let d = s .pre .0 .1 in
+    let w = s .pre .0 .2 in
+    let o = at8 .before .before .object-len in
+    let x = c .before .before .before .object-bytes in (
+      ap (λ (m : ℕ). a .next + m) (object-size t ok k (a .source) d (a .offset) w (o .result) (o .ensures .0)),
+      c .before .before .copy-into .ensures
+          ∙ ap₂ (λ (y g : List ℕ). splice y (a .next) g) (at8 .put-slot .ensures
+          ∙ ap (λ (m : ℕ). splice (a .out .now) (a .place + a .offset) (refNum (a .next) m))
+          (object-len t ok k (a .source) d (a .offset) w (o .result) (o .ensures .0)))
+          (object-laid t ok k (a .source) d (a .offset) w (x .result .now) (x .ensures) (a .next)),
+    )
 
 pub lay-object-spec : {M : Type 1} → statement M
 lay-object-spec =

@@ -28,10 +28,20 @@ element-copy-out-lay-object : tie.Need-element-copy-out-lay-object Inv-loop μ-l
 element-copy-out-lay-object c = search picks
 
 lay-object-requires : tie.Need-lay-object-requires Inv-loop μ-loop
-lay-object-requires c κs = let s = c .before .before .before .before .before .before .before in let a = s .args in let k = a .kind in let r = c .before .before .before .before .reference-offsets in let l = c .before .before .before .loop in let h = c .before .before .loop-test .taken in
+lay-object-requires c κs =
+    let at4 = c .before .before .before .before in
+    let s = at4 .before .before .before in
+    let a = s .args in
+    let k = a .kind in
+    let r = at4 .reference-offsets in
+    let l = c .before .before .before .loop in
+    let h = c .before .before .loop-test .taken in
     let b : l .i < length (refsOf k) = omega (arith, h, r .ensures .1) in
-    let o = offset-is (r .result .at) (refsOf k) (r .result .count) (l .i) (r .ensures .0) (r .ensures .1) h in
-    ((s .pre .0 .0, s .pre .0 .1, rw o (plain-each k (s .pre .0 .2) (l .i) b)), walk-room (a .t .now) (s .pre .0 .0) k (a .source) (s .pre .0 .1) (a .out .now) (a .place) (a .next) (s .pre .1 .0) (s .pre .1 .1) (l .out) (l .cursor) (l .i) (l .inv .1) _ b o)
+    let o = offset-is (r .result .at) (refsOf k) (r .result .count) (l .i) (r .ensures .0) (r .ensures .1) h in (
+      (s .pre .0 .0, s .pre .0 .1, rw o (plain-each k (s .pre .0 .2) (l .i) b)),
+      walk-room (a .t .now) (s .pre .0 .0) k (a .source) (s .pre .0 .1) (a .out .now) (a .place) (a .next)
+          (s .pre .1 .0) (s .pre .1 .1) (l .out) (l .cursor) (l .i) (l .inv .1) _ b o,
+    )
 
 add-i : tie.Need-add-i Inv-loop μ-loop
 add-i c = search picks
@@ -40,15 +50,34 @@ loop-less : tie.Need-loop-less Inv-loop μ-loop
 loop-less c = omega (arith, c .before .before .before .before .before .loop-test .taken)
 
 loop-again : tie.Need-loop-again Inv-loop μ-loop
-loop-again c = let s = c .before .before .before .before .before .before .before .before .before .before in let a = s .args in let k = a .kind in let r = c .before .before .before .before .before .before .before .reference-offsets in let l = c .before .before .before .before .before .before .loop in let h = c .before .before .before .before .before .loop-test .taken in let q = c .before .before .lay-object in
-    (omega (arith, h), walk-turn (a .t .now) (s .pre .0 .0) k (a .source) (s .pre .0 .1) (a .out .now) (a .place) (a .next) (s .pre .1 .0) (s .pre .1 .1) (l .out) (l .cursor) (l .i) (l .inv .1) _ (omega (arith, h, r .ensures .1)) (offset-is (r .result .at) (refsOf k) (r .result .count) (l .i) (r .ensures .0) (r .ensures .1) h) (q .last .0) (q .result) (q .ensures .0) (q .kept .0) (q .ensures .1))
+loop-again c =
+    let at5 = c .before .before .before .before .before in
+    let s = at5 .before .before .before .before .before in
+    let a = s .args in
+    let k = a .kind in
+    let r = at5 .before .before .reference-offsets in
+    let l = at5 .before .loop in
+    let h = at5 .loop-test .taken in
+    let q = c .before .before .lay-object in (
+      omega (arith, h),
+      walk-turn (a .t .now) (s .pre .0 .0) k (a .source) (s .pre .0 .1) (a .out .now) (a .place) (a .next)
+          (s .pre .1 .0) (s .pre .1 .1) (l .out) (l .cursor) (l .i) (l .inv .1) _ (omega (arith, h, r .ensures .1))
+          (offset-is (r .result .at) (refsOf k) (r .result .count) (l .i) (r .ensures .0) (r .ensures .1) h)
+          (q .last .0) (q .result) (q .ensures .0) (q .kept .0) (q .ensures .1),
+    )
 
 same-length : tie.Need-same-length Inv-loop μ-loop
 same-length c = search picks
 
 returns : tie.Need-returns Inv-loop μ-loop
-returns c = let s = c .before .before .before .before .before in let a = s .args in let r = c .before .before .reference-offsets in let l = c .before .loop in
-    walk-done (a .t .now) (s .pre .0 .0) (a .kind) (a .source) (s .pre .0 .1) (a .out .now) (a .place) (a .next) (s .pre .1 .0) (s .pre .1 .1) (l .out) (l .cursor) (l .i) (l .inv .1) (omega (arith, c .loop-test .left, l .inv .0, r .ensures .1))
+returns c =
+    let s = c .before .before .before .before .before in
+    let a = s .args in
+    let r = c .before .before .reference-offsets in
+    let l = c .before .loop in
+    walk-done (a .t .now) (s .pre .0 .0) (a .kind) (a .source) (s .pre .0 .1) (a .out .now) (a .place) (a .next)
+    (s .pre .1 .0) (s .pre .1 .1) (l .out) (l .cursor) (l .i) (l .inv .1)
+    (omega (arith, c .loop-test .left, l .inv .0, r .ensures .1))
 
 pub lay-objects-spec : {M : Type 1} → statement M
 lay-objects-spec =

@@ -19,14 +19,24 @@ enum-known-seat c = search needs
 
 lay-held-requires : tie.Need-lay-held-requires
 unfolding recordPart
-lay-held-requires c κs = let s = c .before .before .before .before .before .before in ((s .pre .0 .0, rw (c .before .before .seat .given .1) at (s .pre .0 .1), s .pre .0 .2), rw (c .before .before .seat .given .1) at (s .pre .1))
+lay-held-requires c κs =
+    let at2 = c .before .before in
+    let s = at2 .before .before .before .before in
+    ((s .pre .0 .0, rw (at2 .seat .given .1) at (s .pre .0 .1), s .pre .0 .2), rw (at2 .seat .given .1) at (s .pre .1))
 
 same-length : tie.Need-same-length
 same-length c = search needs
 
 returns : tie.Need-returns
 unfolding recordPart recordBytes
-returns c = let a = c .before .before .before .before .before .before .before .before .args in rw (c .before .before .before .before .enum-told .given .1) (sym (add-zero (a .next)), c .before .before .put-slot .ensures ∙ splice-none (splice (a .out .now) (a .slot) (refNum (a .next) 0)) (a .next))
+returns c =
+    let at4 = c .before .before .before .before in
+    let a = at4 .before .before .before .before .args in
+    rw (at4 .enum-told .given .1) (
+      sym (add-zero (a .next)),
+      c .before .before .put-slot .ensures
+          ∙ splice-none (splice (a .out .now) (a .slot) (refNum (a .next) 0)) (a .next),
+    )
 
 same-length-2 : tie.Need-same-length-2
 same-length-2 c = search needs

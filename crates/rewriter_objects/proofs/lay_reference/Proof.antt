@@ -34,8 +34,16 @@ heap-record-requires : tie.Need-heap-record-requires
 heap-record-requires c κs = search needs
 
 lay-record-requires : tie.Need-lay-record-requires
-lay-record-requires c κs = let s = c .before .before .before .before .before .before .before in let a = s .args in let t = a .t .now in let k = a .kind in let ok = s .pre .0 .0 in let d = s .pre .0 .1 in
-    let w = ap (λ (q : Part). q .span) (nest-part t ok k (a .source) d (a .offset) (sym (c .before .before .before .before .has-object .ensures) ∙ c .before .before .before .if1 .left)) in
+lay-record-requires c κs =
+    let at4 = c .before .before .before .before in
+    let s = at4 .before .before .before in
+    let a = s .args in
+    let t = a .t .now in
+    let k = a .kind in
+    let ok = s .pre .0 .0 in
+    let d = s .pre .0 .1 in
+    let w = ap (λ (q : Part). q .span) (nest-part t ok k (a .source) d (a .offset)
+    (sym (at4 .has-object .ensures) ∙ c .before .before .before .if1 .left)) in
     rw (c .before .inner-kind .ensures, c .heap-record .ensures)
     ((ok, record-held t ok (a .source) k (refl, d), inner-plain k), (s .pre .1 .0, omega (arith, w, s .pre .1 .1)))
 
@@ -43,12 +51,29 @@ same-length-2 : tie.Need-same-length-2
 same-length-2 c = search needs
 
 returns-2 : tie.Need-returns-2
-returns-2 c = let s = c .before .before .before .before .before .before .before .before .before .before in let a = s .args in let t = a .t .now in let k = a .kind in let ok = s .pre .0 .0 in let d = s .pre .0 .1 in let e = sym (c .before .before .before .before .before .before .before .has-object .ensures) ∙ c .before .before .before .before .before .before .if1 .left in
+returns-2 c =
+    let at3 = c .before .before .before in
+    let at7 = at3 .before .before .before .before in
+    let s = at7 .before .before .before in
+    let a = s .args in
+    let t = a .t .now in
+    let k = a .kind in
+    let ok = s .pre .0 .0 in
+    let d = s .pre .0 .1 in
+    let e = sym (at7 .has-object .ensures) ∙ at3 .before .before .before .if1 .left in
     let np = nest-part t ok k (a .source) d (a .offset) e in
     let nb = nest-bytes t ok k (a .source) d (a .next) (a .offset) e in
-    let l = c .before .before .lay-record .ensures in let x = a .out .now in let h = a .next in (
-      l .0 ∙ ap₂ (λ (i : ℕ) (w : Seat). h + recordPart t i w .span) (c .before .before .before .before .inner-kind .ensures) (c .before .before .before .heap-record .ensures) ∙ sym (ap (λ (q : Part). h + q .span) np),
-      l .1 ∙ ap₂ (λ (i : ℕ) (w : Seat). laid x (a .place + a .offset) (refNum h (recordPart t i w .len)) h (recordBytes t i h w)) (c .before .before .before .before .inner-kind .ensures) (c .before .before .before .heap-record .ensures) ∙ sym (ap₂ (λ (q : Part) (g : List ℕ). laid x (a .place + a .offset) (refNum h (q .len)) h g) np nb),
+    let l = c .before .before .lay-record .ensures in
+    let x = a .out .now in
+    let h = a .next in (
+      l .0
+          ∙ ap₂ (λ (i : ℕ) (w : Seat). h + recordPart t i w .span) (at3 .before .inner-kind .ensures)
+          (at3 .heap-record .ensures)
+          ∙ sym (ap (λ (q : Part). h + q .span) np),
+      l .1
+          ∙ ap₂ (λ (i : ℕ) (w : Seat). laid x (a .place + a .offset) (refNum h (recordPart t i w .len)) h
+          (recordBytes t i h w)) (at3 .before .inner-kind .ensures) (at3 .heap-record .ensures)
+          ∙ sym (ap₂ (λ (q : Part) (g : List ℕ). laid x (a .place + a .offset) (refNum h (q .len)) h g) np nb),
     )
 
 pub lay-reference-spec : {M : Type 1} → statement M

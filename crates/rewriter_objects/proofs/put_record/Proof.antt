@@ -37,11 +37,18 @@ same-length c = search needs
 
 returns : tie.Need-returns
 unfolding imageIn
-returns c = let s = c .before .before .before .before .before .before .before in let a = s .args in let x = a .out .now in let b = c .before .before .before .before .base-size in
+returns c =
+    let at4 = c .before .before .before .before in
+    let s = at4 .before .before .before in
+    let a = s .args in
+    let x = a .out .now in
+    let b = at4 .base-size in
     let y = c .before .before .image-into in
     let k : ℕ = a .place + b .result - a .place in
-    let l : length (take k (drop (a .place) x)) ≡ k = length-take-le k (drop (a .place) x) (rw length-drop (omega (arith, b .ensures, s .pre .2))) in
-    lent x (a .place) k (y .last .0) (y .kept .0 ∙ l) ∙ ap (splice x (a .place)) (y .ensures ∙ image-front (layoutOf (a .kind)) (a .t .now) (a .source))
+    let l : length (take k (drop (a .place) x)) ≡ k = length-take-le k (drop (a .place) x)
+    (rw length-drop (omega (arith, b .ensures, s .pre .2))) in
+    lent x (a .place) k (y .last .0) (y .kept .0 ∙ l)
+    ∙ ap (splice x (a .place)) (y .ensures ∙ image-front (layoutOf (a .kind)) (a .t .now) (a .source))
 
 pub put-record-spec : {M : Type 1} → statement M
 put-record-spec =

@@ -22,8 +22,22 @@ same-length : tie.Need-same-length
 same-length c = search needs
 
 returns : tie.Need-returns
-returns c = let s = c .before .before .before .before .before .before .before .before .before .before in let a = s .args in let t = a .t .now in let k = a .kind in let ok = s .pre .0 .0 in let d = s .pre .0 .1 in let n = c .before .before .lay-named .ensures in
-    (n .0, n .1 ∙ ap (λ (x : List ℕ). splice (applyAt x (a .place) (stores (a .next) (slotsIn (layoutOf k) t (a .source)))) (a .next) (heapOf (a .next) (slotsIn (layoutOf k) t (a .source)))) (c .before .before .before .before .before .before .put-record .ensures) ∙ ap (λ (x : List ℕ). splice x (a .next) (heapOf (a .next) (slotsIn (layoutOf k) t (a .source)))) (record-laid t ok k (a .source) d (a .out .now) (a .place) (a .next) (omega (arith, s .pre .1))))
+returns c =
+    let at6 = c .before .before .before .before .before .before in
+    let s = at6 .before .before .before .before in
+    let a = s .args in
+    let t = a .t .now in
+    let k = a .kind in
+    let ok = s .pre .0 .0 in
+    let d = s .pre .0 .1 in
+    let n = c .before .before .lay-named .ensures in (
+      n .0,
+      n .1
+          ∙ ap (λ (x : List ℕ). splice (applyAt x (a .place) (stores (a .next) (slotsIn (layoutOf k) t (a .source))))
+          (a .next) (heapOf (a .next) (slotsIn (layoutOf k) t (a .source)))) (at6 .put-record .ensures)
+          ∙ ap (λ (x : List ℕ). splice x (a .next) (heapOf (a .next) (slotsIn (layoutOf k) t (a .source))))
+          (record-laid t ok k (a .source) d (a .out .now) (a .place) (a .next) (omega (arith, s .pre .1))),
+    )
 
 pub lay-listed-spec : {M : Type 1} → statement M
 lay-listed-spec = tie.close (tie.spec put-record-requires lay-named-requires same-length returns)

@@ -27,8 +27,19 @@ element-copy-out-lay-reference : tie.Need-element-copy-out-lay-reference Inv-loo
 element-copy-out-lay-reference c = search picks
 
 lay-reference-requires : tie.Need-lay-reference-requires Inv-loop μ-loop
-lay-reference-requires c κs = let s = c .before .before .before .before .before .before .before in let a = s .args in let k = a .kind in let r = c .before .before .before .before .reference-offsets in let l = c .before .before .before .loop in let h = c .before .before .loop-test .taken in
-    (s .pre .0, walk-room (a .t .now) (s .pre .0 .0) k (a .source) (s .pre .0 .1) (a .out .now) (a .place) (a .next) (s .pre .1 .0) (s .pre .1 .1) (l .out) (l .cursor) (l .i) (l .inv .1) _ (omega (arith, h, r .ensures .1)) (offset-is (r .result .at) (refsOf k) (r .result .count) (l .i) (r .ensures .0) (r .ensures .1) h))
+lay-reference-requires c κs =
+    let at4 = c .before .before .before .before in
+    let s = at4 .before .before .before in
+    let a = s .args in
+    let k = a .kind in
+    let r = at4 .reference-offsets in
+    let l = c .before .before .before .loop in
+    let h = c .before .before .loop-test .taken in (
+      s .pre .0,
+      walk-room (a .t .now) (s .pre .0 .0) k (a .source) (s .pre .0 .1) (a .out .now) (a .place) (a .next)
+          (s .pre .1 .0) (s .pre .1 .1) (l .out) (l .cursor) (l .i) (l .inv .1) _ (omega (arith, h, r .ensures .1))
+          (offset-is (r .result .at) (refsOf k) (r .result .count) (l .i) (r .ensures .0) (r .ensures .1) h),
+    )
 
 add-i : tie.Need-add-i Inv-loop μ-loop
 add-i c = search picks
@@ -37,15 +48,34 @@ loop-less : tie.Need-loop-less Inv-loop μ-loop
 loop-less c = omega (arith, c .before .before .before .before .before .loop-test .taken)
 
 loop-again : tie.Need-loop-again Inv-loop μ-loop
-loop-again c = let s = c .before .before .before .before .before .before .before .before .before .before in let a = s .args in let k = a .kind in let r = c .before .before .before .before .before .before .before .reference-offsets in let l = c .before .before .before .before .before .before .loop in let h = c .before .before .before .before .before .loop-test .taken in let q = c .before .before .lay-reference in
-    (omega (arith, h), walk-turn (a .t .now) (s .pre .0 .0) k (a .source) (s .pre .0 .1) (a .out .now) (a .place) (a .next) (s .pre .1 .0) (s .pre .1 .1) (l .out) (l .cursor) (l .i) (l .inv .1) _ (omega (arith, h, r .ensures .1)) (offset-is (r .result .at) (refsOf k) (r .result .count) (l .i) (r .ensures .0) (r .ensures .1) h) (q .last .0) (q .result) (q .ensures .0) (q .kept .0) (q .ensures .1))
+loop-again c =
+    let at5 = c .before .before .before .before .before in
+    let s = at5 .before .before .before .before .before in
+    let a = s .args in
+    let k = a .kind in
+    let r = at5 .before .before .reference-offsets in
+    let l = at5 .before .loop in
+    let h = at5 .loop-test .taken in
+    let q = c .before .before .lay-reference in (
+      omega (arith, h),
+      walk-turn (a .t .now) (s .pre .0 .0) k (a .source) (s .pre .0 .1) (a .out .now) (a .place) (a .next)
+          (s .pre .1 .0) (s .pre .1 .1) (l .out) (l .cursor) (l .i) (l .inv .1) _ (omega (arith, h, r .ensures .1))
+          (offset-is (r .result .at) (refsOf k) (r .result .count) (l .i) (r .ensures .0) (r .ensures .1) h)
+          (q .last .0) (q .result) (q .ensures .0) (q .kept .0) (q .ensures .1),
+    )
 
 same-length : tie.Need-same-length Inv-loop μ-loop
 same-length c = search picks
 
 returns : tie.Need-returns Inv-loop μ-loop
-returns c = let s = c .before .before .before .before .before in let a = s .args in let r = c .before .before .reference-offsets in let l = c .before .loop in
-    walk-done (a .t .now) (s .pre .0 .0) (a .kind) (a .source) (s .pre .0 .1) (a .out .now) (a .place) (a .next) (s .pre .1 .0) (s .pre .1 .1) (l .out) (l .cursor) (l .i) (l .inv .1) (omega (arith, c .loop-test .left, l .inv .0, r .ensures .1))
+returns c =
+    let s = c .before .before .before .before .before in
+    let a = s .args in
+    let r = c .before .before .reference-offsets in
+    let l = c .before .loop in
+    walk-done (a .t .now) (s .pre .0 .0) (a .kind) (a .source) (s .pre .0 .1) (a .out .now) (a .place) (a .next)
+    (s .pre .1 .0) (s .pre .1 .1) (l .out) (l .cursor) (l .i) (l .inv .1)
+    (omega (arith, c .loop-test .left, l .inv .0, r .ensures .1))
 
 pub lay-named-spec : {M : Type 1} → statement M
 lay-named-spec =

@@ -16,7 +16,13 @@ same-length : tie.Need-same-length
 same-length c = search needs
 
 returns : tie.Need-returns
-returns c = let a = c .before .before .before .before .before .before .args in (refl, c .before .before .fill-zero .ensures ∙ ap (λ (n : ℕ). splice (a .out .now) (a .place) (replicate n 0)) (c .before .before .before .before .base-size .ensures))
+returns c =
+    let at4 = c .before .before .before .before in
+    let a = at4 .before .before .args in (
+      refl,
+      c .before .before .fill-zero .ensures
+          ∙ ap (λ (n : ℕ). splice (a .out .now) (a .place) (replicate n 0)) (at4 .base-size .ensures),
+    )
 
 pub lay-unused-spec : {M : Type 1} → statement M
 lay-unused-spec = tie.close (tie.spec base-size-requires fill-zero-requires same-length returns)

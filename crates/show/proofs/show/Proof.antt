@@ -21,7 +21,9 @@ returns-2 : tie.Need-returns-2
 returns-2 c = search needs
 
 print-people-requires : tie.Need-print-people-requires
-print-people-requires c κs = accepted (c .before .before .before .before .before .args .t .now) (sym (ap (λ (x : Answer). x .number) (c .before .before .before .check .ensures)) ∙ c .before .if1 .left)
+print-people-requires c κs =
+    accepted (c .before .before .before .before .before .args .t .now)
+    (sym (ap (λ (x : Answer). x .number) (c .before .before .before .check .ensures)) ∙ c .before .if1 .left)
 
 returns-3 : tie.Need-returns-3
 returns-3 c = search needs

@@ -9,7 +9,9 @@ runs-in-requires : tie.Need-runs-in-requires
 runs-in-requires c κs = search needs
 
 is-mapped-requires : tie.Need-is-mapped-requires
-is-mapped-requires c κs = (c .before .before .pre, rw (c .runs-in .ensures) (runs-right (groups (c .before .before .args .b .now)) .first))
+is-mapped-requires c κs =
+    let start = c .before .before in
+    (start .pre, rw (c .runs-in .ensures) (runs-right (groups (start .args .b .now)) .first))
 
 quad-requires : tie.Need-quad-requires
 quad-requires c κs = search needs
@@ -20,10 +22,11 @@ returns c = (c .quad .ensures .0, rw (← c .before .before .is-mapped .ensures,
 
 six-requires : tie.Need-six-requires
 six-requires c κs =
-    let b = c .before .before .before .before .args .b .now in
+    let start = c .before .before .before .before in
+    let b = start .args .b .now in
     let r = runs-right (groups b) in
     let f = runs-fit (groups b) in
-    rw (c .before .before .runs-in .ensures) (c .before .before .before .before .pre, omega (arith, f .1, eight b (c .before .before .before .before .pre)), r .len, r .at)
+    rw (c .before .before .runs-in .ensures) (start .pre, omega (arith, f .1, eight b (start .pre)), r .len, r .at)
 
 returns-2 : tie.Need-returns-2
 unfolding addressOf

@@ -29,7 +29,12 @@ with-octet-requires-3 c κs = search needs
 
 returns : tie.Need-returns
 unfolding quadOf
-returns c = (c .with-octet3 .ensures .1, cc (behind-none (take (c .before .before .before .before .before .before .empty .result .len) (c .before .before .before .before .before .before .empty .result .bytes)) (numeral (getD (c .before .before .before .before .before .before .before .before .args .b .now) 12 0)) (c .before .before .before .before .before .before .empty .ensures .2)))
+returns c =
+    let at6 = c .before .before .before .before .before .before in (
+      c .with-octet3 .ensures .1,
+      cc (behind-none (take (at6 .empty .result .len) (at6 .empty .result .bytes))
+          (numeral (getD (at6 .before .before .args .b .now) 12 0)) (at6 .empty .ensures .2)),
+    )
 
 pub quad-spec : {M : Type 1} → statement M
 quad-spec =

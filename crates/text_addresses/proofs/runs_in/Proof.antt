@@ -28,20 +28,25 @@ group-at-requires c κs = (c .before .before .before .pre, omega arith)
 
 joined-runs-requires : tie.Need-joined-runs-requires Inv-loop μ-loop
 joined-runs-requires c κs =
-    let b = c .before .before .before .before .args .b .now in
-    let i = c .before .before .loop .i in
+    let at2 = c .before .before in
+    let start = at2 .before .before in
+    let b = start .args .b .now in
+    let i = at2 .loop .i in
     let f = runs-fit (drop i (groups b)) in
     let n = length-drop i (groups b) in
-    rw (c .before .before .loop .inv .1) (omega (arith, eight b (c .before .before .before .before .pre)), omega (arith, eight b (c .before .before .before .before .pre)))
+    rw (at2 .loop .inv .1) (omega (arith, eight b (start .pre)), omega (arith, eight b (start .pre)))
 
 loop-less : tie.Need-loop-less Inv-loop μ-loop
 loop-less c = search picks
 
 loop-again : tie.Need-loop-again Inv-loop μ-loop
 loop-again c =
-    let b = c .before .before .before .before .before .args .b .now in
-    let i = c .before .before .before .loop .i in
-    (omega arith, cc (runs-next (groups b) i (c .before .before .loop-test .taken) (omega (arith, eight b (c .before .before .before .before .before .pre)))))
+    let start = c .before .before .before .before .before in
+    let b = start .args .b .now in
+    let i = c .before .before .before .loop .i in (
+      omega arith,
+      cc (runs-next (groups b) i (c .before .before .loop-test .taken) (omega (arith, eight b (start .pre)))),
+    )
 
 returns : tie.Need-returns Inv-loop μ-loop
 returns c = let e : c .before .loop .i ≡ 0 = omega arith in rw e at (c .before .loop .inv .1)

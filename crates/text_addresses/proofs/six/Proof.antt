@@ -18,15 +18,15 @@ with-groups-requires c κs = search needs
 returns : tie.Need-returns
 unfolding sixOf
 returns c =
-    let a = c .before .before .before .before .args in
+    let start = c .before .before .before .before in
+    let a = start .args in
     let gs = groups (a .b .now) in
     let e = c .before .empty .result in (
       c .with-groups .ensures .1,
-      rw (← c .before .before .before .before .pre .2, lt-ltb (a .len) 2 (c .before .before .if1 .taken))
-          (cc (
-            behind-none (take (e .len) (e .bytes)) (colons (take 8 gs)) (c .before .empty .ensures .2),
-            take-all 8 gs (omega (arith, eight (a .b .now) (c .before .before .before .before .pre .0))),
-          )),
+      rw (← start .pre .2, lt-ltb (a .len) 2 (c .before .before .if1 .taken)) (cc (
+        behind-none (take (e .len) (e .bytes)) (colons (take 8 gs)) (c .before .empty .ensures .2),
+        take-all 8 gs (omega (arith, eight (a .b .now) (start .pre .0))),
+      )),
     )
 
 empty-requires-2 : tie.Need-empty-requires-2
@@ -50,15 +50,16 @@ with-groups-requires-3 c κs = search needs
 returns-2 : tie.Need-returns-2
 unfolding sixOf without
 returns-2 c =
-    let a = c .before .before .before .before .before .before .before .args in
+    let at4 = c .before .before .before .before in
+    let start = at4 .before .before .before in
+    let a = start .args in
     let gs = groups (a .b .now) in
-    let e = c .before .before .before .before .empty2 .result in (
+    let e = at4 .empty2 .result in (
       c .with-groups3 .ensures .1,
-      rw (← c .before .before .before .before .before .before .before .pre .3, ← c .before .before .before .before .before .before .before .pre .2, le-ltb (a .len) 2 (c .before .before .before .before .before .if1 .left))
-          (cc (
-            behind-none (take (e .len) (e .bytes)) (colons (take (a .at) gs)) (c .before .before .before .before .empty2 .ensures .2),
-            take-all 8 gs (omega (arith, eight (a .b .now) (c .before .before .before .before .before .before .before .pre .0))),
-          )),
+      rw (← start .pre .3, ← start .pre .2, le-ltb (a .len) 2 (at4 .before .if1 .left)) (cc (
+        behind-none (take (e .len) (e .bytes)) (colons (take (a .at) gs)) (at4 .empty2 .ensures .2),
+        take-all 8 gs (omega (arith, eight (a .b .now) (start .pre .0))),
+      )),
     )
 
 pub six-spec : {M : Type 1} → statement M

@@ -23,23 +23,29 @@ with-next-groups-requires c κs = search needs
 
 returns : tie.Need-returns
 returns c =
-    let a = c .before .before .before .before .before .args in
+    let at3 = c .before .before .before in
+    let start = at3 .before .before in
+    let a = start .args in
     let gs = groups (a .b .now) in
-    let few : a .to ≤ length gs = omega (arith, eight (a .b .now) (c .before .before .before .before .before .pre .2)) in (
+    let few : a .to ≤ length gs = omega (arith, eight (a .b .now) (start .pre .2)) in (
       omega arith,
       c .with-next-groups .ensures .1,
       cc (
-        group-step (take (a .t .len) (a .t .bytes)) gs (a .from) (a .to) few (c .before .before .before .if1 .taken),
-        getD-take (a .to) gs (a .from) 0 (c .before .before .before .if1 .taken),
+        group-step (take (a .t .len) (a .t .bytes)) gs (a .from) (a .to) few (at3 .if1 .taken),
+        getD-take (a .to) gs (a .from) 0 (at3 .if1 .taken),
       ),
     )
 
 returns-2 : tie.Need-returns-2
 returns-2 c =
-    let a = c .before .before .args in
+    let start = c .before .before in
+    let a = start .args in
     let gs = groups (a .b .now) in
-    let few : a .to ≤ length gs = omega (arith, eight (a .b .now) (c .before .before .pre .2)) in
-    (omega arith, c .before .before .pre .0, sym (group-end (take (a .t .len) (a .t .bytes)) gs (a .from) (a .to) few (c .if1 .left)))
+    let few : a .to ≤ length gs = omega (arith, eight (a .b .now) (start .pre .2)) in (
+      omega arith,
+      start .pre .0,
+      sym (group-end (take (a .t .len) (a .t .bytes)) gs (a .from) (a .to) few (c .if1 .left)),
+    )
 
 pub with-groups-spec : {M : Type 1} → statement M
 with-groups-spec =

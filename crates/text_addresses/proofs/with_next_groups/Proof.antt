@@ -12,7 +12,13 @@ use Rattle.text_addresses.proofs.with_next_groups.Statement.{statement}
 use Rattle.text_addresses.proofs.with_next_groups.Tie as tie
 
 abbrev Inv-loop : tie.InvT-loop
-Inv-loop b from to longer₀ i₀ longer i = (from ≤ i) × (i ≤ to) × (longer .len + 5 * from ≤ longer₀ .len + 5 * i) × Counts (longer .len) (longer .bytes) × (take (longer .len) (longer .bytes) ++ behindColons (drop i (take to (groups b))) ≡ take (longer₀ .len) (longer₀ .bytes) ++ behindColons (drop from (take to (groups b))))
+Inv-loop b from to longer₀ i₀ longer i =
+    (from ≤ i)
+    × (i ≤ to)
+    × (longer .len + 5 * from ≤ longer₀ .len + 5 * i)
+    × Counts (longer .len) (longer .bytes)
+    × (take (longer .len) (longer .bytes) ++ behindColons (drop i (take to (groups b)))
+    ≡ take (longer₀ .len) (longer₀ .bytes) ++ behindColons (drop from (take to (groups b))))
 
 abbrev μ-loop : tie.MeasureT-loop
 μ-loop b from to longer₀ i₀ longer i = to - i
@@ -37,28 +43,34 @@ loop-less c = search picks
 
 loop-again : tie.Need-loop-again Inv-loop μ-loop
 loop-again c =
-    let a = c .before .before .before .before .before .before .args in
+    let at3 = c .before .before .before in
+    let start = at3 .before .before .before in
+    let a = start .args in
     let gs = groups (a .b .now) in
-    let l = c .before .before .before .before .loop in
-    let few : a .to ≤ length gs = omega (arith, eight (a .b .now) (c .before .before .before .before .before .before .pre .2)) in (
+    let l = at3 .before .loop in
+    let few : a .to ≤ length gs = omega (arith, eight (a .b .now) (start .pre .2)) in (
       omega arith,
       omega arith,
       omega arith,
       c .with-group .ensures .1,
       cc (
-        colon-step (take (l .longer .len) (l .longer .bytes)) gs (l .i) (a .to) few (c .before .before .before .loop-test .taken),
-        getD-take (a .to) gs (l .i) 0 (c .before .before .before .loop-test .taken),
+        colon-step (take (l .longer .len) (l .longer .bytes)) gs (l .i) (a .to) few (at3 .loop-test .taken),
+        getD-take (a .to) gs (l .i) 0 (at3 .loop-test .taken),
       ),
     )
 
 returns : tie.Need-returns Inv-loop μ-loop
 unfolding behindColons
 returns c =
-    let a = c .before .before .before .args in
+    let start = c .before .before .before in
+    let a = start .args in
     let gs = groups (a .b .now) in
     let l = c .before .loop in
-    let few : a .to ≤ length gs = omega (arith, eight (a .b .now) (c .before .before .before .pre .2)) in
-    (omega arith, l .inv .3, cc (colon-end (take (l .longer .len) (l .longer .bytes)) gs (l .i) (a .to) few (omega arith)))
+    let few : a .to ≤ length gs = omega (arith, eight (a .b .now) (start .pre .2)) in (
+      omega arith,
+      l .inv .3,
+      cc (colon-end (take (l .longer .len) (l .longer .bytes)) gs (l .i) (a .to) few (omega arith)),
+    )
 
 pub with-next-groups-spec : {M : Type 1} → statement M
 with-next-groups-spec =

@@ -19,7 +19,15 @@ with-byte-requires c κs = search needs
 
 returns : tie.Need-returns
 unfolding faultLine
-returns c = (c .with-byte .ensures .1, rw (eq-eqb (c .before .before .before .before .args .number) 0 (c .before .if1 .taken)) (cc (behind-none (take (c .before .before .before .empty .result .len) (c .before .before .before .empty .result .bytes)) (ascii (meaningOf (c .before .before .before .before .args .number))) (c .before .before .before .empty .ensures .2), append-nil (ascii (meaningOf (c .before .before .before .before .args .number))))))
+returns c =
+    let at3 = c .before .before .before in (
+      c .with-byte .ensures .1,
+      rw (eq-eqb (at3 .before .args .number) 0 (c .before .if1 .taken)) (cc (
+        behind-none (take (at3 .empty .result .len) (at3 .empty .result .bytes))
+            (ascii (meaningOf (at3 .before .args .number))) (at3 .empty .ensures .2),
+        append-nil (ascii (meaningOf (at3 .before .args .number))),
+      )),
+    )
 
 with-place-requires : tie.Need-with-place-requires
 with-place-requires c κs = search needs
@@ -29,7 +37,13 @@ with-byte-requires-2 c κs = search needs
 
 returns-2 : tie.Need-returns-2
 unfolding faultLine
-returns-2 c = (c .with-byte2 .ensures .1, rw (ne-eqb (c .before .before .before .before .before .args .number) 0 (c .before .before .if1 .left)) (cc (behind-none (take (c .before .before .before .before .empty .result .len) (c .before .before .before .before .empty .result .bytes)) (ascii (meaningOf (c .before .before .before .before .before .args .number))) (c .before .before .before .before .empty .ensures .2))))
+returns-2 c =
+    let at4 = c .before .before .before .before in (
+      c .with-byte2 .ensures .1,
+      rw (ne-eqb (at4 .before .args .number) 0 (c .before .before .if1 .left)) (cc (behind-none
+          (take (at4 .empty .result .len) (at4 .empty .result .bytes)) (ascii (meaningOf (at4 .before .args .number)))
+          (at4 .empty .ensures .2))),
+    )
 
 pub fault-line-spec : {M : Type 1} → statement M
 fault-line-spec =

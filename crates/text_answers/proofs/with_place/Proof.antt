@@ -20,7 +20,12 @@ with-kind-requires c κs = search needs
 
 returns : tie.Need-returns
 unfolding placeOf
-returns c = (omega arith, rw (eq-eqb (c .before .before .before .before .args .position) 0 (c .if1 .taken)) (cc (with-nothing (take (c .before .before .before .before .args .t .len) (c .before .before .before .before .args .t .bytes)) (ascii ": ") (ascii (kindOf (c .before .before .before .before .args .kind))))))
+returns c =
+    let start = c .before .before .before .before in (
+      omega arith,
+      rw (eq-eqb (start .args .position) 0 (c .if1 .taken)) (cc (with-nothing
+          (take (start .args .t .len) (start .args .t .bytes)) (ascii ": ") (ascii (kindOf (start .args .kind))))),
+    )
 
 with-byte-requires : tie.Need-with-byte-requires
 with-byte-requires c κs = search needs
@@ -30,7 +35,13 @@ with-number-requires c κs = search needs
 
 returns-2 : tie.Need-returns-2
 unfolding placeOf
-returns-2 c = (omega arith, rw (ne-eqb (c .before .before .before .before .before .before .args .position) 0 (c .before .before .if1 .left)) (cc (with-two (take (c .before .before .before .before .before .before .args .t .len) (c .before .before .before .before .before .before .args .t .bytes)) (ascii ": ") (ascii (kindOf (c .before .before .before .before .before .before .args .kind))) (ascii " ") (numeral (c .before .before .before .before .before .before .args .position)))))
+returns-2 c =
+    let start = c .before .before .before .before .before .before in (
+      omega arith,
+      rw (ne-eqb (start .args .position) 0 (c .before .before .if1 .left)) (cc (with-two
+          (take (start .args .t .len) (start .args .t .bytes)) (ascii ": ") (ascii (kindOf (start .args .kind)))
+          (ascii " ") (numeral (start .args .position)))),
+    )
 
 pub with-place-spec : {M : Type 1} → statement M
 with-place-spec =

@@ -71,4 +71,7 @@ returns-2 t c =
     )
 
 pub +with-hex-spec : {M : Type 1} → statement M
-+with-hex-spec = close μ-hex (λ t. hex-lts.spec (hex-below t, hex.Post, digit.Asked, digit.Learnt, with-byte.Asked, with-byte.Learnt) (hex-at t) hex.Post (returns t) (sub-with-hex t) (with-hex-requires t) (hex-digit-requires t) (with-byte-requires t) (returns-2 t))
++with-hex-spec =
+    close μ-hex (λ t. hex-lts.spec (hex-below t, hex.Post, digit.Asked, digit.Learnt, with-byte.Asked, with-byte.Learnt)
+    (hex-at t) hex.Post (returns t) (sub-with-hex t) (with-hex-requires t) (hex-digit-requires t) (with-byte-requires t)
+    (returns-2 t))

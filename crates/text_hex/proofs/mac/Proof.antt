@@ -31,7 +31,12 @@ with-next-requires-5 c κs = search needs
 
 returns : tie.Need-returns
 unfolding macOf
-returns c = (c .with-next5 .ensures .1, cc (behind-none (take (c .before .before .before .before .before .before .before .empty .result .len) (c .before .before .before .before .before .before .before .empty .result .bytes)) (hexOf 2 (getD (c .before .before .before .before .before .before .before .before .before .args .b .now) 0 0)) (c .before .before .before .before .before .before .before .empty .ensures .2)))
+returns c =
+    let at7 = c .before .before .before .before .before .before .before in (
+      c .with-next5 .ensures .1,
+      cc (behind-none (take (at7 .empty .result .len) (at7 .empty .result .bytes))
+          (hexOf 2 (getD (at7 .before .before .args .b .now) 0 0)) (at7 .empty .ensures .2)),
+    )
 
 pub mac-spec : {M : Type 1} → statement M
 mac-spec =

@@ -32,7 +32,12 @@ with-hex-requires-4 c κs = search needs
 
 returns : tie.Need-returns
 unfolding pciOf
-returns c = (c .with-hex4 .ensures .1, cc (behind-none (take (c .before .before .before .before .before .before .before .empty .result .len) (c .before .before .before .before .before .before .before .empty .result .bytes)) (hexOf 4 (c .before .before .before .before .before .before .before .before .args .id / 65536 % 65536)) (c .before .before .before .before .before .before .before .empty .ensures .2)))
+returns c =
+    let at7 = c .before .before .before .before .before .before .before in (
+      c .with-hex4 .ensures .1,
+      cc (behind-none (take (at7 .empty .result .len) (at7 .empty .result .bytes))
+          (hexOf 4 (at7 .before .args .id / 65536 % 65536)) (at7 .empty .ensures .2)),
+    )
 
 pub pci-spec : {M : Type 1} → statement M
 pci-spec =

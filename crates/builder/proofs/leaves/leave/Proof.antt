@@ -20,11 +20,15 @@ refused-requires c κs = search needs
 
 returns : tie.Need-returns
 returns c =
-    let a = c .before .before .before .before .before .args in
+    let at3 = c .before .before .before in
+    let a = at3 .before .before .args in
     let b = a .out .now in
-    let t = leave-early (a .state) b (sym (c .before .before .before .waits .ensures) ∙ not-true (c .before .before .before .waits .result) (c .before .before .if1 .taken)) in (
-      step-is (c .refused .result) (c .before .refuse .result) (a .state) (c .refused .ensures .0) (c .refused .ensures .1) ∙ ap (λ (x : Answer). record { answer = x; state = a .state })
-          (c .before .refuse .ensures) ∙ t .0,
+    let t = leave-early (a .state) b
+    (sym (at3 .waits .ensures) ∙ not-true (at3 .waits .result) (c .before .before .if1 .taken)) in (
+      step-is (c .refused .result) (c .before .refuse .result) (a .state) (c .refused .ensures .0)
+          (c .refused .ensures .1)
+          ∙ ap (λ (x : Answer). record { answer = x; state = a .state }) (c .before .refuse .ensures)
+          ∙ t .0,
       t .1,
     )
 
@@ -36,12 +40,16 @@ refused-requires-2 c κs = search needs
 
 returns-2 : tie.Need-returns-2
 returns-2 c =
-    let a = c .before .before .before .before .before .before .before .args in
+    let at4 = c .before .before .before .before in
+    let a = at4 .before .before .before .args in
     let b = a .out .now in
-    let t = leave-nowhere (a .state) b (sym (c .before .before .before .before .before .waits .ensures) ∙ not-false (c .before .before .before .before .before .waits .result)
-    (c .before .before .before .before .if1 .left)) (c .before .before .if2 .taken) in (
-      step-is (c .refused2 .result) (c .before .refuse2 .result) (a .state) (c .refused2 .ensures .0) (c .refused2 .ensures .1) ∙ ap (λ (x : Answer). record { answer = x; state = a .state })
-          (c .before .refuse2 .ensures) ∙ t .0,
+    let t = leave-nowhere (a .state) b
+    (sym (at4 .before .waits .ensures) ∙ not-false (at4 .before .waits .result) (at4 .if1 .left))
+    (c .before .before .if2 .taken) in (
+      step-is (c .refused2 .result) (c .before .refuse2 .result) (a .state) (c .refused2 .ensures .0)
+          (c .refused2 .ensures .1)
+          ∙ ap (λ (x : Answer). record { answer = x; state = a .state }) (c .before .refuse2 .ensures)
+          ∙ t .0,
       t .1,
     )
 
@@ -53,13 +61,17 @@ refused-requires-3 c κs = search needs
 
 returns-3 : tie.Need-returns-3
 returns-3 c =
-    let a = c .before .before .before .before .before .before .before .before .before .args in
+    let at4 = c .before .before .before .before in
+    let at7 = at4 .before .before .before in
+    let a = at7 .before .before .args in
     let b = a .out .now in
-    let t = leave-short (a .state) b (sym (c .before .before .before .before .before .before .before .waits .ensures) ∙ not-false
-    (c .before .before .before .before .before .before .before .waits .result) (c .before .before .before .before .before .before .if1 .left)) (c .before .before .before .before .if2 .left)
+    let t = leave-short (a .state) b
+    (sym (at7 .waits .ensures) ∙ not-false (at7 .waits .result) (at4 .before .before .if1 .left)) (at4 .if2 .left)
     (omega (arith, c .before .before .if3 .taken)) in (
-      step-is (c .refused3 .result) (c .before .refuse3 .result) (a .state) (c .refused3 .ensures .0) (c .refused3 .ensures .1) ∙ ap (λ (x : Answer). record { answer = x; state = a .state })
-          (c .before .refuse3 .ensures) ∙ t .0,
+      step-is (c .refused3 .result) (c .before .refuse3 .result) (a .state) (c .refused3 .ensures .0)
+          (c .refused3 .ensures .1)
+          ∙ ap (λ (x : Answer). record { answer = x; state = a .state }) (c .before .refuse3 .ensures)
+          ∙ t .0,
       t .1,
     )
 
@@ -68,20 +80,26 @@ done-requires c κs = search needs
 
 next-requires : tie.Need-next-requires
 next-requires c κs =
-    let a = c .before .before .before .before .before .before .before .before .args in
+    let at5 = c .before .before .before .before .before in
+    let a = at5 .before .before .before .args in
     let b = a .out .now in
-    let v = used-bounds (a .state) (a .state .turn) (sym (c .before .before .before .before .before .before .waits .ensures) ∙ not-false
-    (c .before .before .before .before .before .before .waits .result) (c .before .before .before .before .before .if1 .left)) in
+    let v = used-bounds (a .state) (a .state .turn)
+    (sym (at5 .before .waits .ensures) ∙ not-false (at5 .before .waits .result) (at5 .if1 .left)) in
     in-limit _ (omega (arith, v))
 
 returns-4 : tie.Need-returns-4
 returns-4 c =
-    let a = c .before .before .before .before .before .before .before .before .before .args in
+    let at4 = c .before .before .before .before in
+    let at7 = at4 .before .before .before in
+    let a = at7 .before .before .args in
     let b = a .out .now in
-    let t = leave-done (a .state) b (sym (c .before .before .before .before .before .before .before .waits .ensures) ∙ not-false
-    (c .before .before .before .before .before .before .before .waits .result) (c .before .before .before .before .before .before .if1 .left)) (c .before .before .before .before .if2 .left)
-    (omega (arith, c .before .before .if3 .left)) in
-    (ap₂ (λ (x : Answer) (y : State). record { answer = x; state = y }) (c .before .done .ensures) (c .next .ensures) ∙ t .0, t .1)
+    let t = leave-done (a .state) b
+    (sym (at7 .waits .ensures) ∙ not-false (at7 .waits .result) (at4 .before .before .if1 .left)) (at4 .if2 .left)
+    (omega (arith, c .before .before .if3 .left)) in (
+      ap₂ (λ (x : Answer) (y : State). record { answer = x; state = y }) (c .before .done .ensures) (c .next .ensures)
+          ∙ t .0,
+      t .1,
+    )
 
 pub leave-spec : {M : Type 1} → statement M
 leave-spec =

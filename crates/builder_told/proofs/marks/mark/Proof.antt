@@ -12,14 +12,27 @@ flags-at-requires : tie.Need-flags-at-requires
 flags-at-requires c κs = search needs
 
 set-valid-requires : tie.Need-set-valid-requires
-set-valid-requires c κs = omega (arith, flags-inside (c .before .before .before .before .before .before .before .args .kind) (c .before .before .before .before .before .before .before .pre .0), c .before .before .before .before .before .before .before .pre .1, c .flags-at .ensures, c .before .before .before .before .stamp .kept .0)
+set-valid-requires c κs =
+    let at4 = c .before .before .before .before in
+    let start = at4 .before .before .before in
+    omega (
+      arith,
+      flags-inside (start .args .kind) (start .pre .0),
+      start .pre .1,
+      c .flags-at .ensures,
+      at4 .stamp .kept .0,
+    )
 
 same-length : tie.Need-same-length
 same-length c = search needs
 
 returns : tie.Need-returns
 unfolding marked
-returns c = valid-of _ (c .before .before .before .before .before .before .before .stamp .last .0) _ (c .before .before .before .flags-at .result) _ (c .before .before .set-valid .ensures) (c .before .before .before .before .before .before .before .stamp .ensures) (c .before .before .before .flags-at .ensures)
+returns c =
+    let at3 = c .before .before .before in
+    let stamp = at3 .before .before .before .before .stamp in
+    valid-of _ (stamp .last .0) _ (at3 .flags-at .result) _ (c .before .before .set-valid .ensures) (stamp .ensures)
+    (at3 .flags-at .ensures)
 
 pub mark-spec : {M : Type 1} → statement M
 mark-spec =

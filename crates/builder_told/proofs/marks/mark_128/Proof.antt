@@ -19,7 +19,11 @@ mark-requires : tie.Need-mark-requires
 mark-requires c κs = search needs
 
 returns : tie.Need-returns
-returns c = let a = c .before .before .before .args in let l : length (a .told) ≡ 128 = search needs in lent-whole (layoutOf (a .kind) .shape) (a .position) 128 (a .told) (c .before .mark .last .0) l (c .before .mark .ensures) (c .before .mark .kept .0)
+returns c =
+    let a = c .before .before .before .args in
+    let l : length (a .told) ≡ 128 = search needs in
+    lent-whole (layoutOf (a .kind) .shape) (a .position) 128 (a .told) (c .before .mark .last .0) l
+    (c .before .mark .ensures) (c .before .mark .kept .0)
 
 pub mark-128-spec : {M : Type 1} → statement M
 mark-128-spec = tie.close (tie.spec sub-mark part-bytes-start part-bytes-end mark-requires returns)

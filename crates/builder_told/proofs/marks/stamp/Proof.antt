@@ -4,8 +4,6 @@ use Rattle.bytes_writer.proofs.StoreLaws.{splice-none}
 use Rattle.builder_told.proofs.Laws.{further, last-kind}
 use Rattle.builder_told.specs.Marks.{stamped}
 use Rattle.table.specs.FixedLayouts.{layoutOf, host, hfi, ssns, security, discovery, info, extended}
-use Rattle.table.specs.Bytes.{splice}
-use Prim.Native.Nat.{ℕ}
 use mathlib.Core.List.{[], _∷_}
 use mathlib.Core.Path.{ap, _∙_}
 use native.Mathlib.Omega.{arith}
@@ -23,14 +21,24 @@ put-u8-requires-2 c κs = omega (arith, rw (c .before .match .keys2) at (c .befo
 
 put-u8-requires-3 : tie.Need-put-u8-requires-3
 unfolding layoutOf hfi
-put-u8-requires-3 c κs = omega (arith, rw (c .before .before .before .before .before .match .keys2) at (c .before .before .before .before .before .before .before .pre .1), c .before .before .before .put-u82 .kept .0)
+put-u8-requires-3 c κs =
+    let at5 = c .before .before .before .before .before in
+    omega (arith, rw (at5 .match .keys2) at (at5 .before .before .pre .1), c .before .before .before .put-u82 .kept .0)
 
 low-requires : tie.Need-low-requires
 low-requires c κs = search needs
 
 put-u8-requires-4 : tie.Need-put-u8-requires-4
 unfolding layoutOf hfi
-put-u8-requires-4 c κs = omega (arith, rw (c .before .before .before .before .before .before .before .before .before .before .match .keys2) at (c .before .before .before .before .before .before .before .before .before .before .before .before .pre .1), c .before .before .before .before .before .before .before .before .put-u82 .kept .0, c .before .before .before .before .put-u83 .kept .0)
+put-u8-requires-4 c κs =
+    let at4 = c .before .before .before .before in
+    let at8 = at4 .before .before .before .before in
+    omega (
+      arith,
+      rw (at8 .before .before .match .keys2) at (at8 .before .before .before .before .pre .1),
+      at8 .put-u82 .kept .0,
+      at4 .put-u83 .kept .0,
+    )
 
 put-u8-requires-5 : tie.Need-put-u8-requires-5
 unfolding layoutOf ssns
@@ -38,11 +46,20 @@ put-u8-requires-5 c κs = omega (arith, rw (c .before .match .keys3) at (c .befo
 
 put-u8-requires-6 : tie.Need-put-u8-requires-6
 unfolding layoutOf ssns
-put-u8-requires-6 c κs = omega (arith, rw (c .before .before .before .before .before .match .keys3) at (c .before .before .before .before .before .before .before .pre .1), c .before .before .before .put-u85 .kept .0)
+put-u8-requires-6 c κs =
+    let at5 = c .before .before .before .before .before in
+    omega (arith, rw (at5 .match .keys3) at (at5 .before .before .pre .1), c .before .before .before .put-u85 .kept .0)
 
 put-u16-requires : tie.Need-put-u16-requires
 unfolding layoutOf ssns
-put-u16-requires c κs = omega (arith, rw (c .before .before .before .before .before .before .before .before .before .match .keys3) at (c .before .before .before .before .before .before .before .before .before .before .before .pre .1), c .before .before .before .before .before .before .before .put-u85 .kept .0, c .before .before .before .put-u86 .kept .0)
+put-u16-requires c κs =
+    let at7 = c .before .before .before .before .before .before .before in
+    omega (
+      arith,
+      rw (at7 .before .before .match .keys3) at (at7 .before .before .before .before .pre .1),
+      at7 .put-u85 .kept .0,
+      c .before .before .before .put-u86 .kept .0,
+    )
 
 put-u8-requires-7 : tie.Need-put-u8-requires-7
 unfolding layoutOf security
@@ -53,7 +70,13 @@ low-requires-2 c κs = search needs
 
 put-u8-requires-8 : tie.Need-put-u8-requires-8
 unfolding layoutOf security
-put-u8-requires-8 c κs = omega (arith, rw (c .before .before .before .before .before .before .match .keys4) at (c .before .before .before .before .before .before .before .before .pre .1), c .before .before .before .before .put-u87 .kept .0)
+put-u8-requires-8 c κs =
+    let at4 = c .before .before .before .before in
+    omega (
+      arith,
+      rw (at4 .before .before .match .keys4) at (at4 .before .before .before .before .pre .1),
+      at4 .put-u87 .kept .0,
+    )
 
 put-u8-requires-9 : tie.Need-put-u8-requires-9
 unfolding layoutOf discovery
@@ -64,7 +87,13 @@ low-requires-3 c κs = search needs
 
 put-u8-requires-10 : tie.Need-put-u8-requires-10
 unfolding layoutOf discovery
-put-u8-requires-10 c κs = omega (arith, rw (c .before .before .before .before .before .before .match .keys5) at (c .before .before .before .before .before .before .before .before .pre .1), c .before .before .before .before .put-u89 .kept .0)
+put-u8-requires-10 c κs =
+    let at4 = c .before .before .before .before in
+    omega (
+      arith,
+      rw (at4 .before .before .match .keys5) at (at4 .before .before .before .before .pre .1),
+      at4 .put-u89 .kept .0,
+    )
 
 slice-aggregate-copy-into : tie.Need-slice-aggregate-copy-into
 slice-aggregate-copy-into c = search needs
@@ -75,18 +104,35 @@ copy-into-requires c κs = omega (arith, rw (c .before .before .match .keys6) at
 
 put-u16-requires-2 : tie.Need-put-u16-requires-2
 unfolding layoutOf info
-put-u16-requires-2 c κs = omega (arith, rw (c .before .before .before .before .before .before .match .keys6) at (c .before .before .before .before .before .before .before .before .pre .1), c .before .before .before .copy-into .kept .0)
+put-u16-requires-2 c κs =
+    let at6 = c .before .before .before .before .before .before in
+    omega (
+      arith,
+      rw (at6 .match .keys6) at (at6 .before .before .pre .1),
+      c .before .before .before .copy-into .kept .0,
+    )
 
 slice-aggregate-copy-into-2 : tie.Need-slice-aggregate-copy-into-2
 slice-aggregate-copy-into-2 c = search needs
 
 copy-into-requires-2 : tie.Need-copy-into-requires-2
 unfolding layoutOf extended
-copy-into-requires-2 c κs = let m = c .before .before .match .rest in let k = last-kind (c .before .before .before .before .args .kind) (c .before .before .before .before .pre .0) (m .0 .0 .0 .0 .0 .1) (m .0 .0 .0 .0 .1) (m .0 .0 .0 .1) (m .0 .0 .1) (m .0 .1) (m .1) in omega (arith, rw k at (c .before .before .before .before .pre .1))
+copy-into-requires-2 c κs =
+    let start = c .before .before .before .before in
+    let m = c .before .before .match .rest in
+    let k = last-kind (start .args .kind) (start .pre .0) (m .0 .0 .0 .0 .0 .1) (m .0 .0 .0 .0 .1) (m .0 .0 .0 .1)
+    (m .0 .0 .1) (m .0 .1) (m .1) in
+    omega (arith, rw k at (start .pre .1))
 
 put-u16-requires-3 : tie.Need-put-u16-requires-3
 unfolding layoutOf extended
-put-u16-requires-3 c κs = let m = c .before .before .before .before .before .before .match .rest in let k = last-kind (c .before .before .before .before .before .before .before .before .args .kind) (c .before .before .before .before .before .before .before .before .pre .0) (m .0 .0 .0 .0 .0 .1) (m .0 .0 .0 .0 .1) (m .0 .0 .0 .1) (m .0 .0 .1) (m .0 .1) (m .1) in omega (arith, rw k at (c .before .before .before .before .before .before .before .before .pre .1), c .before .before .before .copy-into2 .kept .0)
+put-u16-requires-3 c κs =
+    let at6 = c .before .before .before .before .before .before in
+    let start = at6 .before .before in
+    let m = at6 .match .rest in
+    let k = last-kind (start .args .kind) (start .pre .0) (m .0 .0 .0 .0 .0 .1) (m .0 .0 .0 .0 .1) (m .0 .0 .0 .1)
+    (m .0 .0 .1) (m .0 .1) (m .1) in
+    omega (arith, rw k at (start .pre .1), c .before .before .before .copy-into2 .kept .0)
 
 same-length : tie.Need-same-length
 same-length c = search needs
@@ -100,42 +146,77 @@ same-length-2 c = search needs
 
 returns-2 : tie.Need-returns-2
 unfolding stamped layoutOf hfi
-returns-2 c = let k = c .before .before .before .before .before .before .before .before .before .before .before .before .before .match .keys2 in rw k (further _ _ _ 1 (c .before .before .before .before .before .before .before .before .before .before .before .before .before .before .before .args .position % 256 ∷ []) (c .before .before .put-u84 .ensures ∙ ap (λ (x : ℕ). splice (c .before .before .before .before .before .before .before .put-u83 .last .0) 1 (x ∷ [])) (c .before .before .before .low .ensures)) (further _ _ _ 3 (3 ∷ []) (c .before .before .before .before .before .before .before .put-u83 .ensures) (c .before .before .before .before .before .before .before .before .before .before .before .put-u82 .ensures)))
+returns-2 c =
+    let at7 = c .before .before .before .before .before .before .before in
+    let at11 = at7 .before .before .before .before in
+    let k = at11 .before .before .match .keys2 in
+    rw k (further _ _ _ 1 (at11 .before .before .before .before .args .position % 256 ∷ [])
+    (c .before .before .put-u84 .ensures
+    ∙ ap (λ (x : ℕ). splice (at7 .put-u83 .last .0) 1 (x ∷ [])) (c .before .before .before .low .ensures))
+    (further _ _ _ 3 (3 ∷ []) (at7 .put-u83 .ensures) (at11 .put-u82 .ensures)))
 
 same-length-3 : tie.Need-same-length-3
 same-length-3 c = search needs
 
 returns-3 : tie.Need-returns-3
 unfolding stamped layoutOf ssns
-returns-3 c = let k = c .before .before .before .before .before .before .before .before .before .before .before .before .match .keys3 in rw k (further _ _ _ 1 (le 2 (c .before .before .before .before .before .before .before .before .before .before .before .before .before .before .args .position)) (c .before .before .put-u16 .ensures) (further _ _ _ 5 (3 ∷ []) (c .before .before .before .before .before .before .put-u86 .ensures) (c .before .before .before .before .before .before .before .before .before .before .put-u85 .ensures)))
+returns-3 c =
+    let at6 = c .before .before .before .before .before .before in
+    let at10 = at6 .before .before .before .before in
+    let k = at10 .before .before .match .keys3 in
+    rw k (further _ _ _ 1 (le 2 (at10 .before .before .before .before .args .position))
+    (c .before .before .put-u16 .ensures) (further _ _ _ 5 (3 ∷ []) (at6 .put-u86 .ensures) (at10 .put-u85 .ensures)))
 
 same-length-4 : tie.Need-same-length-4
 same-length-4 c = search needs
 
 returns-4 : tie.Need-returns-4
 unfolding stamped layoutOf security
-returns-4 c = let k = c .before .before .before .before .before .before .before .before .before .match .keys4 in rw k (further _ _ _ 1 (c .before .before .before .before .before .before .before .before .before .before .before .args .position % 256 ∷ []) (c .before .before .put-u88 .ensures ∙ ap (λ (x : ℕ). splice (c .before .before .before .before .before .before .before .put-u87 .last .0) 1 (x ∷ [])) (c .before .before .before .low2 .ensures)) (c .before .before .before .before .before .before .before .put-u87 .ensures))
+returns-4 c =
+    let at7 = c .before .before .before .before .before .before .before in
+    let k = at7 .before .before .match .keys4 in
+    rw k (further _ _ _ 1 (at7 .before .before .before .before .args .position % 256 ∷ []) (c .before .before .put-u88
+    .ensures
+    ∙ ap (λ (x : ℕ). splice (at7 .put-u87 .last .0) 1 (x ∷ [])) (c .before .before .before .low2 .ensures))
+    (at7 .put-u87 .ensures))
 
 same-length-5 : tie.Need-same-length-5
 same-length-5 c = search needs
 
 returns-5 : tie.Need-returns-5
 unfolding stamped layoutOf discovery
-returns-5 c = let k = c .before .before .before .before .before .before .before .before .before .match .keys5 in rw k (further _ _ _ 2 (c .before .before .before .before .before .before .before .before .before .before .before .args .position % 256 ∷ []) (c .before .before .put-u810 .ensures ∙ ap (λ (x : ℕ). splice (c .before .before .before .before .before .before .before .put-u89 .last .0) 2 (x ∷ [])) (c .before .before .before .low3 .ensures)) (c .before .before .before .before .before .before .before .put-u89 .ensures))
+returns-5 c =
+    let at7 = c .before .before .before .before .before .before .before in
+    let k = at7 .before .before .match .keys5 in
+    rw k (further _ _ _ 2 (at7 .before .before .before .before .args .position % 256 ∷ []) (c .before .before .put-u810
+    .ensures
+    ∙ ap (λ (x : ℕ). splice (at7 .put-u89 .last .0) 2 (x ∷ [])) (c .before .before .before .low3 .ensures))
+    (at7 .put-u89 .ensures))
 
 same-length-6 : tie.Need-same-length-6
 same-length-6 c = search needs
 
 returns-6 : tie.Need-returns-6
 unfolding stamped layoutOf info
-returns-6 c = let k = c .before .before .before .before .before .before .before .before .before .match .keys6 in rw k (further _ _ _ 4 (le 2 (c .before .before .before .before .before .before .before .before .before .before .before .args .position)) (c .before .before .put-u162 .ensures) (c .before .before .before .before .before .before .copy-into .ensures))
+returns-6 c =
+    let at6 = c .before .before .before .before .before .before in
+    let k = at6 .before .before .before .match .keys6 in
+    rw k (further _ _ _ 4 (le 2 (at6 .before .before .before .before .before .args .position))
+    (c .before .before .put-u162 .ensures) (at6 .copy-into .ensures))
 
 same-length-7 : tie.Need-same-length-7
 same-length-7 c = search needs
 
 returns-7 : tie.Need-returns-7
 unfolding stamped layoutOf extended
-returns-7 c = let m = c .before .before .before .before .before .before .before .before .before .match .rest in let k = last-kind (c .before .before .before .before .before .before .before .before .before .before .before .args .kind) (c .before .before .before .before .before .before .before .before .before .before .before .pre .0) (m .0 .0 .0 .0 .0 .1) (m .0 .0 .0 .0 .1) (m .0 .0 .0 .1) (m .0 .0 .1) (m .0 .1) (m .1) in rw k (further _ _ _ 2 (le 2 (c .before .before .before .before .before .before .before .before .before .before .before .args .position)) (c .before .before .put-u163 .ensures) (c .before .before .before .before .before .before .copy-into2 .ensures))
+returns-7 c =
+    let at6 = c .before .before .before .before .before .before in
+    let start = at6 .before .before .before .before .before in
+    let m = at6 .before .before .before .match .rest in
+    let k = last-kind (start .args .kind) (start .pre .0) (m .0 .0 .0 .0 .0 .1) (m .0 .0 .0 .0 .1) (m .0 .0 .0 .1)
+    (m .0 .0 .1) (m .0 .1) (m .1) in
+    rw k
+    (further _ _ _ 2 (le 2 (start .args .position)) (c .before .before .put-u163 .ensures) (at6 .copy-into2 .ensures))
 
 pub stamp-spec : {M : Type 1} → statement M
 stamp-spec =

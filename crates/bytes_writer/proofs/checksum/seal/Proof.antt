@@ -36,7 +36,14 @@ same-length : tie.Need-same-length
 same-length c = search needs
 
 returns : tie.Need-returns
-returns c = let a = c .before .before .before .before .before .before .before .before .before .before .args in c .before .before .put-u8 .ensures ∙ ap (λ (x : ℕ). splice (a .out .now) 9 (x ∷ [])) (c .before .before .before .low .ensures ∙ ap (λ (s : ℕ). (256 - s) % 256) (c .before .before .before .before .wide .ensures .0 ∙ c .before .before .before .before .before .before .sum8 .ensures ∙ ap (λ (m : ℕ). total (take m (a .out .now)) % 256) (sub-zero (a .size))))
+returns c =
+    let at4 = c .before .before .before .before in
+    let a = at4 .before .before .before .before .before .before .args in
+    c .before .before .put-u8 .ensures
+    ∙ ap (λ (x : ℕ). splice (a .out .now) 9 (x ∷ [])) (c .before .before .before .low .ensures
+    ∙ ap (λ (s : ℕ). (256 - s) % 256) (at4 .wide .ensures .0
+    ∙ at4 .before .before .sum8 .ensures
+    ∙ ap (λ (m : ℕ). total (take m (a .out .now)) % 256) (sub-zero (a .size))))
 
 pub seal-spec : {M : Type 1} → statement M
 seal-spec =

@@ -1,19 +1,22 @@
-use mathlib.Core.Path.{_≡_, refl}
+use mathlib.Core.Path.{_≡_, refl, _∙_}
 use Prim.Native.Nat.{_≤_, _-_, _+_, _*_}
 use lib.ListN.{length}
 use native.Mathlib.Omega.{arith}
 use native.Mathlib.Nat.{sub-zero}
 use Rattle.table.specs.Bytes.{apply}
 use Rattle.bytes_writer.specs.Stores.{storesFrom}
-use Rattle.bytes_writer.proofs.RecordLaws.{stores-done}
-use mathlib.Core.Path.{_∙_}
-use Rattle.bytes_writer.proofs.RecordLaws.{stores-turn}
+use Rattle.bytes_writer.proofs.RecordLaws.{stores-done, stores-turn}
 use Rattle.table.proofs.Rules.{picks}
 use Rattle.bytes_writer.proofs.records.put_refs.Statement.{statement}
 use Rattle.bytes_writer.proofs.records.put_refs.Tie as tie
 
 abbrev Inv-loop : tie.InvT-loop
-Inv-loop part₀ heap offsets sizes count next₀ i₀ part next i = (i ≤ count) × (next ≤ 131072 + 131072 * i) × (length part ≡ length part₀) × (apply part (storesFrom (offsets .at) (sizes .len) (sizes .span) next i (count - i)) ≡ apply part₀ (storesFrom (offsets .at) (sizes .len) (sizes .span) heap 0 count))
+Inv-loop part₀ heap offsets sizes count next₀ i₀ part next i =
+    (i ≤ count)
+    × (next ≤ 131072 + 131072 * i)
+    × (length part ≡ length part₀)
+    × (apply part (storesFrom (offsets .at) (sizes .len) (sizes .span) next i (count - i))
+    ≡ apply part₀ (storesFrom (offsets .at) (sizes .len) (sizes .span) heap 0 count))
 
 abbrev μ-loop : tie.MeasureT-loop
 μ-loop part₀ heap offsets sizes count next₀ i₀ part next i = count - i
@@ -43,10 +46,15 @@ cast-span : tie.Need-cast-span Inv-loop μ-loop
 cast-span c = search picks
 
 put-slot-requires : tie.Need-put-slot-requires Inv-loop μ-loop
-put-slot-requires c κs = omega (arith, c .before .before .before .before .before .before .before .pre .0 .room (c .before .before .before .before .before .loop .i) (c .before .before .before .before .loop-test .taken))
+put-slot-requires c κs =
+    let at4 = c .before .before .before .before in
+    omega (arith, at4 .before .before .before .pre .0 .room (at4 .before .loop .i) (at4 .loop-test .taken))
 
 add-next : tie.Need-add-next Inv-loop μ-loop
-add-next c = omega (arith, c .before .before .before .before .before .before .before .before .before .before .pre .0 .short (c .before .before .before .before .before .before .before .before .loop .i) (c .before .before .before .before .before .before .before .loop-test .taken), c .before .before .before .before .before .before .before .before .before .before .pre .0 .few)
+add-next c =
+    let at7 = c .before .before .before .before .before .before .before in
+    let start = at7 .before .before .before in
+    omega (arith, start .pre .0 .short (at7 .before .loop .i) (at7 .loop-test .taken), start .pre .0 .few)
 
 add-i : tie.Need-add-i Inv-loop μ-loop
 add-i c = search picks
@@ -56,15 +64,18 @@ loop-less c = search picks
 
 loop-again : tie.Need-loop-again Inv-loop μ-loop
 loop-again c =
-    let l = c .before .before .before .before .before .before .before .before .loop in
-    let s = c .before .before .before .before .before .before .before .before .before .before in
+    let at7 = c .before .before .before .before .before .before .before in
+    let s = at7 .before .before .before in
+    let l = at7 .before .loop in
     let a = s .args in
-    let k = c .before .before .before .before .before .before .before .loop-test .taken in
+    let k = at7 .loop-test .taken in
     let p = c .before .before .put-slot in (
       search picks,
       omega (arith, s .pre .0 .short (l .i) k, l .inv .1),
       search picks,
-      stores-turn (l .part) (p .last .0) (a .t2 .at) (a .t3 .len) (a .t3 .span) (l .next) (l .i) (a .t2 .count) k (p .ensures) ∙ l .inv .3,
+      stores-turn (l .part) (p .last .0) (a .t2 .at) (a .t3 .len) (a .t3 .span) (l .next) (l .i) (a .t2 .count) k
+          (p .ensures)
+          ∙ l .inv .3,
     )
 
 same-length : tie.Need-same-length Inv-loop μ-loop

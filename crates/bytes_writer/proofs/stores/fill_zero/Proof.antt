@@ -1,6 +1,5 @@
-use Rattle.bytes_writer.proofs.StoreLaws.{zero-at}
+use Rattle.bytes_writer.proofs.StoreLaws.{zero-at, paste-more, paste-done}
 use native.Mathlib.Omega.{arith}
-use Rattle.bytes_writer.proofs.StoreLaws.{paste-more, paste-done}
 use lib.Seq.{paste, paste-zero}
 use lib.ListN.{length, length-set, replicate, length-replicate}
 use Prim.Native.Nat.{_≤_, _-_}
@@ -35,7 +34,11 @@ loop-again c =
     let s = c .before .before in
     let a = s .args in (
       search picks,
-      cc (paste-more (a .out .now) (a .at) (replicate (a .count) 0) (c .before .loop .i) (rw length-replicate (s .pre)) (rw length-replicate (c .loop-test .taken)), zero-at (a .count) (c .before .loop .i)),
+      cc (
+        paste-more (a .out .now) (a .at) (replicate (a .count) 0) (c .before .loop .i)
+            (rw length-replicate (s .pre)) (rw length-replicate (c .loop-test .taken)),
+        zero-at (a .count) (c .before .loop .i),
+      ),
       simp length-set (search picks),
     )
 

@@ -18,7 +18,10 @@ same-length : tie.Need-same-length
 same-length c = search needs
 
 returns : tie.Need-returns
-returns c = let a = c .before .before .before .before .before .before .before .before .before .args in cc (splice-join (a .part .now) (a .at) (le 4 (a .target)) (le 2 (a .len)) (omega (arith, c .before .before .before .before .before .before .before .before .before .pre)))
+returns c =
+    let start = c .before .before .before .before .before .before .before .before .before in
+    let a = start .args in
+    cc (splice-join (a .part .now) (a .at) (le 4 (a .target)) (le 2 (a .len)) (omega (arith, start .pre)))
 
 pub put-ref-spec : {M : Type 1} → statement M
 put-ref-spec =

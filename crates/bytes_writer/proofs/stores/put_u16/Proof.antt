@@ -24,7 +24,10 @@ same-length : tie.Need-same-length
 same-length c = search needs
 
 returns : tie.Need-returns
-returns c = let a = c .before .before .before .args in cc (put-two (a .part .now) (a .at) (c .before .low .result) (c .low2 .result) (c .before .before .before .pre))
+returns c =
+    let start = c .before .before .before in
+    let a = start .args in
+    cc (put-two (a .part .now) (a .at) (c .before .low .result) (c .low2 .result) (start .pre))
 
 pub put-u16-spec : {M : Type 1} → statement M
 put-u16-spec =

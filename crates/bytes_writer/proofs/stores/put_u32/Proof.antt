@@ -19,7 +19,10 @@ same-length : tie.Need-same-length
 same-length c = search needs
 
 returns : tie.Need-returns
-returns c = let a = c .before .before .before .before .before .before .before .before .before .args in cc (splice-join (a .part .now) (a .at) (le 2 (a .value)) (le 2 (a .value / 256 / 256)) (omega (arith, c .before .before .before .before .before .before .before .before .before .pre)))
+returns c =
+    let start = c .before .before .before .before .before .before .before .before .before in
+    let a = start .args in
+    cc (splice-join (a .part .now) (a .at) (le 2 (a .value)) (le 2 (a .value / 256 / 256)) (omega (arith, start .pre)))
 
 pub put-u32-spec : {M : Type 1} → statement M
 put-u32-spec =

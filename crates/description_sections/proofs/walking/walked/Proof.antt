@@ -1,14 +1,19 @@
-use mathlib.Core.Path.{_∙_}
+use mathlib.Core.Path.{_∙_, _≡_}
 use native.Mathlib.Omega.{arith}
 use Prim.Native.Nat.{_≤_, _-_}
 use lib.ListN.{length}
-use mathlib.Core.Path.{_≡_}
 use Rattle.table.proofs.Rules.{picks}
 use Rattle.description_sections.proofs.walking.walked.Statement.{statement}
 use Rattle.description_sections.proofs.walking.walked.Tie as tie
 
 abbrev Inv-loop : tie.InvT-loop
-Inv-loop text c room₀ out₀ n w₀ line₀ from₀ room out w line from = (line ≤ from) × (from ≤ n) × (n ≡ length text) × (n ≤ 18446744073709551615) × (length room ≡ length room₀) × (length out ≡ length out₀)
+Inv-loop text c room₀ out₀ n w₀ line₀ from₀ room out w line from =
+    (line ≤ from)
+    × (from ≤ n)
+    × (n ≡ length text)
+    × (n ≤ 18446744073709551615)
+    × (length room ≡ length room₀)
+    × (length out ≡ length out₀)
 
 abbrev μ-loop : tie.MeasureT-loop
 μ-loop text c room₀ out₀ n w₀ line₀ from₀ room out w line from = n - from
@@ -44,28 +49,66 @@ with-line-requires : tie.Need-with-line-requires Inv-loop μ-loop
 with-line-requires c κs = search picks
 
 same-length : tie.Need-same-length Inv-loop μ-loop
-same-length c = c .before .before .before .before .before .before .with-line .kept .1 .1 .1 .0 ∙ c .before .before .before .before .before .before .before .before .before .before .before .before .before .before .loop .inv .4
+same-length c =
+    let at6 = c .before .before .before .before .before .before in
+    let loop = at6 .before .before .before .before .before .before .before .before .loop in
+    at6 .with-line .kept .1 .1 .1 .0 ∙ loop .inv .4
 
 same-length-2 : tie.Need-same-length-2 Inv-loop μ-loop
-same-length-2 c = c .before .before .before .before .before .before .with-line .kept .1 .1 .1 .1 .0 ∙ c .before .before .before .before .before .before .before .before .before .before .before .before .before .before .loop .inv .5
+same-length-2 c =
+    let at6 = c .before .before .before .before .before .before in
+    let loop = at6 .before .before .before .before .before .before .before .before .loop in
+    at6 .with-line .kept .1 .1 .1 .1 .0 ∙ loop .inv .5
 
 returns : tie.Need-returns Inv-loop μ-loop
 returns c = search picks
 
 add-from : tie.Need-add-from Inv-loop μ-loop
-add-from c = omega (arith, c .if2 .taken, c .before .before .before .before .before .before .before .before .before .before .before .before .before .before .before .loop .inv .3)
+add-from c =
+    let loop = c .before .before .before .before .before .before .before .before .before .before .before .before .before
+    .before .before .loop in
+    omega (arith, c .if2 .taken, loop .inv .3)
 
 loop-less : tie.Need-loop-less Inv-loop μ-loop
 loop-less c = search picks
 
 loop-again : tie.Need-loop-again Inv-loop μ-loop
-loop-again c = (omega (arith, c .before .before .before .before .before .before .before .before .before .before .before .before .before .before .before .loop .inv .0, c .before .before .before .before .before .before .before .before .before .before .before .before .before .mark-from .ensures .0, c .if2 .taken), omega (arith, c .if2 .taken), c .before .before .before .before .before .before .before .before .before .before .before .before .before .before .before .loop .inv .2, c .before .before .before .before .before .before .before .before .before .before .before .before .before .before .before .loop .inv .3, c .before .before .before .before .before .before .before .with-line .kept .1 .1 .1 .0 ∙ c .before .before .before .before .before .before .before .before .before .before .before .before .before .before .before .loop .inv .4, c .before .before .before .before .before .before .before .with-line .kept .1 .1 .1 .1 .0 ∙ c .before .before .before .before .before .before .before .before .before .before .before .before .before .before .before .loop .inv .5)
+loop-again c =
+    let at7 = c .before .before .before .before .before .before .before in
+    let at13 = at7 .before .before .before .before .before .before in
+    let loop = at13 .before .before .loop in (
+      omega (arith, loop .inv .0, at13 .mark-from .ensures .0, c .if2 .taken),
+      omega (arith, c .if2 .taken),
+      loop .inv .2,
+      loop .inv .3,
+      at7 .with-line .kept .1 .1 .1 .0 ∙ loop .inv .4,
+      at7 .with-line .kept .1 .1 .1 .1 .0 ∙ loop .inv .5,
+    )
 
 loop-less-2 : tie.Need-loop-less-2 Inv-loop μ-loop
 loop-less-2 c = search picks
 
 loop-again-2 : tie.Need-loop-again-2 Inv-loop μ-loop
-loop-again-2 c = (omega (arith, c .before .before .before .before .before .before .before .before .before .before .before .before .before .before .before .loop .inv .0, c .before .before .before .before .before .before .before .before .before .before .before .before .before .before .before .loop .inv .1, c .before .before .before .before .before .before .before .before .before .before .before .before .before .before .before .loop .inv .2, c .before .before .before .before .before .before .before .before .before .before .before .before .before .mark-from .ensures .0, c .before .before .before .before .before .before .before .before .before .before .before .before .before .mark-from .ensures .1, c .before .before .before .before .before .before .before .before .before .before .before .before .before .before .loop-test .taken, c .if2 .left), omega (arith, c .before .before .before .before .before .before .before .before .before .before .before .before .before .mark-from .ensures .1, c .before .before .before .before .before .before .before .before .before .before .before .before .before .before .before .loop .inv .2), c .before .before .before .before .before .before .before .before .before .before .before .before .before .before .before .loop .inv .2, c .before .before .before .before .before .before .before .before .before .before .before .before .before .before .before .loop .inv .3, c .before .before .before .before .before .before .before .with-line .kept .1 .1 .1 .0 ∙ c .before .before .before .before .before .before .before .before .before .before .before .before .before .before .before .loop .inv .4, c .before .before .before .before .before .before .before .with-line .kept .1 .1 .1 .1 .0 ∙ c .before .before .before .before .before .before .before .before .before .before .before .before .before .before .before .loop .inv .5)
+loop-again-2 c =
+    let at7 = c .before .before .before .before .before .before .before in
+    let at13 = at7 .before .before .before .before .before .before in
+    let loop = at13 .before .before .loop in (
+      omega (
+        arith,
+        loop .inv .0,
+        loop .inv .1,
+        loop .inv .2,
+        at13 .mark-from .ensures .0,
+        at13 .mark-from .ensures .1,
+        at13 .before .loop-test .taken,
+        c .if2 .left,
+      ),
+      omega (arith, at13 .mark-from .ensures .1, loop .inv .2),
+      loop .inv .2,
+      loop .inv .3,
+      at7 .with-line .kept .1 .1 .1 .0 ∙ loop .inv .4,
+      at7 .with-line .kept .1 .1 .1 .1 .0 ∙ loop .inv .5,
+    )
 
 same-length-3 : tie.Need-same-length-3 Inv-loop μ-loop
 same-length-3 c = search picks

@@ -36,7 +36,9 @@ shared-slice-read-out : tie.Need-shared-slice-read-out Inv-loop μ-loop
 shared-slice-read-out c = search picks
 
 array-read-out : tie.Need-array-read-out Inv-loop μ-loop
-array-read-out c = omega (arith, c .before .before .before .before .before .before .pre .1, c .before .loop-test .taken, base-small (c .before .before .before .before .before .before .args .kind))
+array-read-out c =
+    let start = c .before .before .before .before .before .before in
+    omega (arith, start .pre .1, c .before .loop-test .taken, base-small (start .args .kind))
 
 array-write-out : tie.Need-array-write-out Inv-loop μ-loop
 array-write-out c = search picks
@@ -48,29 +50,36 @@ loop-less : tie.Need-loop-less Inv-loop μ-loop
 loop-less c = search picks
 
 loop-again : tie.Need-loop-again Inv-loop μ-loop
-loop-again c = let a = c .before .before .before .before .before .before .args in
+loop-again c =
+    let at2 = c .before .before in
+    let start = at2 .before .before .before .before in
+    let a = start .args in
     let s = imageIn (layoutOf (a .kind)) (a .x .now) 0 in
     let n = length-imageIn (layoutOf (a .kind)) (a .x .now) 0 in
-    let l = part-long s (a .off) (a .width) (omega (arith, n, c .before .before .before .before .before .before .pre .1)) in
-    let h : c .before .before .loop .i < a .width = c .before .loop-test .taken in
-    let v : bitAnd (getD (a .x .now) (a .off + c .before .before .loop .i) 0) (getD (c .before .before .before .masks-of .result) (a .off + c .before .before .loop .i) 0) ≡ getD s
-    (a .off + c .before .before .loop .i) 0 = ap (λ (m : List ℕ). bitAnd (getD (a .x .now) (a .off + c .before .before .loop .i) 0) (getD m (a .off + c .before .before .loop .i) 0))
-    (c .before .before .before .masks-of .ensures ∙ ap (masksFor (a .kind)) (c .before .before .before .before .counts-more .ensures))
-    ∙ masked-byte (a .kind) (a .x .now) (a .off + c .before .before .loop .i) (omega (arith, h, c .before .before .before .before .before .before .pre .1)) in
-    let w = v ∙ sym (part-byte s (a .off) (a .width) (c .before .before .loop .i) h) in (
+    let l = part-long s (a .off) (a .width) (omega (arith, n, start .pre .1)) in
+    let h : at2 .loop .i < a .width = c .before .loop-test .taken in
+    let v : bitAnd (getD (a .x .now) (a .off + at2 .loop .i) 0)
+    (getD (at2 .before .masks-of .result) (a .off + at2 .loop .i) 0) ≡ getD s (a .off + at2 .loop .i) 0 =
+    ap (λ (m : List ℕ). bitAnd (getD (a .x .now) (a .off + at2 .loop .i) 0) (getD m (a .off + at2 .loop .i) 0))
+    (at2 .before .masks-of .ensures ∙ ap (masksFor (a .kind)) (at2 .before .before .counts-more .ensures)) ∙ masked-byte
+    (a .kind) (a .x .now) (a .off + at2 .loop .i) (omega (arith, h, start .pre .1)) in
+    let w = v ∙ sym (part-byte s (a .off) (a .width) (at2 .loop .i) h) in (
       search picks,
-      rw (c .before .before .loop .inv .1, w) (over-more (replicate 16 0) (part s (a .off) (a .width)) (c .before .before .loop .i) (omega (arith, l, h)) (omega
-          (arith, h, c .before .before .before .before .before .before .pre .2))),
+      rw (at2 .loop .inv .1, w) (over-more (replicate 16 0) (part s (a .off) (a .width)) (at2 .loop .i)
+          (omega (arith, l, h)) (omega (arith, h, start .pre .2))),
     )
 
 returns : tie.Need-returns Inv-loop μ-loop
-returns c = let a = c .before .before .before .before .before .args in
+returns c =
+    let start = c .before .before .before .before .before in
+    let a = start .args in
     let s = imageIn (layoutOf (a .kind)) (a .x .now) 0 in
     let n = length-imageIn (layoutOf (a .kind)) (a .x .now) 0 in
-    let l = part-long s (a .off) (a .width) (omega (arith, n, c .before .before .before .before .before .pre .1)) in
+    let l = part-long s (a .off) (a .width) (omega (arith, n, start .pre .1)) in
     let e : c .before .loop .i ≡ length (part s (a .off) (a .width)) = omega (arith, l) in
-    c .before .loop .inv .1 ∙ ap (over (replicate 16 0) (part s (a .off) (a .width))) e
-    ∙ over-padded 16 (part s (a .off) (a .width)) (omega (arith, l, c .before .before .before .before .before .pre .2))
+    c .before .loop .inv .1
+    ∙ ap (over (replicate 16 0) (part s (a .off) (a .width))) e
+    ∙ over-padded 16 (part s (a .off) (a .width)) (omega (arith, l, start .pre .2))
 
 pub field-at-spec : {M : Type 1} → statement M
 field-at-spec =

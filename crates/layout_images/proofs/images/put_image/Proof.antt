@@ -37,13 +37,14 @@ shared-slice-read-out : tie.Need-shared-slice-read-out Inv-loop μ-loop
 shared-slice-read-out c = search picks
 
 array-read-out : tie.Need-array-read-out Inv-loop μ-loop
-array-read-out c = omega (
-  arith,
-  c .before .loop-test .taken,
-  c .before .before .before .base-size .ensures,
-  base-small
-      (c .before .before .before .before .before .before .before .before .args .kind),
-)
+array-read-out c =
+    let start = c .before .before .before .before .before .before .before .before in
+    omega (
+      arith,
+      c .before .loop-test .taken,
+      c .before .before .before .base-size .ensures,
+      base-small (start .args .kind),
+    )
 
 add-out : tie.Need-add-out Inv-loop μ-loop
 add-out c = search picks
@@ -58,17 +59,21 @@ loop-less : tie.Need-loop-less Inv-loop μ-loop
 loop-less c = search picks
 
 loop-again : tie.Need-loop-again Inv-loop μ-loop
-loop-again c = let a = c .before .before .before .before .before .before .before .before .args in
+loop-again c =
+    let at2 = c .before .before in
+    let at4 = at2 .before .before in
+    let start = at4 .before .before .before .before in
+    let a = start .args in
     let s = imageIn (layoutOf (a .kind)) (a .x .now) 0 in
     let n = length-imageIn (layoutOf (a .kind)) (a .x .now) 0 in
-    let i = c .before .before .loop .i in
-    let h : i < length s = omega (arith, n, c .before .loop-test .taken, c .before .before .before .base-size .ensures) in
-    let v : bitAnd (getD (a .x .now) i 0) (getD (c .before .before .before .before .masks-of .result) i 0) ≡ getD s i 0 =
-    ap (λ (m : List ℕ). bitAnd (getD (a .x .now) i 0) (getD m i 0)) (c .before .before .before .before .masks-of .ensures
-    ∙ ap (masksFor (a .kind)) (c .before .before .before .before .before .counts-more .ensures)) ∙ masked-byte (a .kind) (a .x .now) i (omega (arith, n, h)) in (
+    let i = at2 .loop .i in
+    let h : i < length s = omega (arith, n, c .before .loop-test .taken, at2 .before .base-size .ensures) in
+    let v : bitAnd (getD (a .x .now) i 0) (getD (at4 .masks-of .result) i 0) ≡ getD s i 0 =
+    ap (λ (m : List ℕ). bitAnd (getD (a .x .now) i 0) (getD m i 0))
+    (at4 .masks-of .ensures ∙ ap (masksFor (a .kind)) (at4 .before .counts-more .ensures)) ∙ masked-byte (a .kind)
+    (a .x .now) i (omega (arith, n, h)) in (
       search picks,
-      rw (c .before .before .loop .inv .1, v) (paste-more (a .out .now) (a .d) s i (omega
-          (arith, n, c .before .before .before .before .before .before .before .before .pre)) h),
+      rw (at2 .loop .inv .1, v) (paste-more (a .out .now) (a .d) s i (omega (arith, n, start .pre)) h),
       simp length-set (search picks),
     )
 

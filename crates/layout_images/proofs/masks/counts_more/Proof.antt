@@ -9,11 +9,17 @@ use Rattle.layout_images.proofs.masks.counts_more.Tie as tie
 
 shared-slice-read-result : tie.Need-shared-slice-read-result
 unfolding layoutOf ssns info
-shared-slice-read-result c = let b : 128 ≡ baseOf (layoutOf (c .before .before .args .kind)) = rw (c .before .match .keys1) refl in omega (arith, b, c .before .before .pre)
+shared-slice-read-result c =
+    let start = c .before .before in
+    let b : 128 ≡ baseOf (layoutOf (start .args .kind)) = rw (c .before .match .keys1) refl in
+    omega (arith, b, start .pre)
 
 shared-slice-read-result-2 : tie.Need-shared-slice-read-result-2
 unfolding layoutOf ssns info
-shared-slice-read-result-2 c = let b : 128 ≡ baseOf (layoutOf (c .before .before .args .kind)) = rw (c .before .match .keys2) refl in omega (arith, b, c .before .before .pre)
+shared-slice-read-result-2 c =
+    let start = c .before .before in
+    let b : 128 ≡ baseOf (layoutOf (start .args .kind)) = rw (c .before .match .keys2) refl in
+    omega (arith, b, start .pre)
 
 returns : tie.Need-returns
 unfolding onIn

@@ -14,13 +14,22 @@ finish-requires : tie.Need-finish-requires
 finish-requires c κs = search needs
 
 show-requires : tie.Need-show-requires
-show-requires c κs = let a = c .before .before .before .before .before .before .before .before .args in rw (c .before .before .before .finish .ensures .0) (finish-placed (c .before .before .before .before .state-of .result) (a .out .now) (λ i. omega (arith, c .before .before .before .before .before .before .before .slice-known .given i)))
+show-requires c κs =
+    let at4 = c .before .before .before .before in
+    let a = at4 .before .before .before .before .args in
+    rw (c .before .before .before .finish .ensures .0) (finish-placed (at4 .state-of .result) (a .out .now)
+    (λ i. omega (arith, at4 .before .before .before .slice-known .given i)))
 
 same-length : tie.Need-same-length
 same-length c = search needs
 
 returns : tie.Need-returns
-returns c = let a = c .before .before .before .before .before .before .before .before .before .args in shown (λ (s : State). finish s (a .out .now)) (c .before .before .before .before .before .state-of .result) (a .state .now) _ _ (c .before .before .before .before .finish .result) _ (c .before .before .before .before .before .state-of .ensures .0) (c .before .before .before .before .finish .ensures .0) (c .before .before .before .before .finish .ensures .1) (c .show .ensures .0) (c .show .ensures .1)
+returns c =
+    let at4 = c .before .before .before .before in
+    let a = at4 .before .before .before .before .before .args in
+    shown (λ (s : State). finish s (a .out .now)) (at4 .before .state-of .result) (a .state .now) _ _
+    (at4 .finish .result) _ (at4 .before .state-of .ensures .0) (at4 .finish .ensures .0) (at4 .finish .ensures .1)
+    (c .show .ensures .0) (c .show .ensures .1)
 
 pub nbft-finish-spec : {M : Type 1} → statement M
 nbft-finish-spec =

@@ -13,13 +13,22 @@ hfi-requires : tie.Need-hfi-requires
 hfi-requires c κs = search needs
 
 show-requires : tie.Need-show-requires
-show-requires c κs = let a = c .before .before .before .before .before .before .before .before .before .before .before .args in rw (c .before .before .before .hfi .ensures .0) (hfi-placed (c .before .before .before .before .state-of .result) (c .before .before .before .before .state-of .ensures .1) (a .out .now) (a .told .now) (a .info .now) (a .name .now))
+show-requires c κs =
+    let at4 = c .before .before .before .before in
+    let a = at4 .before .before .before .before .before .before .before .args in
+    rw (c .before .before .before .hfi .ensures .0) (hfi-placed (at4 .state-of .result) (at4 .state-of .ensures .1)
+    (a .out .now) (a .told .now) (a .info .now) (a .name .now))
 
 same-length : tie.Need-same-length
 same-length c = search needs
 
 returns : tie.Need-returns
-returns c = let a = c .before .before .before .before .before .before .before .before .before .before .before .before .args in shown (λ (s : State). tellHfi s (a .out .now) (a .told .now) (a .info .now) (a .name .now)) (c .before .before .before .before .before .state-of .result) (a .state .now) _ _ (c .before .before .before .before .hfi .result) _ (c .before .before .before .before .before .state-of .ensures .0) (c .before .before .before .before .hfi .ensures .0) (c .before .before .before .before .hfi .ensures .1) (c .show .ensures .0) (c .show .ensures .1)
+returns c =
+    let at4 = c .before .before .before .before in
+    let a = at4 .before .before .before .before .before .before .before .before .args in
+    shown (λ (s : State). tellHfi s (a .out .now) (a .told .now) (a .info .now) (a .name .now))
+    (at4 .before .state-of .result) (a .state .now) _ _ (at4 .hfi .result) _ (at4 .before .state-of .ensures .0)
+    (at4 .hfi .ensures .0) (at4 .hfi .ensures .1) (c .show .ensures .0) (c .show .ensures .1)
 
 pub nbft-hfi-spec : {M : Type 1} → statement M
 nbft-hfi-spec =

@@ -13,13 +13,22 @@ host-requires : tie.Need-host-requires
 host-requires c κs = search needs
 
 show-requires : tie.Need-show-requires
-show-requires c κs = let a = c .before .before .before .before .before .before .before .before .before .before .args in rw (c .before .before .before .host .ensures .0) (host-placed (c .before .before .before .before .state-of .result) (c .before .before .before .before .state-of .ensures .1) (a .out .now) (a .told .now) (a .nqn .now))
+show-requires c κs =
+    let at4 = c .before .before .before .before in
+    let a = at4 .before .before .before .before .before .before .args in
+    rw (c .before .before .before .host .ensures .0)
+    (host-placed (at4 .state-of .result) (at4 .state-of .ensures .1) (a .out .now) (a .told .now) (a .nqn .now))
 
 same-length : tie.Need-same-length
 same-length c = search needs
 
 returns : tie.Need-returns
-returns c = let a = c .before .before .before .before .before .before .before .before .before .before .before .args in shown (λ (s : State). tellHost s (a .out .now) (a .told .now) (a .nqn .now)) (c .before .before .before .before .before .state-of .result) (a .state .now) _ _ (c .before .before .before .before .host .result) _ (c .before .before .before .before .before .state-of .ensures .0) (c .before .before .before .before .host .ensures .0) (c .before .before .before .before .host .ensures .1) (c .show .ensures .0) (c .show .ensures .1)
+returns c =
+    let at4 = c .before .before .before .before in
+    let a = at4 .before .before .before .before .before .before .before .args in
+    shown (λ (s : State). tellHost s (a .out .now) (a .told .now) (a .nqn .now)) (at4 .before .state-of .result)
+    (a .state .now) _ _ (at4 .host .result) _ (at4 .before .state-of .ensures .0) (at4 .host .ensures .0)
+    (at4 .host .ensures .1) (c .show .ensures .0) (c .show .ensures .1)
 
 pub nbft-host-spec : {M : Type 1} → statement M
 nbft-host-spec =

@@ -13,13 +13,21 @@ leave-requires : tie.Need-leave-requires
 leave-requires c κs = search needs
 
 show-requires : tie.Need-show-requires
-show-requires c κs = let a = c .before .before .before .before .before .before .before .before .args in rw (c .before .before .before .leave .ensures .0) (leave-placed (c .before .before .before .before .state-of .result) (a .out .now))
+show-requires c κs =
+    let at4 = c .before .before .before .before in
+    let a = at4 .before .before .before .before .args in
+    rw (c .before .before .before .leave .ensures .0) (leave-placed (at4 .state-of .result) (a .out .now))
 
 same-length : tie.Need-same-length
 same-length c = search needs
 
 returns : tie.Need-returns
-returns c = let a = c .before .before .before .before .before .before .before .before .before .args in shown (λ (s : State). leave s (a .out .now)) (c .before .before .before .before .before .state-of .result) (a .state .now) _ _ (c .before .before .before .before .leave .result) _ (c .before .before .before .before .before .state-of .ensures .0) (c .before .before .before .before .leave .ensures .0) (c .before .before .before .before .leave .ensures .1) (c .show .ensures .0) (c .show .ensures .1)
+returns c =
+    let at4 = c .before .before .before .before in
+    let a = at4 .before .before .before .before .before .args in
+    shown (λ (s : State). leave s (a .out .now)) (at4 .before .state-of .result) (a .state .now) _ _
+    (at4 .leave .result) _ (at4 .before .state-of .ensures .0) (at4 .leave .ensures .0) (at4 .leave .ensures .1)
+    (c .show .ensures .0) (c .show .ensures .1)
 
 pub nbft-leave-spec : {M : Type 1} → statement M
 nbft-leave-spec =

@@ -13,13 +13,24 @@ ssns-requires : tie.Need-ssns-requires
 ssns-requires c κs = search needs
 
 show-requires : tie.Need-show-requires
-show-requires c κs = let a = c .before .before .before .before .before .before .before .before .before .before .before .before .before .before .before .args in rw (c .before .before .before .ssns .ensures .0) (ssns-placed (c .before .before .before .before .state-of .result) (c .before .before .before .before .state-of .ensures .1) (a .out .now) (a .told .now) (a .address .now) (a .service .now) (a .others .now) (a .nqn .now) (a .extended .now) (a .path .now))
+show-requires c κs =
+    let at4 = c .before .before .before .before in
+    let a = at4 .before .before .before .before .before .before .before .before .before .before .before .args in
+    rw (c .before .before .before .ssns .ensures .0) (ssns-placed (at4 .state-of .result) (at4 .state-of .ensures .1)
+    (a .out .now) (a .told .now) (a .address .now) (a .service .now) (a .others .now) (a .nqn .now) (a .extended .now)
+    (a .path .now))
 
 same-length : tie.Need-same-length
 same-length c = search needs
 
 returns : tie.Need-returns
-returns c = let a = c .before .before .before .before .before .before .before .before .before .before .before .before .before .before .before .before .args in shown (λ (s : State). tellSsns s (a .out .now) (a .told .now) (a .address .now) (a .service .now) (a .others .now) (a .nqn .now) (a .extended .now) (a .path .now)) (c .before .before .before .before .before .state-of .result) (a .state .now) _ _ (c .before .before .before .before .ssns .result) _ (c .before .before .before .before .before .state-of .ensures .0) (c .before .before .before .before .ssns .ensures .0) (c .before .before .before .before .ssns .ensures .1) (c .show .ensures .0) (c .show .ensures .1)
+returns c =
+    let at4 = c .before .before .before .before in
+    let a = at4 .before .before .before .before .before .before .before .before .before .before .before .before .args in
+    shown (λ (s : State). tellSsns s (a .out .now) (a .told .now) (a .address .now) (a .service .now) (a .others .now)
+    (a .nqn .now) (a .extended .now) (a .path .now)) (at4 .before .state-of .result) (a .state .now) _ _
+    (at4 .ssns .result) _ (at4 .before .state-of .ensures .0) (at4 .ssns .ensures .0) (at4 .ssns .ensures .1)
+    (c .show .ensures .0) (c .show .ensures .1)
 
 pub nbft-ssns-spec : {M : Type 1} → statement M
 nbft-ssns-spec =

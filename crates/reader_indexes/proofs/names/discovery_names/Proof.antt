@@ -11,8 +11,10 @@ use borrow.Author.Needs.{needs}
 use Rattle.reader_indexes.proofs.names.discovery_names.Statement.{statement}
 use Rattle.reader_indexes.proofs.names.discovery_names.Tie as tie
 
-interface : (c : tie.After-index-fault) → let t = c .before .before .before .before .args .t .now in c .index-fault .result ≡ pick
-    (validIn t 3 (getD t (c .before .before .before .before .args .a + 3) 0)) 0 13
+interface : (c : tie.After-index-fault) →
+    let start = c .before .before .before .before in
+    let t = start .args .t .now in
+    c .index-fault .result ≡ pick (validIn t 3 (getD t (start .args .a + 3) 0)) 0 13
 interface c = cc
 
 add-wide : tie.Need-add-wide
@@ -29,8 +31,10 @@ index-fault-requires c κs = search needs
 
 returns : tie.Need-returns
 returns c =
-    stop _ (interface (c .before)) (c .if1 .taken) ∙ discovery-names (c .before .before .before .before .before .args .t .now)
-    (c .before .before .before .before .before .args .a) (λ i. omega (arith, c .before .before .before .before .shared-slice-known .given i))
+    let at4 = c .before .before .before .before in
+    stop _ (interface (c .before)) (c .if1 .taken)
+    ∙ discovery-names (at4 .before .args .t .now) (at4 .before .args .a)
+    (λ i. omega (arith, at4 .shared-slice-known .given i))
 
 add-wide-2 : tie.Need-add-wide-2
 add-wide-2 c = search needs
@@ -46,12 +50,12 @@ optional-index-requires c κs = search needs
 
 returns-2 : tie.Need-returns-2
 returns-2 c =
-    let t = c .before .before .before .before .before .before .before .before .args .t .now in
-    let e : c .optional-index .result ≡ pick (zeroOr (validIn t 5)
-    (getD t (c .before .before .before .before .before .before .before .before .args .a + 4) 0)) 0 13 = cc in
-    more (interface (c .before .before .before .before)) (c .before .before .before .if1 .left) e ∙ discovery-names
-    (c .before .before .before .before .before .before .before .before .args .t .now) (c .before .before .before .before .before .before .before .before .args .a)
-    (λ i. omega (arith, c .before .before .before .before .before .before .before .shared-slice-known .given i))
+    let at4 = c .before .before .before .before in
+    let start = at4 .before .before .before .before in
+    let t = start .args .t .now in
+    let e : c .optional-index .result ≡ pick (zeroOr (validIn t 5) (getD t (start .args .a + 4) 0)) 0 13 = cc in
+    more (interface at4) (c .before .before .before .if1 .left) e
+    ∙ discovery-names t (start .args .a) (λ i. omega (arith, at4 .before .before .before .shared-slice-known .given i))
 
 pub discovery-names-spec : {M : Type 1} → statement M
 discovery-names-spec =

@@ -6,11 +6,15 @@ use Rattle.reader_indexes.proofs.names.names_fault.Tie as tie
 
 ssns-names-requires : tie.Need-ssns-names-requires
 unfolding layoutOf ssns
-ssns-names-requires c κs = (c .before .before .before .pre .0, rw (c .match .keys1) at (c .before .before .before .pre .1), c .before .before .before .pre .2, rw (c .match .keys1) at (c .before .before .before .pre .3))
+ssns-names-requires c κs =
+    let start = c .before .before .before in
+    (start .pre .0, rw (c .match .keys1) at (start .pre .1), start .pre .2, rw (c .match .keys1) at (start .pre .3))
 
 discovery-names-requires : tie.Need-discovery-names-requires
 unfolding layoutOf discovery
-discovery-names-requires c κs = (c .before .before .before .pre .0, rw (c .match .keys2) at (c .before .before .before .pre .1))
+discovery-names-requires c κs =
+    let start = c .before .before .before in
+    (start .pre .0, rw (c .match .keys2) at (start .pre .1))
 
 returns : tie.Need-returns
 returns c = rw (c .before .match .keys1) (c .ssns-names .ensures)
@@ -19,7 +23,9 @@ returns-2 : tie.Need-returns-2
 returns-2 c = rw (c .before .match .keys2) (c .discovery-names .ensures)
 
 returns-3 : tie.Need-returns-3
-returns-3 c = no-names (c .before .before .before .args .t .now) (c .before .before .before .args .a) (c .before .before .before .args .kind) (search picks) (search picks)
+returns-3 c =
+    let start = c .before .before .before in
+    no-names (start .args .t .now) (start .args .a) (start .args .kind) (search picks) (search picks)
 
 pub names-fault-spec : {M : Type 1} → statement M
 names-fault-spec =

@@ -13,7 +13,9 @@ ssns-flags-requires : tie.Need-ssns-flags-requires
 ssns-flags-requires c κs = search needs
 
 returns : tie.Need-returns
-returns c = security-off (c .before .before .before .args .t .now) (c .before .before .before .args .a) (rw (c .before .ssns-flags .ensures) at (c .if1 .taken))
+returns c =
+    let start = c .before .before .before in
+    security-off (start .args .t .now) (start .args .a) (rw (c .before .ssns-flags .ensures) at (c .if1 .taken))
 
 add-wide : tie.Need-add-wide
 add-wide c = search needs
@@ -28,7 +30,15 @@ index-fault-requires : tie.Need-index-fault-requires
 index-fault-requires c κs = search needs
 
 returns-2 : tie.Need-returns-2
-returns-2 c = let t = c .before .before .before .before .before .before .args .t .now in let a = c .before .before .before .before .before .before .args .a in let e : c .index-fault .result ≡ pick (validIn t 5 (getD t (a + 45) 0)) 0 13 = cc in e ∙ security-on t a (λ i. omega (arith, c .before .before .before .before .before .shared-slice-known .given i)) (rw (c .before .before .before .before .ssns-flags .ensures) at (c .before .before .before .if1 .left))
+returns-2 c =
+    let at4 = c .before .before .before .before in
+    let start = at4 .before .before in
+    let t = start .args .t .now in
+    let a = start .args .a in
+    let e : c .index-fault .result ≡ pick (validIn t 5 (getD t (a + 45) 0)) 0 13 = cc in
+    e
+    ∙ security-on t a (λ i. omega (arith, at4 .before .shared-slice-known .given i))
+    (rw (at4 .ssns-flags .ensures) at (c .before .before .before .if1 .left))
 
 pub security-index-spec : {M : Type 1} → statement M
 security-index-spec =

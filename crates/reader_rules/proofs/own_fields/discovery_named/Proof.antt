@@ -21,8 +21,9 @@ named-requires c κs = search needs
 
 returns : tie.Need-returns
 returns c =
-    rw (← discovery-named (c .before .before .before .before .before .args .t .now) (c .before .before .before .before .before .args .a)
-    (c .before .before .before .before .before .args .position) (λ i. omega (arith, c .before .before .before .before .shared-slice-known .given i))) (cc)
+    let at4 = c .before .before .before .before in
+    rw (← discovery-named (at4 .before .args .t .now) (at4 .before .args .a) (at4 .before .args .position)
+    (λ i. omega (arith, at4 .shared-slice-known .given i))) (cc)
 
 pub discovery-named-spec : {M : Type 1} → statement M
 discovery-named-spec =

@@ -27,8 +27,9 @@ named-requires c κs = search needs
 
 returns : tie.Need-returns
 returns c =
-    rw (← hfi-named (c .before .before .before .before .before .before .args .t .now) (c .before .before .before .before .before .before .args .a)
-    (c .before .before .before .before .before .before .args .position) (λ i. omega (arith, c .before .before .before .before .before .shared-slice-known .given i))) (cc)
+    let at5 = c .before .before .before .before .before in
+    rw (← hfi-named (at5 .before .args .t .now) (at5 .before .args .a) (at5 .before .args .position)
+    (λ i. omega (arith, at5 .shared-slice-known .given i))) (cc)
 
 pub hfi-named-spec : {M : Type 1} → statement M
 hfi-named-spec =

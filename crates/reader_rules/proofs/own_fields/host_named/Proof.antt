@@ -12,7 +12,8 @@ named-requires c κs = search needs
 
 returns : tie.Need-returns
 returns c =
-    rw (← host-named (c .before .before .before .args .t .now) (c .before .before .before .args .a) (c .before .before .before .args .position)
+    let start = c .before .before .before in
+    rw (← host-named (start .args .t .now) (start .args .a) (start .args .position)
     (λ i. omega (arith, c .before .before .shared-slice-known .given i))) (cc)
 
 pub host-named-spec : {M : Type 1} → statement M

@@ -22,7 +22,10 @@ security-named-requires c κs = rw (c .match .keys4) at (c .before .before .pre 
 
 discovery-named-requires : tie.Need-discovery-named-requires
 unfolding layoutOf discovery
-discovery-named-requires c κs = let k : c .before .before .args .kind ≡ 6 = omega (arith, c .match .rest, c .before .before .pre) in rw k at (c .before .before .pre .2)
+discovery-named-requires c κs =
+    let start = c .before .before in
+    let k : start .args .kind ≡ 6 = omega (arith, c .match .rest, start .pre) in
+    rw k at (start .pre .2)
 
 returns : tie.Need-returns
 returns c = rw (c .before .match .keys1) (c .host-named .ensures)
@@ -37,7 +40,10 @@ returns-4 : tie.Need-returns-4
 returns-4 c = rw (c .before .match .keys4) (c .security-named .ensures)
 
 returns-5 : tie.Need-returns-5
-returns-5 c = let k : c .before .before .before .args .kind ≡ 6 = omega (arith, c .before .match .rest, c .before .before .before .pre) in rw k (c .discovery-named .ensures)
+returns-5 c =
+    let start = c .before .before .before in
+    let k : start .args .kind ≡ 6 = omega (arith, c .before .match .rest, start .pre) in
+    rw k (c .discovery-named .ensures)
 
 pub named-fault-spec : {M : Type 1} → statement M
 named-fault-spec =

@@ -9,9 +9,9 @@ named-fault-requires c κs = search needs
 
 returns : tie.Need-returns
 returns c =
+    let start = c .before .before .before in
     rw (
-      ← right-is (c .before .before .before .args .kind) (c .before .before .before .args .t .now) (c .before .before .before .args .a)
-          (c .before .before .before .args .position),
+      ← right-is (start .args .kind) (start .args .t .now) (start .args .a) (start .args .position),
       ← c .before .named-fault .ensures,
     ) (search picks)
 
@@ -20,9 +20,9 @@ pairs-right-requires c κs = search needs
 
 returns-2 : tie.Need-returns-2
 returns-2 c =
+    let start = c .before .before .before .before .before in
     rw (
-      ← right-is (c .before .before .before .before .before .args .kind) (c .before .before .before .before .before .args .t .now)
-          (c .before .before .before .before .before .args .a) (c .before .before .before .before .before .args .position),
+      ← right-is (start .args .kind) (start .args .t .now) (start .args .a) (start .args .position),
       ← c .before .before .before .named-fault .ensures,
       ← c .before .pairs-right .ensures,
       c .if2 .taken,
@@ -30,9 +30,9 @@ returns-2 c =
 
 returns-3 : tie.Need-returns-3
 returns-3 c =
+    let start = c .before .before .before .before .before in
     rw (
-      ← right-is (c .before .before .before .before .before .args .kind) (c .before .before .before .before .before .args .t .now)
-          (c .before .before .before .before .before .args .a) (c .before .before .before .before .before .args .position),
+      ← right-is (start .args .kind) (start .args .t .now) (start .args .a) (start .args .position),
       ← c .before .before .before .named-fault .ensures,
       ← c .before .pairs-right .ensures,
       c .if2 .left,

@@ -16,7 +16,11 @@ unfolding imageIn
 returns c = rw (c .before .if1 .taken) (c .field-at .ensures)
 
 returns-2 : tie.Need-returns-2
-returns-2 c = let a = c .before .before .args in rw (c .if1 .left) (zeros-padded (a .len) 16 (c .before .before .pre .2) ∙ ap (padded 16) (sym (part-zeros (baseOf (layoutOf (a .kind))) (a .off) (a .len) (c .before .before .pre .1))))
+returns-2 c =
+    let start = c .before .before in
+    let a = start .args in
+    rw (c .if1 .left) (zeros-padded (a .len) 16 (start .pre .2)
+    ∙ ap (padded 16) (sym (part-zeros (baseOf (layoutOf (a .kind))) (a .off) (a .len) (start .pre .1))))
 
 pub field-bytes-spec : {M : Type 1} → statement M
 field-bytes-spec = tie.close (tie.spec field-at-requires returns returns-2)

@@ -17,16 +17,33 @@ refused-field-requires : tie.Need-refused-field-requires
 refused-field-requires c κs = search needs
 
 returns : tie.Need-returns
-returns c = rw (← c .before .before .before .field-width .ensures, eq-eqb (c .before .before .before .field-width .result) 0 (c .before .before .if1 .taken)) (c .refused-field .ensures ∙ ap refusedField (c .before .refuse .ensures))
+returns c =
+    let field-width = c .before .before .before .field-width in
+    rw (← field-width .ensures, eq-eqb (field-width .result) 0 (c .before .before .if1 .taken))
+    (c .refused-field .ensures ∙ ap refusedField (c .before .refuse .ensures))
 
 field-bytes-requires : tie.Need-field-bytes-requires
-field-bytes-requires c κs = let a = c .before .before .before .args in let w = width-fits (a .kind) (a .off) (λ z. c .if1 .left (c .before .field-width .ensures ∙ z)) in (c .before .before .before .pre, omega (arith, w .0, c .before .field-width .ensures), omega (arith, w .1, c .before .field-width .ensures))
+field-bytes-requires c κs =
+    let start = c .before .before .before in
+    let a = start .args in
+    let w = width-fits (a .kind) (a .off) (λ z. c .if1 .left (c .before .field-width .ensures ∙ z)) in (
+      start .pre,
+      omega (arith, w .0, c .before .field-width .ensures),
+      omega (arith, w .1, c .before .field-width .ensures),
+    )
 
 done-requires : tie.Need-done-requires
 done-requires c κs = search needs
 
 returns-2 : tie.Need-returns-2
-returns-2 c = rw (← c .before .before .before .field-width .ensures, ne-eqb (c .before .before .before .field-width .result) 0 (c .before .before .if1 .left), c .done .ensures, c .before .field-bytes .ensures) refl
+returns-2 c =
+    let field-width = c .before .before .before .field-width in
+    rw (
+      ← field-width .ensures,
+      ne-eqb (field-width .result) 0 (c .before .before .if1 .left),
+      c .done .ensures,
+      c .before .field-bytes .ensures,
+    ) refl
 
 pub field-of-spec : {M : Type 1} → statement M
 field-of-spec =

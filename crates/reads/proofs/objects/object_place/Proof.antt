@@ -16,14 +16,21 @@ no-place-requires c κs = search needs
 
 returns : tie.Need-returns
 unfolding readPlace
-returns c = let e = ap (λ (x : Answer). x .number) (c .before .before .before .check .ensures) in rw (ne-eqb (check (c .before .before .before .before .before .args .t .now) .number) 0 (λ z. c .before .if1 .taken (e ∙ z))) (c .no-place .ensures ∙ ap noPlace (c .before .before .before .check .ensures))
+returns c =
+    let at3 = c .before .before .before in
+    let e = ap (λ (x : Answer). x .number) (at3 .check .ensures) in
+    rw (ne-eqb (check (at3 .before .before .args .t .now) .number) 0 (λ z. c .before .if1 .taken (e ∙ z)))
+    (c .no-place .ensures ∙ ap noPlace (at3 .check .ensures))
 
 place-in-requires : tie.Need-place-in-requires
 place-in-requires c κs = accepted (c .before .before .before .before .args .t .now) (sym (ap (λ (x : Answer). x .number) (c .before .before .check .ensures)) ∙ c .if1 .left)
 
 returns-2 : tie.Need-returns-2
 unfolding readPlace
-returns-2 c = let e = ap (λ (x : Answer). x .number) (c .before .before .before .check .ensures) in rw (eq-eqb (check (c .before .before .before .before .before .args .t .now) .number) 0 (sym e ∙ c .before .if1 .left)) (c .place-in .ensures)
+returns-2 c =
+    let e = ap (λ (x : Answer). x .number) (c .before .before .before .check .ensures) in
+    rw (eq-eqb (check (c .before .before .before .before .before .args .t .now) .number) 0
+    (sym e ∙ c .before .if1 .left)) (c .place-in .ensures)
 
 pub object-place-spec : {M : Type 1} → statement M
 object-place-spec =

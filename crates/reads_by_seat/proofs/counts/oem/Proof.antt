@@ -13,11 +13,14 @@ part-of-requires c κs = omega (arith, laid (c .before .args .t .now) (c .before
 
 returns : tie.Need-returns
 unfolding oemOf
-returns c = (
-  c .part-of .ensures .0 ∙ sym (oem-told (c .before .before .args .t .now) (λ i. omega (arith, c .before .shared-slice-known .given i)) (c .before .before .pre)),
-  ap length
-      (c .part-of .ensures .0) ∙ part-long (c .before .before .args .t .now) 10 26 (omega (arith, laid (c .before .before .args .t .now) (c .before .before .pre) .lent)),
-)
+returns c =
+    let start = c .before .before in (
+      c .part-of .ensures .0
+          ∙ sym
+          (oem-told (start .args .t .now) (λ i. omega (arith, c .before .shared-slice-known .given i)) (start .pre)),
+      ap length (c .part-of .ensures .0)
+          ∙ part-long (start .args .t .now) 10 26 (omega (arith, laid (start .args .t .now) (start .pre) .lent)),
+    )
 
 pub oem-spec : {M : Type 1} → statement M
 oem-spec = tie.close (tie.spec part-of-requires returns)

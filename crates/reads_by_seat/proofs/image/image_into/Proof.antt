@@ -27,10 +27,15 @@ same-length c = search needs
 
 returns : tie.Need-returns
 unfolding imageIn
-returns c = let s = c .before .before .before .before .before .before .before in let a = s .args in let l = layoutOf (a .kind) in let x = c .before .before .before .record-at .result .now in
+returns c =
+    let at3 = c .before .before .before in
+    let s = at3 .before .before .before .before in
+    let a = s .args in
+    let l = layoutOf (a .kind) in
+    let x = at3 .record-at .result .now in
     c .before .before .put-image .ensures
     ∙ splice-all (a .part .now) (imageIn l x 0) (length-imageIn l x 0 ∙ sym (s .pre .2))
-    ∙ ap (λ (y : List ℕ). imageIn l y 0) (c .before .before .before .record-at .ensures)
+    ∙ ap (λ (y : List ℕ). imageIn l y 0) (at3 .record-at .ensures)
     ∙ image-own (a .kind) (a .t .now) (a .at)
     ∙ sym (image-front l (a .t .now) (a .at))
 

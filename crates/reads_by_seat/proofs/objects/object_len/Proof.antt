@@ -24,9 +24,16 @@ named-len-requires c κs = let s = c .before .before .before in let a = s .args 
     (omega (arith, ap length (c .part-of .ensures .0 ∙ ap (part t (a .at)) (c .before .base-size .ensures)), own-long (a .kind) t (a .at) (s .pre .0)), s .pre .1)
 
 returns : tie.Need-returns
-returns c = let a = c .before .before .before .before .args in let t = a .t .now in let l = layoutOf (a .kind) in
-    let e = c .before .part-of .ensures .0 ∙ ap (part t (a .at)) (c .before .before .base-size .ensures) in
-    (c .named-len .ensures .0 ∙ ap (λ (x : List ℕ). placeAt x (a .offset) (seat l 0 true) .len) e ∙ ap (λ (q : Place). q .len) (placeAt-own (a .kind) t (a .at) (a .offset) true), c .named-len .ensures .1)
+returns c =
+    let a = c .before .before .before .before .args in
+    let t = a .t .now in
+    let l = layoutOf (a .kind) in
+    let e = c .before .part-of .ensures .0 ∙ ap (part t (a .at)) (c .before .before .base-size .ensures) in (
+      c .named-len .ensures .0
+          ∙ ap (λ (x : List ℕ). placeAt x (a .offset) (seat l 0 true) .len) e
+          ∙ ap (λ (q : Place). q .len) (placeAt-own (a .kind) t (a .at) (a .offset) true),
+      c .named-len .ensures .1,
+    )
 
 pub object-len-spec : {M : Type 1} → statement M
 object-len-spec =

@@ -25,10 +25,14 @@ unfolding layoutOf header
 object-part-requires c κs = (c .before .pre, header-seated (c .before .args .t .now) (c .before .pre), refl)
 
 u32-at-requires : tie.Need-u32-at-requires
-u32-at-requires c κs = omega (arith, laid (c .before .before .args .t .now) (c .before .before .pre) .lent)
+u32-at-requires c κs =
+    let start = c .before .before in
+    omega (arith, laid (start .args .t .now) (start .pre) .lent)
 
 reference-at-requires : tie.Need-reference-at-requires
-reference-at-requires c κs = omega (arith, laid (c .before .before .before .args .t .now) (c .before .before .before .pre) .lent)
+reference-at-requires c κs =
+    let start = c .before .before .before in
+    omega (arith, laid (start .args .t .now) (start .pre) .lent)
 
 add-if1 : tie.Need-add-if1
 add-if1 c = search needs
@@ -64,18 +68,25 @@ wrapping-sub-u8-requires : tie.Need-wrapping-sub-u8-requires
 wrapping-sub-u8-requires c κs = search needs
 
 returns-3 : tie.Need-returns-3
-returns-3 c = let s = c .before .before .before .before .before .before .before .before .before in let t = s .args .t .now in let ok = s .pre in
-    let o = c .before .before .before .before .before .before .before .object-part in let n = c .before .before .before .before .before .before .u32-at in
-    let at = c .before .before .before .before .before .reference-at in let d = length (o .result .now) in
+returns-3 c =
+    let at4 = c .before .before .before .before in
+    let s = at4 .before .before .before .before .before in
+    let t = s .args .t .now in
+    let ok = s .pre in
+    let o = at4 .before .before .before .object-part in
+    let n = at4 .before .before .u32-at in
+    let at = at4 .before .reference-at in
+    let d = length (o .result .now) in
     let q = placeAt t 44 (seat (layoutOf 0) 0 true) in
-    let g : hasPlain 44 (layoutOf 0 .refs) ≡ true = unfold layoutOf header in refl in
-    let l : d ≡ q .len = ap length (o .ensures) ∙ part-long t (q .at) (q .len) (seat-room t ok 44 0 (seat (layoutOf 0) 0 true) (refl, header-seated t ok)) in
-    let some : q .len ≡ 0 → ⊥ = λ e. omega (arith, l, e, c .before .before .before .if2 .left) in
-    let z : total (take (n .result - 0) t) % 256 ≡ 0 = ap (λ (m : ℕ). total (take m t) % 256) (sub-zero (n .result) ∙ n .ensures .0) ∙ accepted-sum t ok in
-    let same : part (take (n .result - 0) t) (at .result .at) d ≡ driverOf t =
-    ap (λ (m : ℕ). part (take m t) (at .result .at) d) (sub-zero (n .result))
-    ∙ part-front t (n .result) (at .result .at) d (omega (arith, c .before .before .before .before .if1 .left)) (omega (arith, laid t ok .sized, n .ensures .0))
-    ∙ ap₂ (part t) (ap (λ (r : Region). r .at) (at .ensures .0) ∙ sym (place-start t (layoutOf 0) 44 g some)) l in
+    let g : hasPlain 44 (layoutOf 0 .refs) ≡ true = unfold layoutOf header in
+    refl in let l : d ≡ q .len = ap length (o .ensures) ∙ part-long t (q .at) (q .len)
+    (seat-room t ok 44 0 (seat (layoutOf 0) 0 true) (refl, header-seated t ok)) in let some : q .len ≡ 0 → ⊥ = λ e.
+    omega (arith, l, e, c .before .before .before .if2 .left) in let z : total (take (n .result - 0) t) % 256 ≡ 0 =
+    ap (λ (m : ℕ). total (take m t) % 256) (sub-zero (n .result) ∙ n .ensures .0) ∙ accepted-sum t ok in let same : part
+    (take (n .result - 0) t) (at .result .at) d ≡ driverOf t = ap (λ (m : ℕ). part (take m t) (at .result .at) d)
+    (sub-zero (n .result)) ∙ part-front t (n .result) (at .result .at) d (omega (arith, at4 .if1 .left))
+    (omega (arith, laid t ok .sized, n .ensures .0)) ∙ ap₂ (part t)
+    (ap (λ (r : Region). r .at) (at .ensures .0) ∙ sym (place-start t (layoutOf 0) 44 g some)) l in
     omega (arith, z, ap total same, c .before .sum-but .ensures, c .wrapping-sub-u8 .ensures)
 
 pub driver-sum-spec : {M : Type 1} → statement M

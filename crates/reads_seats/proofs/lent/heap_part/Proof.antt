@@ -23,7 +23,9 @@ returns c = (
 )
 
 region-at-requires : tie.Need-region-at-requires
-region-at-requires c κs = omega (arith, laid (c .before .before .args .t .now) (c .before .before .pre .0) .lent)
+region-at-requires c κs =
+    let start = c .before .before in
+    omega (arith, laid (start .args .t .now) (start .pre .0) .lent)
 
 heap-of-requires : tie.Need-heap-of-requires
 unfolding heapIn
@@ -40,16 +42,27 @@ part-of-requires-2 c κs = let s = c .before .before .before .before .before in 
 
 returns-2 : tie.Need-returns-2
 unfolding heapIn
-returns-2 c = let s = c .before .before .before .before .before .before in let a = s .args in let t = a .t .now in
-    let h : 0 < a .len = omega (arith, c .before .before .before .before .if1 .left) in
+returns-2 c =
+    let at2 = c .before .before in
+    let at4 = at2 .before .before in
+    let s = at4 .before .before in
+    let a = s .args in
+    let t = a .t .now in
+    let h : 0 < a .len = omega (arith, at4 .if1 .left) in
     let i = s .pre .1 h in (
       c .part-of2 .ensures .0
-          ∙ ap (λ (x : List ℕ). part x (a .at - c .before .before .before .region-at .result .at) (a .len)) (c .before .before .heap-of .ensures .0)
-          ∙ ap (λ (r : Region). part (part t (r .at) (r .len)) (a .at - r .at) (a .len)) (c .before .before .before .region-at .ensures .0)
+          ∙ ap (λ (x : List ℕ). part x (a .at - at2 .before .region-at .result .at) (a .len)) (at2 .heap-of .ensures .0)
+          ∙ ap (λ (r : Region). part (part t (r .at) (r .len)) (a .at - r .at) (a .len))
+          (at2 .before .region-at .ensures .0)
           ∙ part-of-heap t (s .pre .0) (a .at) (a .len) h i,
-      c .part-of2 .ensures .1 ∙ c .before .before .heap-of .ensures .1,
-      rw (ne-eqb (a .len) 0 (c .before .before .before .before .if1 .left))
-          (omega (arith, i, c .part-of2 .ensures .2, c .before .before .heap-of .ensures .2, ap (λ (r : Region). r .at) (c .before .before .before .region-at .ensures .0))),
+      c .part-of2 .ensures .1 ∙ at2 .heap-of .ensures .1,
+      rw (ne-eqb (a .len) 0 (at4 .if1 .left)) (omega (
+        arith,
+        i,
+        c .part-of2 .ensures .2,
+        at2 .heap-of .ensures .2,
+        ap (λ (r : Region). r .at) (at2 .before .region-at .ensures .0),
+      )),
     )
 
 pub heap-part-spec : {M : Type 1} → statement M

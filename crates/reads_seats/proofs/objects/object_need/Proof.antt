@@ -26,16 +26,23 @@ plain-need-requires c κs = search needs
 
 returns : tie.Need-returns
 unfolding layoutOf
-returns c = rw (c .before .before .match .keys1) (c .ssns-need .ensures ∙ ap (λ (f : ℕ). ssnsNeed f (c .before .before .before .before .args .offset)) (c .before .ssns-flags .ensures)
-    ∙ ssns-need (imageIn ssns (c .before .before .before .before .args .bytes .now) 0) (c .before .before .before .before .args .offset))
+returns c =
+    let start = c .before .before .before .before in
+    rw (c .before .before .match .keys1) (c .ssns-need .ensures
+    ∙ ap (λ (f : ℕ). ssnsNeed f (start .args .offset)) (c .before .ssns-flags .ensures)
+    ∙ ssns-need (imageIn ssns (start .args .bytes .now) 0) (start .args .offset))
 
 returns-2 : tie.Need-returns-2
 unfolding layoutOf
 returns-2 c = rw (c .before .match .keys2) (c .security-need .ensures)
 
 returns-3 : tie.Need-returns-3
-returns-3 c = let a = c .before .before .before .args in let m = c .before .match .rest in
-    c .plain-need .ensures ∙ plain-need (a .offset) (imageIn (layoutOf (a .kind)) (a .bytes .now) 0) (a .kind) (m .0 .1) (m .1) (c .before .before .before .pre .1)
+returns-3 c =
+    let start = c .before .before .before in
+    let a = start .args in
+    let m = c .before .match .rest in
+    c .plain-need .ensures
+    ∙ plain-need (a .offset) (imageIn (layoutOf (a .kind)) (a .bytes .now) 0) (a .kind) (m .0 .1) (m .1) (start .pre .1)
 
 pub object-need-spec : {M : Type 1} → statement M
 object-need-spec =

@@ -16,7 +16,10 @@ object-need-requires : tie.Need-object-need-requires
 object-need-requires c κs = search needs
 
 named-place-requires : tie.Need-named-place-requires
-named-place-requires c κs = let a = c .before .before .before .args in omega (arith, plain-fits (a .kind) (a .offset) (c .before .before .before .pre .1), c .before .before .before .pre .0)
+named-place-requires c κs =
+    let start = c .before .before .before in
+    let a = start .args in
+    omega (arith, plain-fits (a .kind) (a .offset) (start .pre .1), start .pre .0)
 
 returns : tie.Need-returns
 unfolding imageIn

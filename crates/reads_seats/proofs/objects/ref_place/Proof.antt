@@ -16,8 +16,11 @@ no-place-requires : tie.Need-no-place-requires
 no-place-requires c κs = search needs
 
 returns : tie.Need-returns
-returns c = let e = ap (λ (n : Region). n .len) (c .before .before .before .reference-at .ensures .0) in
-    rw (← e, eq-eqb (c .before .before .before .reference-at .result .len) 0 (c .before .if1 .taken)) (c .no-place .ensures ∙ ap noPlace (c .before .before .done .ensures))
+returns c =
+    let reference-at = c .before .before .before .reference-at in
+    let e = ap (λ (n : Region). n .len) (reference-at .ensures .0) in
+    rw (← e, eq-eqb (reference-at .result .len) 0 (c .before .if1 .taken))
+    (c .no-place .ensures ∙ ap noPlace (c .before .before .done .ensures))
 
 returns-2 : tie.Need-returns-2
 returns-2 c = let n = c .before .before .reference-at in let e = ap (λ (x : Region). x .len) (n .ensures .0) in let f = ap (λ (x : Region). x .at) (n .ensures .0) in

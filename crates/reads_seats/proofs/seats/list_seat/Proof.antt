@@ -35,7 +35,11 @@ wide-requires : tie.Need-wide-requires
 wide-requires c κs = search needs
 
 returns-2 : tie.Need-returns-2
-returns-2 c = let a = c .before .before .before .before .before .args in (sym (list-past (a .kind) (a .t .now) (a .list) (a .position) (rw (c .before .wide .ensures .0) at (c .if2 .taken))), search needs)
+returns-2 c =
+    let a = c .before .before .before .before .before .args in (
+      sym (list-past (a .kind) (a .t .now) (a .list) (a .position) (rw (c .before .wide .ensures .0) at (c .if2 .taken))),
+      search needs,
+    )
 
 sub-index : tie.Need-sub-index
 sub-index c = search needs
@@ -62,27 +66,35 @@ part-of-requires : tie.Need-part-of-requires
 part-of-requires c κs = omega (arith, inside (c .before), c .u32-at .ensures .0, c .before .before .base-size .ensures)
 
 is-used-requires : tie.Need-is-used-requires
-is-used-requires c κs = let s = c .before .before .before .before .before .before .before .before .before in let a = s .args in let n = c .before .before .before .base-size in
-    let at = c .before .u32-at .result + (a .position - 1) * c .before .before .u16-at .result in
-    let l = part-long (a .t .now) at (n .result) (omega (arith, inside (c .before .before), c .before .u32-at .ensures .0, n .ensures)) in
+is-used-requires c κs =
+    let at2 = c .before .before in
+    let s = at2 .before .before .before .before .before .before .before in
+    let a = s .args in
+    let n = at2 .before .base-size in
+    let at = c .before .u32-at .result + (a .position - 1) * at2 .u16-at .result in
+    let l = part-long (a .t .now) at (n .result)
+    (omega (arith, inside at2, c .before .u32-at .ensures .0, n .ensures)) in
     (s .pre .0, s .pre .1, omega (arith, ap length (c .part-of .ensures .0), l, n .ensures))
 
 returns-3 : tie.Need-returns-3
-returns-3 c = let s = c .before .before .before .before .before .before .before .before .before .before in let a = s .args in let t = a .t .now in let l = layoutOf (a .kind) in
+returns-3 c =
+    let at2 = c .before .before in
+    let at6 = at2 .before .before .before .before in
+    let s = at6 .before .before .before .before in
+    let a = s .args in
+    let t = a .t .now in
+    let l = layoutOf (a .kind) in
     let start = num t (a .list) 4 + (a .position - 1) * num t (a .list + 4) 2 in
-    let e : c .before .before .u32-at .result + (a .position - 1) * c .before .before .before .u16-at .result ≡ start = ap₂ (λ (x y : ℕ). x + (a .position - 1) * y) (c .before .before .u32-at .ensures .0)
-    (c .before .before .before .u16-at .ensures .0) in
-    let f : c .is-used .result ≡ isValid (l .shape) (imageIn l t start) =
-    c .is-used .ensures ∙ ap (λ (x : List ℕ). isValid (l .shape) (imageIn l x 0)) (c .before .part-of .ensures .0 ∙ ap₂ (part t) e (c .before .before .before .before .base-size .ensures))
-    ∙ ap (isValid (l .shape)) (image-own (a .kind) t start) in (
-      ap₂ (seat l) e f ∙ sym (list-there (a .kind) t (a .list) (a .position) (omega (arith, c .before .before .before .before .before .before .before .before .if1 .left)) (omega
-          (arith, c .before .before .before .before .before .before .wide .ensures .0, c .before .before .before .before .before .if2 .left))),
-      omega (
-        arith,
-        inside
-            (c .before .before .before),
-        c .before .before .u32-at .ensures .0,
-      ),
+    let e : at2 .u32-at .result + (a .position - 1) * at2 .before .u16-at .result ≡ start = ap₂
+    (λ (x y : ℕ). x + (a .position - 1) * y) (at2 .u32-at .ensures .0) (at2 .before .u16-at .ensures .0) in
+    let f : c .is-used .result ≡ isValid (l .shape) (imageIn l t start) = c .is-used .ensures ∙ ap
+    (λ (x : List ℕ). isValid (l .shape) (imageIn l x 0))
+    (c .before .part-of .ensures .0 ∙ ap₂ (part t) e (at2 .before .before .base-size .ensures)) ∙ ap
+    (isValid (l .shape)) (image-own (a .kind) t start) in (
+      ap₂ (seat l) e f
+          ∙ sym (list-there (a .kind) t (a .list) (a .position) (omega (arith, at6 .before .before .if1 .left))
+          (omega (arith, at6 .wide .ensures .0, at2 .before .before .before .if2 .left))),
+      omega (arith, inside (at2 .before), at2 .u32-at .ensures .0),
     )
 
 pub list-seat-spec : {M : Type 1} → statement M

@@ -18,30 +18,47 @@ single-seat-requires-2 : tie.Need-single-seat-requires-2
 single-seat-requires-2 c κs = search needs
 
 reference-at-requires : tie.Need-reference-at-requires
-reference-at-requires c κs = omega (arith, laid (c .before .before .args .t .now) (c .before .before .pre) .lent)
+reference-at-requires c κs =
+    let start = c .before .before in
+    omega (arith, laid (start .args .t .now) (start .pre) .lent)
 
 single-seat-requires-3 : tie.Need-single-seat-requires-3
 single-seat-requires-3 c κs = search needs
 
 list-seat-requires : tie.Need-list-seat-requires
 unfolding layoutOf hfi
-list-seat-requires c κs = let l = laid (c .before .before .args .t .now) (c .before .before .pre) in (lit≤ tt, lit≤ tt, omega (arith, l .lent), l .hfi)
+list-seat-requires c κs =
+    let start = c .before .before in
+    let l = laid (start .args .t .now) (start .pre) in
+    (lit≤ tt, lit≤ tt, omega (arith, l .lent), l .hfi)
 
 list-seat-requires-2 : tie.Need-list-seat-requires-2
 unfolding layoutOf ssns
-list-seat-requires-2 c κs = let l = laid (c .before .before .args .t .now) (c .before .before .pre) in (lit≤ tt, lit≤ tt, omega (arith, l .lent), l .ssns)
+list-seat-requires-2 c κs =
+    let start = c .before .before in
+    let l = laid (start .args .t .now) (start .pre) in
+    (lit≤ tt, lit≤ tt, omega (arith, l .lent), l .ssns)
 
 list-seat-requires-3 : tie.Need-list-seat-requires-3
 unfolding layoutOf security
-list-seat-requires-3 c κs = let l = laid (c .before .before .args .t .now) (c .before .before .pre) in (lit≤ tt, lit≤ tt, omega (arith, l .lent), l .security)
+list-seat-requires-3 c κs =
+    let start = c .before .before in
+    let l = laid (start .args .t .now) (start .pre) in
+    (lit≤ tt, lit≤ tt, omega (arith, l .lent), l .security)
 
 list-seat-requires-4 : tie.Need-list-seat-requires-4
 unfolding layoutOf discovery
-list-seat-requires-4 c κs = let l = laid (c .before .before .args .t .now) (c .before .before .pre) in (lit≤ tt, lit≤ tt, omega (arith, l .lent), l .discovery)
+list-seat-requires-4 c κs =
+    let start = c .before .before in
+    let l = laid (start .args .t .now) (start .pre) in
+    (lit≤ tt, lit≤ tt, omega (arith, l .lent), l .discovery)
 
 list-seat-requires-5 : tie.Need-list-seat-requires-5
 unfolding layoutOf hfi
-list-seat-requires-5 c κs = let l = laid (c .before .before .args .t .now) (c .before .before .pre) in (lit≤ tt, lit≤ tt, omega (arith, l .lent), l .hfi)
+list-seat-requires-5 c κs =
+    let start = c .before .before in
+    let l = laid (start .args .t .now) (start .pre) in
+    (lit≤ tt, lit≤ tt, omega (arith, l .lent), l .hfi)
 
 owned-seat-requires : tie.Need-owned-seat-requires
 unfolding layoutOf hfi
@@ -49,7 +66,10 @@ owned-seat-requires c κs = c .list-seat5 .ensures .1
 
 list-seat-requires-6 : tie.Need-list-seat-requires-6
 unfolding layoutOf ssns
-list-seat-requires-6 c κs = let l = laid (c .before .before .args .t .now) (c .before .before .pre) in (lit≤ tt, lit≤ tt, omega (arith, l .lent), l .ssns)
+list-seat-requires-6 c κs =
+    let start = c .before .before in
+    let l = laid (start .args .t .now) (start .pre) in
+    (lit≤ tt, lit≤ tt, omega (arith, l .lent), l .ssns)
 
 owned-seat-requires-2 : tie.Need-owned-seat-requires-2
 unfolding layoutOf ssns
@@ -86,13 +106,19 @@ returns-7 c = rw (c .before .match .keys7) (c .list-seat4 .ensures .0)
 
 returns-8 : tie.Need-returns-8
 unfolding seatOf layoutOf
-returns-8 c = rw (c .before .before .match .keys8, c .owned-seat .ensures) (owned-is (c .before .before .before .before .args .t .now) 3 (c .before .list-seat5 .result)
-    ∙ ap (heapSeat info 16 (c .before .before .before .before .args .t .now)) (c .before .list-seat5 .ensures .0))
+returns-8 c =
+    let start = c .before .before .before .before in
+    rw (c .before .before .match .keys8, c .owned-seat .ensures) (owned-is (start .args .t .now) 3
+    (c .before .list-seat5 .result)
+    ∙ ap (heapSeat info 16 (start .args .t .now)) (c .before .list-seat5 .ensures .0))
 
 returns-9 : tie.Need-returns-9
 unfolding seatOf layoutOf
-returns-9 c = rw (c .before .before .match .keys9, c .owned-seat2 .ensures) (owned-is (c .before .before .before .before .args .t .now) 4 (c .before .list-seat6 .result)
-    ∙ ap (heapSeat extended 60 (c .before .before .before .before .args .t .now)) (c .before .list-seat6 .ensures .0))
+returns-9 c =
+    let start = c .before .before .before .before in
+    rw (c .before .before .match .keys9, c .owned-seat2 .ensures) (owned-is (start .args .t .now) 4
+    (c .before .list-seat6 .result)
+    ∙ ap (heapSeat extended 60 (start .args .t .now)) (c .before .list-seat6 .ensures .0))
 
 returns-10 : tie.Need-returns-10
 unfolding seatOf

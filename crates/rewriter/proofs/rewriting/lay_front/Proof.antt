@@ -27,7 +27,15 @@ same-length : tie.Need-same-length
 same-length c = search needs
 
 returns : tie.Need-returns
-returns c = rw (← c .before .before .before .oem .ensures .0, ← c .before .before .before .before .before .before .before .before .count-byte .ensures, ← c .before .before .before .before .before .before .before .count-byte2 .ensures, ← c .before .before .before .before .before .before .count-byte3 .ensures, ← c .before .before .before .before .before .count-byte4 .ensures) (c .before .before .write-front .ensures)
+returns c =
+    let at5 = c .before .before .before .before .before in
+    rw (
+      ← c .before .before .before .oem .ensures .0,
+      ← at5 .before .before .before .count-byte .ensures,
+      ← at5 .before .before .count-byte2 .ensures,
+      ← at5 .before .count-byte3 .ensures,
+      ← at5 .count-byte4 .ensures,
+    ) (c .before .before .write-front .ensures)
 
 pub lay-front-spec : {M : Type 1} → statement M
 lay-front-spec =

@@ -31,7 +31,10 @@ span-at-requires : tie.Need-span-at-requires Inv-loop μ-loop
 span-at-requires c κs = c .before .before .before .before .before .pre
 
 add-total : tie.Need-add-total Inv-loop μ-loop
-add-total c = let l = c .before .before .before .loop in let r = c .before .before .before .before .reference-offsets in omega (arith, l .inv .2, l .inv .0, c .before .before .loop-test .taken, r .ensures .2, c .span-at .ensures .1)
+add-total c =
+    let l = c .before .before .before .loop in
+    let r = c .before .before .before .before .reference-offsets in
+    omega (arith, l .inv .2, l .inv .0, c .before .before .loop-test .taken, r .ensures .2, c .span-at .ensures .1)
 
 add-i : tie.Need-add-i Inv-loop μ-loop
 add-i c = search picks
@@ -40,9 +43,19 @@ loop-less : tie.Need-loop-less Inv-loop μ-loop
 loop-less c = omega (arith, c .before .before .loop-test .taken)
 
 loop-again : tie.Need-loop-again Inv-loop μ-loop
-loop-again c = let a = c .before .before .before .before .before .before .args in let r = c .before .before .before .before .reference-offsets in let l = c .before .before .before .loop in let q = c .span-at in let h = c .before .before .loop-test .taken in
-    let o = offset-is (r .result .at) (refsOf (a .kind)) (r .result .count) (l .i) (r .ensures .0) (r .ensures .1) h in
-    (omega (arith, h), adding-more (a .t .now) (a .kind) (a .at) (l .total) (l .i) (q .result) _ (l .inv .1) (omega (arith, h, r .ensures .1)) o (q .ensures .0), omega (arith, l .inv .2, q .ensures .1))
+loop-again c =
+    let at4 = c .before .before .before .before in
+    let a = at4 .before .before .args in
+    let r = at4 .reference-offsets in
+    let l = c .before .before .before .loop in
+    let q = c .span-at in
+    let h = c .before .before .loop-test .taken in
+    let o = offset-is (r .result .at) (refsOf (a .kind)) (r .result .count) (l .i) (r .ensures .0) (r .ensures .1) h in (
+      omega (arith, h),
+      adding-more (a .t .now) (a .kind) (a .at) (l .total) (l .i) (q .result) _ (l .inv .1)
+          (omega (arith, h, r .ensures .1)) o (q .ensures .0),
+      omega (arith, l .inv .2, q .ensures .1),
+    )
 
 returns : tie.Need-returns Inv-loop μ-loop
 returns c = let s = c .before .before .before .before in let a = s .args in let r = c .before .before .reference-offsets in let l = c .before .loop in

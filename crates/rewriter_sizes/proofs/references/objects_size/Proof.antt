@@ -28,11 +28,22 @@ element-copy-out-object-len : tie.Need-element-copy-out-object-len Inv-loop μ-l
 element-copy-out-object-len c = search picks
 
 object-len-requires : tie.Need-object-len-requires Inv-loop μ-loop
-object-len-requires c κs = let s = c .before .before .before .before .before in let k = s .args .kind in let r = c .before .before .before .reference-offsets in let l = c .before .before .loop in let h = c .before .loop-test .taken in
-    (s .pre .1 .within, rw (offset-is (r .result .at) (refsOf k) (r .result .count) (l .i) (r .ensures .0) (r .ensures .1) h) (plain-each k (s .pre .2) (l .i) (omega (arith, h, r .ensures .1))))
+object-len-requires c κs =
+    let s = c .before .before .before .before .before in
+    let k = s .args .kind in
+    let r = c .before .before .before .reference-offsets in
+    let l = c .before .before .loop in
+    let h = c .before .loop-test .taken in (
+      s .pre .1 .within,
+      rw (offset-is (r .result .at) (refsOf k) (r .result .count) (l .i) (r .ensures .0) (r .ensures .1) h)
+          (plain-each k (s .pre .2) (l .i) (omega (arith, h, r .ensures .1))),
+    )
 
 add-total : tie.Need-add-total Inv-loop μ-loop
-add-total c = let l = c .before .before .before .loop in let r = c .before .before .before .before .reference-offsets in omega (arith, l .inv .2, l .inv .0, c .before .before .loop-test .taken, r .ensures .2, c .object-len .ensures .1)
+add-total c =
+    let l = c .before .before .before .loop in
+    let r = c .before .before .before .before .reference-offsets in
+    omega (arith, l .inv .2, l .inv .0, c .before .before .loop-test .taken, r .ensures .2, c .object-len .ensures .1)
 
 add-i : tie.Need-add-i Inv-loop μ-loop
 add-i c = search picks
@@ -41,11 +52,24 @@ loop-less : tie.Need-loop-less Inv-loop μ-loop
 loop-less c = omega (arith, c .before .before .loop-test .taken)
 
 loop-again : tie.Need-loop-again Inv-loop μ-loop
-loop-again c = let s = c .before .before .before .before .before .before in let a = s .args in let k = a .kind in let r = c .before .before .before .before .reference-offsets in let l = c .before .before .before .loop in let q = c .object-len in let h = c .before .before .loop-test .taken in
+loop-again c =
+    let at4 = c .before .before .before .before in
+    let s = at4 .before .before in
+    let a = s .args in
+    let k = a .kind in
+    let r = at4 .reference-offsets in
+    let l = c .before .before .before .loop in
+    let q = c .object-len in
+    let h = c .before .before .loop-test .taken in
     let o = offset-is (r .result .at) (refsOf k) (r .result .count) (l .i) (r .ensures .0) (r .ensures .1) h in
     let b : l .i < length (refsOf k) = omega (arith, h, r .ensures .1) in
-    let g = plain-part (a .t .now) (s .pre .0) k (a .at) (s .pre .1) (getD (r .result .at) (l .i) 0) (rw o (plain-each k (s .pre .2) (l .i) b)) in
-    (omega (arith, h), adding-more (a .t .now) k (a .at) (l .total) (l .i) (q .result) _ (l .inv .1) b o (q .ensures .0 ∙ sym (ap (λ (x : Part). x .span) g)), omega (arith, l .inv .2, q .ensures .1))
+    let g = plain-part (a .t .now) (s .pre .0) k (a .at) (s .pre .1) (getD (r .result .at) (l .i) 0)
+    (rw o (plain-each k (s .pre .2) (l .i) b)) in (
+      omega (arith, h),
+      adding-more (a .t .now) k (a .at) (l .total) (l .i) (q .result) _ (l .inv .1) b o
+          (q .ensures .0 ∙ sym (ap (λ (x : Part). x .span) g)),
+      omega (arith, l .inv .2, q .ensures .1),
+    )
 
 returns : tie.Need-returns Inv-loop μ-loop
 returns c = let s = c .before .before .before .before in let a = s .args in let r = c .before .before .reference-offsets in let l = c .before .loop in

@@ -28,7 +28,11 @@ returns c = rw (c .enum-told .given .1) (refl, lit≤ tt)
 
 returns-2 : tie.Need-returns-2
 unfolding recordPart
-returns-2 c = let k = c .before .before .before .before .before .before .args .kind in let b = c .before .base-size .ensures in let o = c .objects-size .ensures in rw (c .before .before .before .seat .given .1) (omega (arith, b, o .0), omega (arith, b, base-small k, o .1))
+returns-2 c =
+    let k = c .before .before .before .before .before .before .args .kind in
+    let b = c .before .base-size .ensures in
+    let o = c .objects-size .ensures in
+    rw (c .before .before .before .seat .given .1) (omega (arith, b, o .0), omega (arith, b, base-small k, o .1))
 
 pub record-span-spec : {M : Type 1} → statement M
 record-span-spec =

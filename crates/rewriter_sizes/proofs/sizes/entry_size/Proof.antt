@@ -21,19 +21,49 @@ enum-known-seat : tie.Need-enum-known-seat
 enum-known-seat c = search needs
 
 named-size-requires : tie.Need-named-size-requires
-named-size-requires c κs = let s = c .before .before .before .before .before .before in (s .pre, seated-at (s .args .t .now) (s .pre) (s .args .kind) (s .args .position) (c .before .before .seat .given .0 .0) true (sym (c .before .before .before .before .seat-of .ensures) ∙ ap (asSeat (layoutOf (s .args .kind))) (c .before .before .seat .given .1) ∙ ap (seat (layoutOf (s .args .kind)) (c .before .before .seat .given .0 .0)) (c .if1 .taken)))
+named-size-requires c κs =
+    let at2 = c .before .before in
+    let s = at2 .before .before .before .before in (
+      s .pre,
+      seated-at (s .args .t .now) (s .pre) (s .args .kind) (s .args .position) (at2 .seat .given .0 .0) true
+          (sym (at2 .before .before .seat-of .ensures)
+          ∙ ap (asSeat (layoutOf (s .args .kind))) (at2 .seat .given .1)
+          ∙ ap (seat (layoutOf (s .args .kind)) (at2 .seat .given .0 .0)) (c .if1 .taken)),
+    )
 
 returns : tie.Need-returns
 unfolding sizeEntry
-returns c = let s = c .before .before .before .before in (sym (ap sizeEntry (entry-nowhere (s .args .t .now) (s .args .kind) (s .args .position) (sym (c .before .before .seat-of .ensures) ∙ ap (asSeat (layoutOf (s .args .kind))) (c .enum-told .given .1)))), lit≤ tt)
+returns c =
+    let s = c .before .before .before .before in (
+      sym (ap sizeEntry (entry-nowhere (s .args .t .now) (s .args .kind) (s .args .position)
+          (sym (c .before .before .seat-of .ensures) ∙ ap (asSeat (layoutOf (s .args .kind))) (c .enum-told .given .1)))),
+      lit≤ tt,
+    )
 
 returns-2 : tie.Need-returns-2
 unfolding sizeEntry slotsIn
-returns-2 c = let s = c .before .before .before .before .before .before .before in (c .named-size .ensures .0 ∙ sym (ap sizeEntry (entry-on (s .args .t .now) (s .args .kind) (s .args .position) (c .before .before .before .seat .given .0 .0) (sym (c .before .before .before .before .before .seat-of .ensures) ∙ ap (asSeat (layoutOf (s .args .kind))) (c .before .before .before .seat .given .1) ∙ ap (seat (layoutOf (s .args .kind)) (c .before .before .before .seat .given .0 .0)) (c .before .if1 .taken)))), c .named-size .ensures .1)
+returns-2 c =
+    let at3 = c .before .before .before in
+    let s = at3 .before .before .before .before in (
+      c .named-size .ensures .0
+          ∙ sym (ap sizeEntry (entry-on (s .args .t .now) (s .args .kind) (s .args .position) (at3 .seat .given .0 .0)
+          (sym (at3 .before .before .seat-of .ensures)
+          ∙ ap (asSeat (layoutOf (s .args .kind))) (at3 .seat .given .1)
+          ∙ ap (seat (layoutOf (s .args .kind)) (at3 .seat .given .0 .0)) (c .before .if1 .taken)))),
+      c .named-size .ensures .1,
+    )
 
 returns-3 : tie.Need-returns-3
 unfolding sizeEntry
-returns-3 c = let s = c .before .before .before .before .before .before in (sym (ap sizeEntry (entry-off (s .args .t .now) (s .args .kind) (s .args .position) (c .before .before .seat .given .0 .0) (sym (c .before .before .before .before .seat-of .ensures) ∙ ap (asSeat (layoutOf (s .args .kind))) (c .before .before .seat .given .1) ∙ ap (seat (layoutOf (s .args .kind)) (c .before .before .seat .given .0 .0)) (c .if1 .left)))), lit≤ tt)
+returns-3 c =
+    let at2 = c .before .before in
+    let s = at2 .before .before .before .before in (
+      sym (ap sizeEntry (entry-off (s .args .t .now) (s .args .kind) (s .args .position) (at2 .seat .given .0 .0)
+          (sym (at2 .before .before .seat-of .ensures)
+          ∙ ap (asSeat (layoutOf (s .args .kind))) (at2 .seat .given .1)
+          ∙ ap (seat (layoutOf (s .args .kind)) (at2 .seat .given .0 .0)) (c .if1 .left)))),
+      lit≤ tt,
+    )
 
 pub entry-size-spec : {M : Type 1} → statement M
 entry-size-spec =

@@ -38,7 +38,32 @@ add-result-5 : tie.Need-add-result-5
 add-result-5 c = search needs
 
 returns : tie.Need-returns
-returns c = let t = c .before .before .before .before .before .before .before .args .t .now in let p = heap-parts t (λ i. omega (arith, c .before .before .before .before .before .before .shared-slice-known .given i)) (c .before .before .before .before .before .before .before .pre) in (omega (arith, p, c .before .before .before .before .before .entry-size .ensures .0, c .before .before .before .before .entry-size2 .ensures .0, c .before .before .before .list-size .ensures .0, c .before .before .list-size2 .ensures .0, c .before .list-size3 .ensures .0, c .list-size4 .ensures .0), omega (arith, c .before .before .before .before .before .entry-size .ensures .1, c .before .before .before .before .entry-size2 .ensures .1, c .before .before .before .list-size .ensures .1, c .before .before .list-size2 .ensures .1, c .before .list-size3 .ensures .1, c .list-size4 .ensures .1))
+returns c =
+    let at2 = c .before .before in
+    let at4 = at2 .before .before in
+    let start = at4 .before .before .before in
+    let t = start .args .t .now in
+    let p = heap-parts t (λ i. omega (arith, at4 .before .before .shared-slice-known .given i)) (start .pre) in (
+      omega (
+        arith,
+        p,
+        at4 .before .entry-size .ensures .0,
+        at4 .entry-size2 .ensures .0,
+        at2 .before .list-size .ensures .0,
+        at2 .list-size2 .ensures .0,
+        c .before .list-size3 .ensures .0,
+        c .list-size4 .ensures .0,
+      ),
+      omega (
+        arith,
+        at4 .before .entry-size .ensures .1,
+        at4 .entry-size2 .ensures .1,
+        at2 .before .list-size .ensures .1,
+        at2 .list-size2 .ensures .1,
+        c .before .list-size3 .ensures .1,
+        c .list-size4 .ensures .1,
+      ),
+    )
 
 pub heap-size-spec : {M : Type 1} → statement M
 heap-size-spec =

@@ -31,7 +31,14 @@ add-result-4 c = search needs
 
 returns : tie.Need-returns
 unfolding heapAt
-returns c = let s = c .before .before .before .before .before in let p = span-parts (s .args .t .now) (λ i. omega (arith, c .before .before .before .before .shared-slice-known .given i)) (s .pre) in let x = c .before .before .before .list-span .ensures in let y = c .before .before .list-span2 .ensures in let z = c .before .list-span3 .ensures in let w = c .list-span4 .ensures in
+returns c =
+    let at4 = c .before .before .before .before in
+    let s = at4 .before in
+    let p = span-parts (s .args .t .now) (λ i. omega (arith, at4 .shared-slice-known .given i)) (s .pre) in
+    let x = c .before .before .before .list-span .ensures in
+    let y = c .before .before .list-span2 .ensures in
+    let z = c .before .list-span3 .ensures in
+    let w = c .list-span4 .ensures in
     (omega (arith, p, x .0, y .0, z .0, w .0), omega (arith, x .1, y .1, z .1, w .1))
 
 pub heap-start-spec : {M : Type 1} → statement M

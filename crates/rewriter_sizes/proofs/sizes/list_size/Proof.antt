@@ -34,10 +34,32 @@ loop-less : tie.Need-loop-less Inv-loop μ-loop
 loop-less c = omega (arith, c .before .loop-test .taken)
 
 loop-again : tie.Need-loop-again Inv-loop μ-loop
-loop-again c = let a = c .before .before .before .before .before .args in let l = c .before .before .loop in let h = c .before .loop-test .taken in (omega (arith, h), omega (arith, l .inv .1, size-more (a .t .now) (a .kind) (l .position) (c .before .before .before .count-of .result) h, c .entry-size .ensures .0), omega (arith, l .inv .2, c .entry-size .ensures .1))
+loop-again c =
+    let a = c .before .before .before .before .before .args in
+    let l = c .before .before .loop in
+    let h = c .before .loop-test .taken in (
+      omega (arith, h),
+      omega (
+        arith,
+        l .inv .1,
+        size-more (a .t .now) (a .kind) (l .position) (c .before .before .before .count-of .result) h,
+        c .entry-size .ensures .0,
+      ),
+      omega (arith, l .inv .2, c .entry-size .ensures .1),
+    )
 
 returns : tie.Need-returns Inv-loop μ-loop
-returns c = let a = c .before .before .before .before .args in let l = c .before .loop in (omega (arith, l .inv .1, size-done (a .t .now) (a .kind) (l .position) (c .before .before .count-of .result) (omega (arith, c .loop-test .left))), omega (arith, l .inv .0, l .inv .2, c .before .before .count-of .ensures .1))
+returns c =
+    let at2 = c .before .before in
+    let a = at2 .before .before .args in
+    let l = c .before .loop in (
+      omega (
+        arith,
+        l .inv .1,
+        size-done (a .t .now) (a .kind) (l .position) (at2 .count-of .result) (omega (arith, c .loop-test .left)),
+      ),
+      omega (arith, l .inv .0, l .inv .2, at2 .count-of .ensures .1),
+    )
 
 pub list-size-spec : {M : Type 1} → statement M
 list-size-spec =

@@ -12,7 +12,11 @@ use Rattle.text.proofs.append.with_bytes.Statement.{statement}
 use Rattle.text.proofs.append.with_bytes.Tie as tie
 
 abbrev Inv-loop : tie.InvT-loop
-Inv-loop s longer₀ i₀ longer i = (longer .len ≡ longer₀ .len + i) × (i ≤ length s) × Counts (longer .len) (longer .bytes) × (take (longer .len) (longer .bytes) ≡ take (longer₀ .len) (longer₀ .bytes) ++ take i s)
+Inv-loop s longer₀ i₀ longer i =
+    (longer .len ≡ longer₀ .len + i)
+    × (i ≤ length s)
+    × Counts (longer .len) (longer .bytes)
+    × (take (longer .len) (longer .bytes) ≡ take (longer₀ .len) (longer₀ .bytes) ++ take i s)
 
 abbrev μ-loop : tie.MeasureT-loop
 μ-loop s longer₀ i₀ longer i = length s - i

@@ -77,4 +77,7 @@ returns-3 t c =
     )
 
 pub +with-digits-spec : {M : Type 1} → statement M
-+with-digits-spec = close μ-digits (λ t. digits-lts.spec (digits-below t, digits.Post, with-byte.Pre, with-byte.Post) (digits-at t) digits.Post (returns t) (returns-2 t) (sub-with-digits t) (with-digits-requires t) (add-with-byte t) (cast-with-byte t) (with-byte-requires t) (returns-3 t))
++with-digits-spec =
+    close μ-digits (λ t. digits-lts.spec (digits-below t, digits.Post, with-byte.Pre, with-byte.Post) (digits-at t)
+    digits.Post (returns t) (returns-2 t) (sub-with-digits t) (with-digits-requires t) (add-with-byte t)
+    (cast-with-byte t) (with-byte-requires t) (returns-3 t))

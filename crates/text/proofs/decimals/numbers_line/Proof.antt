@@ -30,7 +30,12 @@ with-byte-requires-3 c κs = search needs
 
 returns : tie.Need-returns
 unfolding numbersLine
-returns c = (c .with-byte3 .ensures .1, cc (behind-none (take (c .before .before .before .before .before .before .empty .result .len) (c .before .before .before .before .before .before .empty .result .bytes)) (numeral (c .before .before .before .before .before .before .before .args .a)) (c .before .before .before .before .before .before .empty .ensures .2)))
+returns c =
+    let at6 = c .before .before .before .before .before .before in (
+      c .with-byte3 .ensures .1,
+      cc (behind-none (take (at6 .empty .result .len) (at6 .empty .result .bytes)) (numeral (at6 .before .args .a))
+          (at6 .empty .ensures .2)),
+    )
 
 pub numbers-line-spec : {M : Type 1} → statement M
 numbers-line-spec =

@@ -18,7 +18,11 @@ with-hex-byte-requires : tie.Need-with-hex-byte-requires
 with-hex-byte-requires c κs = search needs
 
 returns : tie.Need-returns
-returns c = (c .with-hex-byte .ensures .1, cc (behind-none (take (c .before .before .before .empty .result .len) (c .before .before .before .empty .result .bytes)) (ascii "\\x") (c .before .before .before .empty .ensures .2)))
+returns c =
+    let empty = c .before .before .before .empty in (
+      c .with-hex-byte .ensures .1,
+      cc (behind-none (take (empty .result .len) (empty .result .bytes)) (ascii "\\x") (empty .ensures .2)),
+    )
 
 pub by-number-spec : {M : Type 1} → statement M
 by-number-spec =

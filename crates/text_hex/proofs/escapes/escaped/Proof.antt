@@ -15,7 +15,14 @@ by-number-requires c κs = search needs
 
 returns : tie.Need-returns
 unfolding escapedOf
-returns c = (c .by-number .ensures .0, rw (← c .before .before .before .is-printable .ensures, c .before .before .if1 .taken, eq-eqb (c .before .before .before .before .args .b) 0x5c (c .before .if2 .taken)) (c .by-number .ensures .1))
+returns c = (
+  c .by-number .ensures .0,
+  rw (
+    ← c .before .before .before .is-printable .ensures,
+    c .before .before .if1 .taken,
+    eq-eqb (c .before .before .before .before .args .b) 0x5c (c .before .if2 .taken),
+  ) (c .by-number .ensures .1),
+)
 
 empty-requires : tie.Need-empty-requires
 empty-requires c κs = search needs
@@ -25,7 +32,16 @@ with-byte-requires c κs = search needs
 
 returns-2 : tie.Need-returns-2
 unfolding escapedOf
-returns-2 c = (c .with-byte .ensures .1, rw (← c .before .before .before .before .is-printable .ensures, c .before .before .before .if1 .taken, ne-eqb (c .before .before .before .before .before .args .b) 0x5c (c .before .before .if2 .left)) (cc (behind-none (take (c .before .empty .result .len) (c .before .empty .result .bytes)) (c .before .before .before .before .before .args .b ∷ []) (c .before .empty .ensures .2))))
+returns-2 c =
+    let at4 = c .before .before .before .before in (
+      c .with-byte .ensures .1,
+      rw (
+        ← at4 .is-printable .ensures,
+        c .before .before .before .if1 .taken,
+        ne-eqb (at4 .before .args .b) 0x5c (c .before .before .if2 .left),
+      ) (cc (behind-none (take (c .before .empty .result .len) (c .before .empty .result .bytes))
+          (at4 .before .args .b ∷ []) (c .before .empty .ensures .2))),
+    )
 
 by-number-requires-2 : tie.Need-by-number-requires-2
 by-number-requires-2 c κs = search needs

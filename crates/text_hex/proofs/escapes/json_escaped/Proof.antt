@@ -22,7 +22,16 @@ with-bytes-requires c κs = search needs
 
 returns : tie.Need-returns
 unfolding jsonOf
-returns c = (c .with-bytes .ensures .1, rw (← c .before .before .before .before .before .is-printable .ensures, c .before .before .before .before .if1 .taken, eq-eqb (c .before .before .before .before .before .before .args .b) 0x22 (c .before .before .before .if2 .taken)) (cc (behind-none (take (c .before .before .empty .result .len) (c .before .before .empty .result .bytes)) (ascii "\\\"") (c .before .before .empty .ensures .2))))
+returns c =
+    let at2 = c .before .before in (
+      c .with-bytes .ensures .1,
+      rw (
+        ← at2 .before .before .before .is-printable .ensures,
+        at2 .before .before .if1 .taken,
+        eq-eqb (at2 .before .before .before .before .args .b) 0x22 (at2 .before .if2 .taken),
+      ) (cc (behind-none (take (at2 .empty .result .len) (at2 .empty .result .bytes)) (ascii "\\\"")
+          (at2 .empty .ensures .2))),
+    )
 
 empty-requires-2 : tie.Need-empty-requires-2
 empty-requires-2 c κs = search needs
@@ -35,7 +44,18 @@ with-bytes-requires-2 c κs = search needs
 
 returns-2 : tie.Need-returns-2
 unfolding jsonOf
-returns-2 c = (c .with-bytes2 .ensures .1, rw (← c .before .before .before .before .before .before .is-printable .ensures, c .before .before .before .before .before .if1 .taken, ne-eqb (c .before .before .before .before .before .before .before .args .b) 0x22 (c .before .before .before .before .if2 .left), eq-eqb (c .before .before .before .before .before .before .before .args .b) 0x5c (c .before .before .before .if3 .taken)) (cc (behind-none (take (c .before .before .empty2 .result .len) (c .before .before .empty2 .result .bytes)) (ascii "\\\\") (c .before .before .empty2 .ensures .2))))
+returns-2 c =
+    let at2 = c .before .before in
+    let at6 = at2 .before .before .before .before in (
+      c .with-bytes2 .ensures .1,
+      rw (
+        ← at6 .is-printable .ensures,
+        at2 .before .before .before .if1 .taken,
+        ne-eqb (at6 .before .args .b) 0x22 (at2 .before .before .if2 .left),
+        eq-eqb (at6 .before .args .b) 0x5c (at2 .before .if3 .taken),
+      ) (cc (behind-none (take (at2 .empty2 .result .len) (at2 .empty2 .result .bytes)) (ascii "\\\\")
+          (at2 .empty2 .ensures .2))),
+    )
 
 empty-requires-3 : tie.Need-empty-requires-3
 empty-requires-3 c κs = search needs
@@ -45,7 +65,18 @@ with-byte-requires c κs = search needs
 
 returns-3 : tie.Need-returns-3
 unfolding jsonOf
-returns-3 c = (c .with-byte .ensures .1, rw (← c .before .before .before .before .before .is-printable .ensures, c .before .before .before .before .if1 .taken, ne-eqb (c .before .before .before .before .before .before .args .b) 0x22 (c .before .before .before .if2 .left), ne-eqb (c .before .before .before .before .before .before .args .b) 0x5c (c .before .before .if3 .left)) (cc (behind-none (take (c .before .empty3 .result .len) (c .before .empty3 .result .bytes)) (c .before .before .before .before .before .before .args .b ∷ []) (c .before .empty3 .ensures .2))))
+returns-3 c =
+    let at4 = c .before .before .before .before in
+    let start = at4 .before .before in (
+      c .with-byte .ensures .1,
+      rw (
+        ← at4 .before .is-printable .ensures,
+        at4 .if1 .taken,
+        ne-eqb (start .args .b) 0x22 (c .before .before .before .if2 .left),
+        ne-eqb (start .args .b) 0x5c (c .before .before .if3 .left),
+      ) (cc (behind-none (take (c .before .empty3 .result .len) (c .before .empty3 .result .bytes))
+          (start .args .b ∷ []) (c .before .empty3 .ensures .2))),
+    )
 
 empty-requires-4 : tie.Need-empty-requires-4
 empty-requires-4 c κs = search needs
@@ -61,7 +92,12 @@ with-hex-byte-requires c κs = search needs
 
 returns-4 : tie.Need-returns-4
 unfolding jsonOf
-returns-4 c = (c .with-hex-byte .ensures .1, rw (← c .before .before .before .before .before .is-printable .ensures, c .before .before .before .before .if1 .left) (cc (behind-none (take (c .before .before .before .empty4 .result .len) (c .before .before .before .empty4 .result .bytes)) (ascii "\\u00") (c .before .before .before .empty4 .ensures .2))))
+returns-4 c =
+    let at3 = c .before .before .before in (
+      c .with-hex-byte .ensures .1,
+      rw (← at3 .before .before .is-printable .ensures, at3 .before .if1 .left) (cc (behind-none
+          (take (at3 .empty4 .result .len) (at3 .empty4 .result .bytes)) (ascii "\\u00") (at3 .empty4 .ensures .2))),
+    )
 
 pub json-escaped-spec : {M : Type 1} → statement M
 json-escaped-spec =

@@ -30,10 +30,13 @@ same-length c = search needs
 
 returns : tie.Need-returns
 returns c =
-    let a = c .before .before .before .before .before .before .before .before .before .before .before .args in
-    let first = c .before .before .before .before .before .before .before .copy .ensures .1 in
-    let second = c .before .before .copy2 .ensures .1 in
-    (joined-counts (a .path .now) (ascii ".part") _ _ _ _ _ first second, joined (a .path .now) (ascii ".part") _ _ _ _ _ first second)
+    let at7 = c .before .before .before .before .before .before .before in
+    let a = at7 .before .before .before .before .args in
+    let first = at7 .copy .ensures .1 in
+    let second = c .before .before .copy2 .ensures .1 in (
+      joined-counts (a .path .now) (ascii ".part") _ _ _ _ _ first second,
+      joined (a .path .now) (ascii ".part") _ _ _ _ _ first second,
+    )
 
 pub put-part-name-spec : {M : Type 1} → statement M
 put-part-name-spec =
