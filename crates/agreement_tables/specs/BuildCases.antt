@@ -4,8 +4,7 @@ use lib.ListN.{replicate}
 use lib.Dec.{T}
 use Rattle.table.specs.Bytes.{edit}
 use Prim.Native.Nat.{ℕ}
-use Rattle.table.proofs.Cases.{beginning, aHost, anHfi, anSsns, aSecurity, aDiscovery, leaving, finishing}
-use Rattle.table.proofs.Cases.{BuildCase, state, halted, stepped, sheet, fineBuild, allFineBuilds}
+use Rattle.table.proofs.Cases.{BuildCase, beginning, aHost, anHfi, anSsns, aSecurity, aDiscovery, leaving, finishing, state, halted, stepped, sheet, fineBuild, allFineBuilds}
 
 abbrev bytes0 : List ℕ
 bytes0 = sheet 162 (edit 0 (replicate 162 238) ∷ [])

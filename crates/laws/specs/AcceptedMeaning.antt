@@ -71,7 +71,10 @@ module _ (t : List ℕ) (b : (i : ℕ) → getD t i 0 < 256) (ok : check t ≡ d
   unfolding check
   records-done = first-both t b (firstFail (tests t)) (records t (meaning t)) ok .1
 
-  signed-done : (refsRule heap (env count 0) t 0 [] (header .refs) ≡ 0) × (first (hostRule t valid count (readEntry host t (num t 72 4))) (bodyRule valid count heap t 80 (readBody listKinds t 80)) ≡ done)
+  signed-done : (refsRule heap (env count 0) t 0 [] (header .refs) ≡ 0)
+      × (first (hostRule t valid count (readEntry host t (num t 72 4)))
+      (bodyRule valid count heap t 80 (readBody listKinds t 80))
+      ≡ done)
   unfolding records driverRule meaning heap valid count
   signed-done =
       let u = first-both t b _ _ records-done in

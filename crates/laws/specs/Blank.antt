@@ -109,11 +109,17 @@ module _ {l : Layout} where
   fit-left count pos [] xs f = tt
   fit-left count pos (e ∷ es) xs f = (f .0, fit-left count (suc pos) es xs (f .1))
 
-  pub fit-put : (count : ℕ → ℕ) (pos : ℕ) (es : List (Entry l)) (x : Entry l) (n : ℕ) → FitList count pos es → FitEntry (env count (pos + length es)) x → FitList count pos (es ++ (x ∷ replicate n unused))
+  pub fit-put : (count : ℕ → ℕ) (pos : ℕ) (es : List (Entry l)) (x : Entry l) (n : ℕ)
+      → FitList count pos es
+      → FitEntry (env count (pos + length es)) x
+      → FitList count pos (es ++ (x ∷ replicate n unused))
   fit-put count pos [] x n f g = (subst (λ (i : ℕ). FitEntry (env count i) x) (add-zero pos) g, fit-blank l count (suc pos) n)
   fit-put count pos (e ∷ es) x n f g = (f .0, fit-put count (suc pos) es x n (f .1) (subst (λ (i : ℕ). FitEntry (env count i) x) (omega arith) g))
 
-pub fit-unused : (count : ℕ → ℕ) (ls : List Layout) (cs : List ℕ) → length cs ≡ length ls → ((i : ℕ) → getD cs i 0 < 256) → FitBody count (allUnused ls cs) × (lengthsOf (allUnused ls cs) ≡ cs) × AllBlank (allUnused ls cs)
+pub fit-unused : (count : ℕ → ℕ) (ls : List Layout) (cs : List ℕ)
+    → length cs ≡ length ls
+    → ((i : ℕ) → getD cs i 0 < 256)
+    → FitBody count (allUnused ls cs) × (lengthsOf (allUnused ls cs) ≡ cs) × AllBlank (allUnused ls cs)
 fit-unused count [] [] e k = (tt, refl, tt)
 fit-unused count [] (c ∷ cs) e k = absurd (omega arith)
 fit-unused count (l ∷ ls) [] e k = absurd (omega arith)
@@ -158,21 +164,38 @@ here-effect {l} {ls} count x es n rest a h o f k =
     let s₁ : sizeList (es ++ (x ∷ us)) ≡ sizeList es + sizeEntry x = size-split es (x ∷ us) ∙ omega arith in
     let e₁ : h + (sizeList (es ++ (unused ∷ us)) + sizeBody rest) ≡ h₁ = omega arith in
     let one : suc (length es) - 1 ≡ length es = omega arith in
-    let ln : length (es ++ (x ∷ us)) ≡ length (es ++ (unused ∷ us)) = length-append es (x ∷ us) ∙ sym (length-append es (unused ∷ us)) in
+    let ln : length (es ++ (x ∷ us)) ≡ length (es ++ (unused ∷ us)) = length-append es (x ∷ us) ∙ sym
+    (length-append es (unused ∷ us)) in
     record {
       front = recsList h es;
       back = z;
-      was =
-          rw (recs-split h es (unused ∷ us), recs-blank l (h₁ + 0) n, blank-recs (h + sizeList (es ++ (unused ∷ us))) rest k)
-          (simp append-assoc);
-      becomes =
-          rw (e₁, recs-split h es (x ∷ us), recs-blank l (h₁ + sizeEntry x) n, blank-recs (h + sizeList (es ++ (x ∷ us))) rest k)
-          (simp append-assoc);
-      place =
-          rw (pick-yes (eqb (l .kind) (l .kind)) a (startOf (a + length (es ++ (unused ∷ us)) * baseOf l) ls (lengthsOf rest) (l .kind)) (eqb-refl (l .kind)), length-recsList l o count h 1 es f, one);
-      heap =
-          rw (e₁, heap-split h es (x ∷ us), heap-split h es (unused ∷ us), heap-blank l (h₁ + sizeEntry x) n, heap-blank l (h₁ + 0) n, blank-heap (h + sizeList (es ++ (x ∷ us))) rest k, blank-heap (h + sizeList (es ++ (unused ∷ us))) rest k)
-          (simp append-nil);
+      was = rw (
+        recs-split h es (unused ∷ us),
+        recs-blank l (h₁ + 0) n,
+        blank-recs (h + sizeList (es ++ (unused ∷ us))) rest k,
+      ) (simp append-assoc);
+      becomes = rw (
+        e₁,
+        recs-split h es (x ∷ us),
+        recs-blank l (h₁ + sizeEntry x) n,
+        blank-recs (h + sizeList (es ++ (x ∷ us))) rest k,
+      ) (simp append-assoc);
+      place = rw (
+        pick-yes (eqb (l .kind) (l .kind)) a
+            (startOf (a + length (es ++ (unused ∷ us)) * baseOf l) ls (lengthsOf rest) (l .kind))
+            (eqb-refl (l .kind)),
+        length-recsList l o count h 1 es f,
+        one,
+      );
+      heap = rw (
+        e₁,
+        heap-split h es (x ∷ us),
+        heap-split h es (unused ∷ us),
+        heap-blank l (h₁ + sizeEntry x) n,
+        heap-blank l (h₁ + 0) n,
+        blank-heap (h + sizeList (es ++ (x ∷ us))) rest k,
+        blank-heap (h + sizeList (es ++ (unused ∷ us))) rest k,
+      ) (simp append-nil);
       size = omega arith;
       span = ap (λ (i : ℕ). i * baseOf l + spanBody rest) ln;
       lengths = ap (λ (i : ℕ). i ∷ lengthsOf rest) ln;

@@ -18,7 +18,38 @@ use Rattle.table.specs.Objects.{countIn, sizeOf, spanBody, usedIn}
 use Rattle.table.specs.Rules.{Test, answer, bodyRule, done, first, firstFail, listRule, test}
 use Rattle.table.specs.Meaning.{Meaning, form, formLength, heapAt, laidOut, limit, meaning}
 use Rattle.table.specs.Numbers.{check, driverRule, heapIn, hostRule, records, tests}
-use Rattle.table.specs.Builder.{Outcome, begin, begun, countOf, counts, empty, endOf, fill, fillAnswer, finish, finished, finishing, inList, leave, moved, next, opened, outcome, placeOf, placed, recordsEnd, roomTests, sameState, sealed, slotsRule, toldImage, toldSlots, turn, turnAfter, waits}
+use Rattle.table.specs.Builder.{
+  Outcome,
+  begin,
+  begun,
+  countOf,
+  counts,
+  empty,
+  endOf,
+  fill,
+  fillAnswer,
+  finish,
+  finished,
+  finishing,
+  inList,
+  leave,
+  moved,
+  next,
+  opened,
+  outcome,
+  placeOf,
+  placed,
+  recordsEnd,
+  roomTests,
+  sameState,
+  sealed,
+  slotsRule,
+  toldImage,
+  toldSlots,
+  turn,
+  turnAfter,
+  waits,
+}
 use Rattle.laws.specs.Lawful.{FitBody, Shaped, okLayout}
 use Rattle.laws.specs.ListLaws.{ok-layout}
 use Rattle.laws.specs.TestLaws.{AllPass, all-pass, self-numbered}
@@ -26,7 +57,32 @@ use Rattle.laws.specs.FormLaws.{laid, round-trip}
 use Rattle.laws.specs.ToldLaws.{okMarks, okTold}
 use Rattle.laws.specs.Blank.{BlankFrom, Put, lengthsOf, there}
 use Rattle.laws.specs.Turns.{after-other, blank-leave, end-is, missing, put-here, off}
-use Rattle.laws.specs.Runs.{AllProper, Build, Call, Proper, Sized, after, does, entryOf, finishes, leaves, opens, run, setDiscovery, setHfi, setSecurity, setSsns, tells, tellsDiscovery, tellsHfi, tellsHost, tellsSecurity, tellsSsns, withLists, withOwner}
+use Rattle.laws.specs.Runs.{
+  AllProper,
+  Build,
+  Call,
+  Proper,
+  Sized,
+  after,
+  does,
+  entryOf,
+  finishes,
+  leaves,
+  opens,
+  run,
+  setDiscovery,
+  setHfi,
+  setSecurity,
+  setSsns,
+  tells,
+  tellsDiscovery,
+  tellsHfi,
+  tellsHost,
+  tellsSecurity,
+  tellsSsns,
+  withLists,
+  withOwner,
+}
 use Rattle.laws.specs.Filling.{AfterOk, InList, ListKind, OkKind, Open, Passed, begin-open, counts-same, fill-passed, host-open, in-list, list-open, next-after, next-counts}
 use Rattle.laws.specs.Sealing.{sealed-form, sealed-tail}
 
@@ -153,9 +209,17 @@ module _ (buf : List ℕ) (s : State) (b : List ℕ) (m : Meaning) (o : Open buf
       let e₂ : eqb k 2 ≡ false = or-left (eqb k 2) (eqb k finishing) e in
       let r = turned k e e₂ t in
       let cs : List ℕ = lengthsOf (m .lists) in
-      let other : (j : ℕ) → eqb k j ≡ false → T (missing j listKinds) → eqb (turnAfter k (s .position) listKinds cs .kind) j ≡ false = λ j d h. after-other j (s .position) k listKinds cs d h in
-      let up : s .position ≤ countOf listKinds cs k = subst (λ (c : List ℕ). s .position ≤ countOf listKinds c k) (sym (o .counted)) (r .inside .upto) in
-      let a = subst (AfterOk k (s .position) (m .lists)) (o .counted) (other 0 (o .started) tt, other finished (o .unfinished) tt, other 2 e₂ tt, blank-leave k (s .position) (m .lists) tt f up (r .blank)) in
+      let other : (j : ℕ) → eqb k j ≡ false → T (missing j listKinds) → eqb
+      (turnAfter k (s .position) listKinds cs .kind) j ≡ false = λ j d h. after-other j (s .position) k listKinds cs d
+      h in
+      let up : s .position ≤ countOf listKinds cs k = subst (λ (c : List ℕ). s .position ≤ countOf listKinds c k)
+      (sym (o .counted)) (r .inside .upto) in
+      let a = subst (AfterOk k (s .position) (m .lists)) (o .counted) (
+        other 0 (o .started) tt,
+        other finished (o .unfinished) tt,
+        other 2 e₂ tt,
+        blank-leave k (s .position) (m .lists) tt f up (r .blank),
+      ) in
       let nx = next-after s k refl e₂ 0 in
       record {
         shaped = o .shaped;
@@ -183,7 +247,9 @@ first-right x y e = go (x .number) refl e
     go zero p q = (p, rw p)
     go (suc n) p q = absurd (omega (arith, p, rw (eqb·suc-zero n) at q))
 
-body-zero : {ls : List Layout} (named : ℕ → ℕ → Bool) (count : ℕ → ℕ) (heap : Region) (t : List ℕ) (c : ℕ) (b : Body ls) → bodyRule named count heap t c b .number ≡ 0 → bodyRule named count heap t c b ≡ done
+body-zero : {ls : List Layout} (named : ℕ → ℕ → Bool) (count : ℕ → ℕ) (heap : Region) (t : List ℕ) (c : ℕ) (b : Body ls)
+    → bodyRule named count heap t c b .number ≡ 0
+    → bodyRule named count heap t c b ≡ done
 unfolding bodyRule
 body-zero named count heap t c stop e = refl
 body-zero named count heap t c (more {l = l} es rest) e =
@@ -223,7 +289,10 @@ pub data Progress (buf : List ℕ) (x : Build) : Type 0 where
 
 -- ---- finish
 
-finish-closed : (buf : List ℕ) (s : State) (b : List ℕ) (m : Meaning) → Open buf s b m → check (take (s .used) (sealed s b)) .number ≡ 0 → Closed buf (moved s (turn finished 0) (s .used)) (sealed s b) m
+finish-closed : (buf : List ℕ) (s : State) (b : List ℕ) (m : Meaning)
+    → Open buf s b m
+    → check (take (s .used) (sealed s b)) .number ≡ 0
+    → Closed buf (moved s (turn finished 0) (s .used)) (sealed s b) m
 finish-closed buf s b m o e =
     let w : Shaped m = o .shaped in
     let f : take (s .used) (sealed s b) ≡ form m = ap (λ (n : ℕ). take n (sealed s b)) (o .size) ∙ sealed-form m w s b (o .size) (ends buf s b m o) (o .room) (o .laid) in
@@ -316,7 +385,13 @@ host-step buf x y told z p =
     ss : Slots (host .refs)
     ss = toldSlots (s .position) img told
 
-    go : Progress buf x → Passed host s (length b) img ss → Progress buf (record { state = next s (sizeOf ss); buffer = placed b (placeOf s host) (s .used) img ss; told = withOwner (x .told) (entryOf host s y told) })
+    go : Progress buf x
+        → Passed host s (length b) img ss
+        → Progress buf (record {
+          state = next s (sizeOf ss);
+          buffer = placed b (placeOf s host) (s .used) img ss;
+          told = withOwner (x .told) (entryOf host s y told);
+        })
     go (fresh q r) P = absurd (clash 2 0 (sym (turn-is s 2 (host-turn s (P .turnIs))) ∙ turn-of q) refl)
     go (over q) P = absurd (clash 2 finished (sym (turn-is s 2 (host-turn s (P .turnIs))) ∙ q .turnIs) refl)
     go (going o) P = going (host-open buf s b (x .told) o host-kind y told z (host-turn s (P .turnIs)) P)

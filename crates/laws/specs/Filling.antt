@@ -15,7 +15,30 @@ use Rattle.table.specs.FixedLayouts.{discovery, header, hfi, host, listKinds, s
 use Rattle.table.specs.Objects.{countIn, heapBody, heapEntry, heapOf, patched, recEntry, sizeBody, sizeEntry, sizeOf, spanBody}
 use Rattle.table.specs.Rules.{firstOf, ruled, test}
 use Rattle.table.specs.Meaning.{Meaning, behind, controlBytes, driverRef, formLength, headBack, headFront, heapAt, heapLen, laidOut, limit}
-use Rattle.table.specs.Builder.{begun, countOf, counts, envOf, fillAnswer, finished, finishing, firstTurn, inList, isShort, moved, next, opened, placeOf, placed, roomTests, slotsRule, startOf, toldImage, toldSlots, turnAfter, waits}
+use Rattle.table.specs.Builder.{
+  begun,
+  countOf,
+  counts,
+  envOf,
+  fillAnswer,
+  finished,
+  finishing,
+  firstTurn,
+  inList,
+  isShort,
+  moved,
+  next,
+  opened,
+  placeOf,
+  placed,
+  roomTests,
+  slotsRule,
+  startOf,
+  toldImage,
+  toldSlots,
+  turnAfter,
+  waits,
+}
 use Rattle.laws.specs.Lawful.{Fit, FitBody, FitEntry, FitUsed, Shaped}
 use Rattle.laws.specs.ByteLaws.{Holds, drop-splice, holds-join, holds-left, holds-right, holds-splice-above, holds-splice-below, length-splice, splice-here}
 use Rattle.laws.specs.ListLaws.{OkLayout, length-heapEntry, length-recEntry}
@@ -284,7 +307,11 @@ pub record ListKind (l : Layout) : Type 0 where
   pub indexed : 1 ≤ l .shape .index .len
 
 -- the same place, and the same bytes used, by other names
-place-open : {rs : Refs} (buf b : List ℕ) (s : State) (m : Meaning) (img : List ℕ) (ss : Slots rs) (a a′ u u′ : ℕ) → a ≡ a′ → u ≡ u′ → Open buf s (placed b a′ u′ img ss) m → Open buf s (placed b a u img ss) m
+place-open : {rs : Refs} (buf b : List ℕ) (s : State) (m : Meaning) (img : List ℕ) (ss : Slots rs) (a a′ u u′ : ℕ)
+    → a ≡ a′
+    → u ≡ u′
+    → Open buf s (placed b a′ u′ img ss) m
+    → Open buf s (placed b a u img ss) m
 place-open buf b s m img ss a a′ u u′ p q h = rw (p, q) h
 
 pub next-counts : (s : State) (n : ℕ) → (counts (next s n) ≡ counts s) × (next s n .used ≡ s .used + n)
@@ -425,11 +452,14 @@ host-open buf s b m o k x told z t p =
     let at = at-host s t in
     let un : (m .owner ≡ unused) × AllBlank (m .lists) = rw (at .0) at (o .untold) in
     let bl : AllBlank (m .lists) = un .1 in
-    let same : m ≡ withOwner m unused = λ i. record { oem = m .oem; driver = m .driver; owner = un .0 i; lists = m .lists } in
+    let same : m ≡ withOwner m unused = λ i.
+    record { oem = m .oem; driver = m .driver; owner = un .0 i; lists = m .lists } in
     let pos : s .position ≡ 0 = at .1 in
-    let g : FitUsed host (envOf s) img ss = entry-fits host k s (length b) x told z (omega arith) (host-index (s .position) pos) p in
-    let g′ : FitEntry (env (countIn (m .lists)) 0) (entryOf host s x told) =
-    subst (λ (c : ℕ → ℕ). FitEntry (env c 0) (entryOf host s x told)) (counts-same s m (o .counted)) (subst (λ (n : ℕ). FitEntry (env (countOf listKinds (counts s)) n) (entryOf host s x told)) pos g) in
+    let g : FitUsed host (envOf s) img ss = entry-fits host k s (length b) x told z (omega arith)
+    (host-index (s .position) pos) p in
+    let g′ : FitEntry (env (countIn (m .lists)) 0) (entryOf host s x told) = subst
+    (λ (c : ℕ → ℕ). FitEntry (env c 0) (entryOf host s x told)) (counts-same s m (o .counted))
+    (subst (λ (n : ℕ). FitEntry (env (countOf listKinds (counts s)) n) (entryOf host s x told)) pos g) in
     let u : ℕ = formLength m in
     let top : hostHeap m w bl ≡ u = omega (arith, ap formLength same, host-length m w bl unused) in
     let q : s .used ≡ hostHeap m w bl = o .size ∙ sym top in
@@ -442,27 +472,34 @@ host-open buf s b m o k x told z t p =
     let Y : List ℕ = hostBeyond m w bl in
     let zs : List ℕ = replicate (baseOf host) 0 in
     let lz : length {A = ℕ} (replicate (baseOf host) 0) ≡ baseOf host = length-replicate (baseOf host) 0 in
-    let e₁ : laidOut m 0 0 0 ≡ X ++ (zs ++ Y) = ap (λ (v : Meaning). laidOut v 0 0 0) same ∙ host-laid m w bl unused ∙ ap (λ (v : List ℕ). X ++ (zs ++ v)) (append-nil Y) in
-    let e₂ : laidOut (withOwner m (entryOf host s x told)) 0 0 0 ≡ X ++ (R ++ (Y ++ H)) = host-laid m w bl (entryOf host s x told) in
+    let e₁ : laidOut m 0 0 0 ≡ X ++ (zs ++ Y) = ap (λ (v : Meaning). laidOut v 0 0 0) same ∙ host-laid m w bl unused
+    ∙ ap (λ (v : List ℕ). X ++ (zs ++ v)) (append-nil Y) in
+    let e₂ : laidOut (withOwner m (entryOf host s x told)) 0 0 0 ≡ X ++ (R ++ (Y ++ H)) = host-laid m w bl
+    (entryOf host s x told) in
     let a : placeOf s host ≡ length X = host-place s ∙ sym (host-before m w bl) in
     let n : length (X ++ (zs ++ Y)) ≡ u = ap length (sym e₁) ∙ length-laidOut m w 0 0 0 in
-    let n′ : length (X ++ (zs ++ Y)) ≡ length X + (length zs + length Y) = length-append X (zs ++ Y) ∙ ap (λ (j : ℕ). length X + j) (length-append zs Y) in
-    let len : formLength (withOwner m (entryOf host s x told)) ≡ h + sizeOf ss = host-length m w bl (entryOf host s x told) in
+    let n′ : length (X ++ (zs ++ Y)) ≡ length X + (length zs + length Y) = length-append X (zs ++ Y) ∙ ap
+    (λ (j : ℕ). length X + j) (length-append zs Y) in
+    let len : formLength (withOwner m (entryOf host s x told)) ≡ h + sizeOf ss = host-length m w bl
+    (entryOf host s x told) in
     let fit = p .fits in
     let lent = p .lent in
     let f = subst (FirstOk (m .lists)) (o .counted) (first-ok (m .lists) bl) in
     let nx = next-first s (sizeOf ss) (at .0) in
     let l₁ : length (splice b (length X) R) ≡ length b = length-splice b (length X) R (omega arith) in
-    let l₂ : length (splice (splice b (length X) R) h H) ≡ length (splice b (length X) R) = length-splice (splice b (length X) R) h H (omega arith) in
-    place-open buf b (next s (sizeOf ss)) (withOwner m (entryOf host s x told)) img ss (placeOf s host) (length X) (s .used) h a q (
-    record {
+    let l₂ : length (splice (splice b (length X) R) h H) ≡ length (splice b (length X) R) = length-splice
+    (splice b (length X) R) h H (omega arith) in
+    place-open buf b (next s (sizeOf ss)) (withOwner m (entryOf host s x told)) img ss (placeOf s host) (length X)
+    (s .used) h a q (record {
       shaped = record { sized = w .sized; signed = w .signed; owned = g′; listed = w .listed };
       counted = o .counted ∙ sym (next-counts s (sizeOf ss) .0);
       size = next-counts s (sizeOf ss) .1 ∙ omega arith;
       short = omega arith;
       room = omega arith;
-      laid = rw e₂ (placed-holds b X zs Y R H (length X) h refl (omega arith) (lR ∙ sym lz) (omega arith) (rw e₁ at (o .laid)));
-      tail = rw len (placed-tail b R H (length X) h (h + sizeOf ss) (omega arith) (omega arith) (omega arith) ∙ drop-further b buf u (h + sizeOf ss) (omega arith) (o .tail));
+      laid = rw e₂
+          (placed-holds b X zs Y R H (length X) h refl (omega arith) (lR ∙ sym lz) (omega arith) (rw e₁ at (o .laid)));
+      tail = rw len (placed-tail b R H (length X) h (h + sizeOf ss) (omega arith) (omega arith) (omega arith)
+          ∙ drop-further b buf u (h + sizeOf ss) (omega arith) (o .tail));
       started = rw nx (f .0);
       unfinished = rw nx (f .1);
       untold = rw nx (rw (f .2) (f .3));

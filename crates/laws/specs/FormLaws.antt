@@ -251,12 +251,17 @@ module _ (m : Meaning) (w : Shaped m) where
 
     pub form-stands : Stands (form m) m
     unfolding heap
-    form-stands = record {
-      oemAt = form-head .kept;
-      driverAt = rw heap-back (laid-at (header .shape .keep) 0 (form m) heap 0 h₀ (env (countIn (m .lists)) 0) [] (m .driver) (ok-header .refsOk) (w .signed) driver-inside stored-driver (form-parts .driverHeap));
-      ownerAt = rw (heap-back, fixed-back .ownerAt) (laid-entry host ok-host (form m) heap 128 h₁ (env (countIn (m .lists)) 0) (m .owner) (w .owned) owner-inside (form-parts .owner) (form-parts .ownerHeap));
-      listsAt = rw heap-back (laid-body (countIn (m .lists)) (form m) heap 80 160 h₂ (m .lists) ok-lists (w .listed) lists-inside laid);
-    }
+    form-stands =
+        record {
+          oemAt = form-head .kept;
+          driverAt = rw heap-back (laid-at (header .shape .keep) 0 (form m) heap 0 h₀ (env (countIn (m .lists)) 0) []
+              (m .driver) (ok-header .refsOk) (w .signed) driver-inside stored-driver (form-parts .driverHeap));
+          ownerAt = rw (heap-back, fixed-back .ownerAt) (laid-entry host ok-host (form m) heap 128 h₁
+              (env (countIn (m .lists)) 0) (m .owner) (w .owned) owner-inside (form-parts .owner)
+              (form-parts .ownerHeap));
+          listsAt = rw heap-back
+              (laid-body (countIn (m .lists)) (form m) heap 80 160 h₂ (m .lists) ok-lists (w .listed) lists-inside laid);
+        }
 
     -- the form says what it was made of
     pub round-trip : meaning (form m) ≡ m

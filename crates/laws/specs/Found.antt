@@ -125,7 +125,11 @@ module _ (t : List ℕ) (b : (i : ℕ) → getD t i 0 < 256) where
   gone-found heap Required r l z e =
       absurd (lib.Dec.T-not (eqb (num t (r + 4) 2) 0) (reached t b heap (num t r 4) (num t (r + 4) 2) (pick-of (reaches heap (num t r 4) (num t (r + 4) 2)) 11 (lit< tt) e)) z)
 
-  present-found : (heap : Region) (n : Need) (r : ℕ) → T (not (eqb (num t (r + 4) 2) 0)) → (n ≡ Ignored → ⊥) → refRule heap n (num t r 4) (num t (r + 4) 2) ≡ 0 → T (reaches heap (num t r 4) (num t (r + 4) 2))
+  present-found : (heap : Region) (n : Need) (r : ℕ)
+      → T (not (eqb (num t (r + 4) 2) 0))
+      → (n ≡ Ignored → ⊥)
+      → refRule heap n (num t r 4) (num t (r + 4) 2) ≡ 0
+      → T (reaches heap (num t r 4) (num t (r + 4) 2))
   present-found heap Ignored r z i e = absurd (i refl)
   present-found heap Optional r z i e = go (eqb (num t r 4) 0) e
     where
@@ -218,7 +222,10 @@ module _ (t : List ℕ) (b : (i : ℕ) → getD t i 0 < 256) where
 
   -- ---- entries and lists
 
-  used-refs : (l : Layout) (valid : ℕ → ℕ → Bool) (heap : Region) (v : Env) (a : ℕ) (img : List ℕ) (ss : Slots (l .refs)) → usedRule l valid heap v t a img ss ≡ 0 → refsRule heap v t a img (l .refs) ≡ 0
+  used-refs : (l : Layout) (valid : ℕ → ℕ → Bool) (heap : Region) (v : Env) (a : ℕ) (img : List ℕ)
+      (ss : Slots (l .refs))
+      → usedRule l valid heap v t a img ss ≡ 0
+      → refsRule heap v t a img (l .refs) ≡ 0
   unfolding usedRule
   used-refs l valid heap v a img ss e =
       first-of (refsRule heap v t a img (l .refs)) (pick (l .names valid img ss) 0 13)

@@ -97,7 +97,12 @@ module _ (l : Layout) (o : OkLayout l) (t : List ℕ) (heap : Region) where
         (patched-holds (l .shape .keep) h img ss (o .refsOk) (length-fixed (l .shape .keep) img (f .fixed)) t a g) d,
   )
 
-  pub laid-list : (count : ℕ → ℕ) (a h pos : ℕ) (es : List (Entry l)) → FitList count pos es → Inside heap h (sizeList es) → Holds t a (recsList h es) → Holds t h (heapList h es) → ListAt t heap a (baseOf l) es
+  pub laid-list : (count : ℕ → ℕ) (a h pos : ℕ) (es : List (Entry l))
+      → FitList count pos es
+      → Inside heap h (sizeList es)
+      → Holds t a (recsList h es)
+      → Holds t h (heapList h es)
+      → ListAt t heap a (baseOf l) es
   unfolding recsList heapList sizeList
   laid-list count a h pos [] f i g d = tt
   laid-list count a h pos (e ∷ es) f i g d =

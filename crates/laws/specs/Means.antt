@@ -43,8 +43,11 @@ module _ (t : List ℕ) (m : Meaning) (w : Lawful m) (s : Stands t m) where
   pub passes : records t m ≡ done
   unfolding records driverRule
   passes =
-      first-done _ _ (pick-yes (eqb (refsRule (heapIn t) (env (countIn (m .lists)) 0) t 0 [] (header .refs)) 0) done _ (yes-eqb (pass-at t (heapIn t) 0 (env (countIn (m .lists)) 0) [] (m .driver) (w .shapes .signed) (s .driverAt))))
-      (first-done _ _ (owner-pass (m .owner) (w .present) (w .shapes .owned) (w .ownedNames) (s .ownerAt)) (pass-body (usedIn (m .lists)) (countIn (m .lists)) t (heapIn t) 80 (m .lists) (w .shapes .listed) (w .named) (s .listsAt)))
+      first-done _ _ (pick-yes (eqb (refsRule (heapIn t) (env (countIn (m .lists)) 0) t 0 [] (header .refs)) 0) done _
+      (yes-eqb (pass-at t (heapIn t) 0 (env (countIn (m .lists)) 0) [] (m .driver) (w .shapes .signed) (s .driverAt))))
+      (first-done _ _ (owner-pass (m .owner) (w .present) (w .shapes .owned) (w .ownedNames) (s .ownerAt))
+      (pass-body (usedIn (m .lists)) (countIn (m .lists)) t (heapIn t) 80 (m .lists) (w .shapes .listed) (w .named)
+      (s .listsAt)))
 
   -- what stands, in a table whose tests pass, is accepted
   pub taken : AllPass (tests t) → check t ≡ done

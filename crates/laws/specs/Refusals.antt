@@ -22,8 +22,36 @@ use Rattle.table.specs.Rules.{Test, answer, bodyRule, done, entryRule, first, f
 use Rattle.table.specs.Meaning.{Meaning, formLength, heapAt, limit, meaning}
 use Rattle.table.specs.Numbers.{check, driverRule, heapIn, hostRule, records, tests}
 use Rattle.table.specs.Rewriting.{rewriteAnswer}
-use Rattle.table.specs.Builder.{Outcome, allUnused, begin, begun, countOf, empty, envOf, fill, fillAnswer, finish, finished, finishing, fitsNeed, isShort}
-use Rattle.table.specs.Builder.{leave, mayHave, mayLack, moved, opened, outcome, recordsEnd, sameState, sealed, slotsRule, toldImage, toldSlots, turn, waits}
+use Rattle.table.specs.Builder.{
+  Outcome,
+  allUnused,
+  begin,
+  begun,
+  countOf,
+  empty,
+  envOf,
+  fill,
+  fillAnswer,
+  finish,
+  finished,
+  finishing,
+  fitsNeed,
+  isShort,
+  leave,
+  mayHave,
+  mayLack,
+  moved,
+  opened,
+  outcome,
+  recordsEnd,
+  sameState,
+  sealed,
+  slotsRule,
+  toldImage,
+  toldSlots,
+  turn,
+  waits,
+}
 use Rattle.laws.specs.Turns.{end-is}
 use Rattle.laws.specs.Runs.{Call, does, finishes, leaves, opens, tellsDiscovery, tellsHfi, tellsHost, tellsSecurity, tellsSsns}
 use Rattle.laws.specs.TestLaws.{Refuses, fails-first, found, number-pick, oneOf, refuses, unless}

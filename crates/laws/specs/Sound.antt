@@ -204,7 +204,10 @@ module _ (t : List ℕ) (b : (i : ℕ) → getD t i 0 < 256) where
           absurd (omega arith)
 
   -- a list's answer is done where its number is 0
-  pub list-zero : (l : Layout) (valid : ℕ → ℕ → Bool) (count : ℕ → ℕ) (heap : Region) (pos a step : ℕ) (es : List (Entry l)) → (listRule l valid count heap pos t a step es) .number ≡ 0 → listRule l valid count heap pos t a step es ≡ done
+  pub list-zero : (l : Layout) (valid : ℕ → ℕ → Bool) (count : ℕ → ℕ) (heap : Region) (pos a step : ℕ)
+      (es : List (Entry l))
+      → (listRule l valid count heap pos t a step es) .number ≡ 0
+      → listRule l valid count heap pos t a step es ≡ done
   unfolding listRule
   list-zero l valid count heap pos a step [] e = refl
   list-zero l valid count heap pos a step (x ∷ es) e = go (entryRule l valid heap (env count pos) t a x) e (list-zero l valid count heap (suc pos) (a + step) step es)

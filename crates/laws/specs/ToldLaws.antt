@@ -158,7 +158,10 @@ fixed-there ks y (e ∷ es) fs t s h =
     (rw (image-whole ks y (e .at) (e .put) (v .0) (every-small (e .put) (w .0)) (h .0)) (same-refl (e .put)))
     (fixed-there ks y es fs (u .1) (w .1) (h .1))
 
-last-there : (ks : List Keep) (y : List ℕ) (es : List Edit) (e : Edit) → T (marksOk ks (es ++ (e ∷ []))) → AllThere y (es ++ (e ∷ [])) → T (wholeAt ks (e .at) (length (e .put))) × Holds y (e .at) (e .put)
+last-there : (ks : List Keep) (y : List ℕ) (es : List Edit) (e : Edit)
+    → T (marksOk ks (es ++ (e ∷ [])))
+    → AllThere y (es ++ (e ∷ []))
+    → T (wholeAt ks (e .at) (length (e .put))) × Holds y (e .at) (e .put)
 last-there ks y [] e t h = (and-yes (wholeAt ks (e .at) (length (e .put))) _ (and-yes (wholeAt ks (e .at) (length (e .put)) && true) true t .0) .0, h .0)
 last-there ks y (x ∷ es) e t h =
     last-there ks y es e (and-yes (wholeAt ks (x .at) (length (x .put)) && clearOf (x .at) (length (x .put)) (es ++ (e ∷ []))) _ t .1) (h .1)

@@ -60,8 +60,13 @@ module _ {l : Layout} (es : List (Entry l)) (p : ℕ) (from : 1 ≤ p) (upto : p
 
 pub fit-body-put : {l : Layout} {ls : List Layout} (count : ℕ → ℕ) (p : ℕ) (x : Entry l) (b b′ : Body ls) → FitBody count b → FitEntry (env count p) x → Put p x ls b b′ → FitBody count b′
 fit-body-put count p x b b′ f g (here es n e k q r) =
-    let l₁ : length (es ++ (x ∷ replicate n unused)) ≡ length (es ++ (unused ∷ replicate n unused)) = length-append es (x ∷ replicate n unused) ∙ sym (length-append es (unused ∷ replicate n unused)) in
-    (rw r (fit-put count 1 es x n (fit-left count 1 es (unused ∷ replicate n unused) (rw q at (f .0))) (subst (λ (i : ℕ). FitEntry (env count i) x) (e ∙ omega arith) g)), rw (r, l₁) (rw q at (f .1)), f .2)
+    let l₁ : length (es ++ (x ∷ replicate n unused)) ≡ length (es ++ (unused ∷ replicate n unused)) = length-append es
+    (x ∷ replicate n unused) ∙ sym (length-append es (unused ∷ replicate n unused)) in (
+      rw r (fit-put count 1 es x n (fit-left count 1 es (unused ∷ replicate n unused) (rw q at (f .0)))
+          (subst (λ (i : ℕ). FitEntry (env count i) x) (e ∙ omega arith) g)),
+      rw (r, l₁) (rw q at (f .1)),
+      f .2,
+    )
 fit-body-put count p x b b′ f g (there {b = c} {b′ = c′} es d u) = (f .0, f .1, fit-body-put count p x c c′ (f .2) g u)
 
 -- ---- what is untold after it
@@ -104,11 +109,17 @@ after-other k n j (l ∷ ls) (c ∷ cs) e t =
     (after-other k n j ls cs e (u .1))
 
 -- a turn behind this list
-skip-blank : {l : Layout} {ls : List Layout} (es : List (Entry l)) (rest : Body ls) (x : Turn) → eqb (x .kind) (l .kind) ≡ false → BlankFrom (x .kind) (x .position) rest → BlankFrom (x .kind) (x .position) (more es rest)
+skip-blank : {l : Layout} {ls : List Layout} (es : List (Entry l)) (rest : Body ls) (x : Turn)
+    → eqb (x .kind) (l .kind) ≡ false
+    → BlankFrom (x .kind) (x .position) rest
+    → BlankFrom (x .kind) (x .position) (more es rest)
 skip-blank es rest x e k = rw e k
 
 -- a turn in it
-at-blank : {l : Layout} {ls : List Layout} (es : List (Entry l)) (rest : Body ls) (p : ℕ) → drop (p - 1) es ≡ replicate (length es - (p - 1)) unused → AllBlank rest → BlankFrom (l .kind) p (more es rest)
+at-blank : {l : Layout} {ls : List Layout} (es : List (Entry l)) (rest : Body ls) (p : ℕ)
+    → drop (p - 1) es ≡ replicate (length es - (p - 1)) unused
+    → AllBlank rest
+    → BlankFrom (l .kind) p (more es rest)
 at-blank {l} es rest p d k = rw (eq-eqb (l .kind) (l .kind) refl) (d, k)
 
 pub first-blank : {ls : List Layout} (b : Body ls) → T (distinct ls) → AllBlank b → BlankFrom (firstTurn ls (lengthsOf b) .kind) (firstTurn ls (lengthsOf b) .position) b
@@ -143,7 +154,8 @@ here-next {l} {ls} x es (suc n) rest t k =
 pub blank-next : {l : Layout} {ls : List Layout} (p : ℕ) (x : Entry l) (b b′ : Body ls) → T (distinct ls) → Put p x ls b b′
     → BlankFrom (turnAfter (l .kind) p ls (lengthsOf b) .kind) (turnAfter (l .kind) p ls (lengthsOf b) .position) b′
 blank-next {l} p x b b′ t (here {rest = rest} es n e k q r) =
-    let l₁ : length (es ++ (unused ∷ replicate n unused)) ≡ length (es ++ (x ∷ replicate n unused)) = length-append es (unused ∷ replicate n unused) ∙ sym (length-append es (x ∷ replicate n unused)) in
+    let l₁ : length (es ++ (unused ∷ replicate n unused)) ≡ length (es ++ (x ∷ replicate n unused)) = length-append es
+    (unused ∷ replicate n unused) ∙ sym (length-append es (x ∷ replicate n unused)) in
     rw (eq-eqb (l .kind) (l .kind) refl, e, q, r, l₁) (here-next x es n rest t k)
 blank-next {l} p x b b′ t (there {l′ = l′} {ls = ks} {b = c} {b′ = c′} es d u) =
     let w = and-yes (missing (l′ .kind) ks) (distinct ks) t in
@@ -157,9 +169,15 @@ blank-leave k p (more {l = l} {ls = ls} es rest) t f u d =
     let w = and-yes (missing (l .kind) ls) (distinct ls) t in
     go (eqb k (l .kind)) refl u d (λ a b. blank-leave k p rest (w .1) f a b)
   where
-    go : (c : Bool) → eqb k (l .kind) ≡ c → p ≤ pick c (length es) (countOf ls (lengthsOf rest) k) → pick c ((drop (p - 1) es ≡ replicate (length es - (p - 1)) unused) × AllBlank rest) (BlankFrom k p rest)
-        → (p ≤ countOf ls (lengthsOf rest) k → BlankFrom k p rest → BlankFrom (turnAfter k p ls (lengthsOf rest) .kind) (turnAfter k p ls (lengthsOf rest) .position) rest)
-        → BlankFrom (turnAfter k p (l ∷ ls) (lengthsOf (more es rest)) .kind) (turnAfter k p (l ∷ ls) (lengthsOf (more es rest)) .position) (more es rest)
+    go : (c : Bool)
+        → eqb k (l .kind) ≡ c
+        → p ≤ pick c (length es) (countOf ls (lengthsOf rest) k)
+        → pick c ((drop (p - 1) es ≡ replicate (length es - (p - 1)) unused) × AllBlank rest) (BlankFrom k p rest)
+        → (p ≤ countOf ls (lengthsOf rest) k
+        → BlankFrom k p rest
+        → BlankFrom (turnAfter k p ls (lengthsOf rest) .kind) (turnAfter k p ls (lengthsOf rest) .position) rest)
+        → BlankFrom (turnAfter k p (l ∷ ls) (lengthsOf (more es rest)) .kind)
+        (turnAfter k p (l ∷ ls) (lengthsOf (more es rest)) .position) (more es rest)
     go true e a b r = rw (eqb-true k (l .kind) e) (blank-next p unused (more es rest) (more es rest) t (put-none es p f a (b .0) rest (b .1)))
     go false e a b r =
         rw e (skip-blank es rest (turnAfter k p ls (lengthsOf rest)) (after-other (l .kind) p k ls (lengthsOf rest) e (and-yes (missing (l .kind) ls) (distinct ls) t .0)) (r a b))

@@ -21,8 +21,7 @@ const FAMILY: Family = Family {
     about: "Calls of the builder with what the second program answers and leaves, and that the definitions compute the same.",
     uses: "\
 use Prim.Native.Nat.{ℕ}
-use Rattle.table.proofs.Cases.{beginning, aHost, anHfi, anSsns, aSecurity, aDiscovery, leaving, finishing}
-use Rattle.table.proofs.Cases.{BuildCase, state, halted, stepped, sheet, fineBuild, allFineBuilds}
+use Rattle.table.proofs.Cases.{BuildCase, beginning, aHost, anHfi, anSsns, aSecurity, aDiscovery, leaving, finishing, state, halted, stepped, sheet, fineBuild, allFineBuilds}
 ",
     case: "BuildCase",
     fine: "fineBuild",
