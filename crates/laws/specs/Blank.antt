@@ -150,7 +150,7 @@ entry8-same a [] xs x y = refl
 entry8-same {l} a (e ∷ es) xs x y =
     ap (λ (n : ℕ). le 4 a ++ (le 2 (baseOf l) ++ (1 ∷ suc n ∷ []))) (length-append es (x ∷ xs) ∙ sym (length-append es (y ∷ xs)))
 
--- the first untold position of this list
+-- the first untold position of this list: what stands before it stays, so that record, place and heap grow by the entry told
 here-effect : {l : Layout} {ls : List Layout} (count : ℕ → ℕ) (x : Entry l) (es : List (Entry l)) (n : ℕ) (rest : Body ls) (a h : ℕ) → OkLayout l → FitList count 1 es → AllBlank rest
     → Effect (suc (length es)) x (more (es ++ (unused ∷ replicate n unused)) rest) (more (es ++ (x ∷ replicate n unused)) rest) a h
 unfolding recsBody heapBody sizeBody spanBody placesBody recsList heapList sizeList recEntry sizeEntry heapEntry

@@ -441,6 +441,7 @@ host-index : (n : ℕ) → n ≡ 0 → n < 256 ^ (host .shape .index .len)
 unfolding host
 host-index n e = rw e (lit< tt)
 
+-- the host told: before it the host is unused and the lists are blank, so that the form grows by the host's record and objects alone
 pub host-open : (buf : List ℕ) (s : State) (b : List ℕ) (m : Meaning) (o : Open buf s b m) (k : OkKind host) (x : List ℕ) (told : Slots (host .refs)) → Sized host x told → T (waits s 2)
     → let img = toldImage (host .shape) (s .position) x in let ss = toldSlots (s .position) img told in
     Passed host s (length b) img ss → Open buf (next s (sizeOf ss)) (placed b (placeOf s host) (s .used) img ss) (withOwner m (entryOf host s x told))

@@ -116,6 +116,7 @@ stepped-requires c κs =
 same-length : tie.Need-same-length
 same-length c = search needs
 
+-- the record in its own part, then the transport info with the name right behind it: two stores in a row (chain-laid), joined by laid-done
 returns-2 : tie.Need-returns-2
 unfolding layoutOf info
 returns-2 c =

@@ -79,6 +79,7 @@ fill-zero-requires c κs =
 same-length : tie.Need-same-length
 same-length c = search needs
 
+-- the stores in a row are one list (chain-laid); each list entry begins where the one before it ends, by its count and base size
 returns : tie.Need-returns
 returns c =
     let at6 = c .before .before .before .before .before .before in

@@ -59,6 +59,7 @@ fill-zero-requires c κs =
 same-length : tie.Need-same-length
 same-length c = search needs
 
+-- nine stores in a row: each begins where the one before it ends, so that together they are one list (chain-laid)
 returns : tie.Need-returns
 returns c =
     let at6 = c .before .before .before .before .before .before in

@@ -128,6 +128,7 @@ copy-into-requires-6 c κs =
 same-length : tie.Need-same-length
 same-length c = search needs
 
+-- six copies in a row: each begins where the one before it ends, so that together they are one list (chain-laid)
 returns : tie.Need-returns
 returns c =
     let at2 = c .before .before in

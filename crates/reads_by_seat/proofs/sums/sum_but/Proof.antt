@@ -43,14 +43,13 @@ wrapping-add-u8-requires c κs = search needs
 
 returns : tie.Need-returns
 returns c =
-    let at3 = c .before .before .before in
-    let a = at3 .before .before .before .args in
+    let a = c .before .before .before .before .before .before .args in
     let b = a .bytes .now in
     let end = a .at + a .len in
-    let e : at3 .sum8 .result ≡ total (take (a .at) b) % 256 = at3 .sum8 .ensures ∙ ap
-    (λ (m : ℕ). total (take m b) % 256) (sub-zero (a .at)) in
-    let f : c .before .sum82 .result ≡ total (drop end b) % 256 = c .before .sum82 .ensures ∙ ap
-    (λ (x : List ℕ). total x % 256) (take-all (length b - end) (drop end b) (rw length-drop (omega arith))) in
+    let e : c .before .before .before .sum8 .result ≡ total (take (a .at) b) % 256 =
+    c .before .before .before .sum8 .ensures ∙ ap (λ (m : ℕ). total (take m b) % 256) (sub-zero (a .at)) in
+    let f : c .before .sum82 .result ≡ total (drop end b) % 256 =
+    c .before .sum82 .ensures ∙ ap (λ (x : List ℕ). total x % 256) (take-all (length b - end) (drop end b) (rw length-drop (omega arith))) in
     omega (arith, e, f, total-parts b (a .at) (a .len), c .wrapping-add-u8 .ensures)
 
 pub sum-but-spec : {M : Type 1} → statement M
