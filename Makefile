@@ -22,7 +22,7 @@ ENDED  := target/ended
 
 # Provers at a time: rt waits for all that it started together, so that with one for each of two cores the shorter proof leaves a core idle.
 # Two, four or twelve at a time prove as much in a minute; with more the waits are fewer (docs/TIMES.md).
-export RT_JOBS ?= 6
+export RT_JOBS ?= 8
 
 # Each prover copies what it builds on, up to some 330 MB, into a folder of its own for temporary files. In memory that takes a tenth less
 # time than on a disk: where there is room for it, and programs may be run from there, since rt runs ours so.
