@@ -127,7 +127,7 @@ impl<'a> Finder<'a> {
             let name = format!("length-{length}");
             self.fault(&header, &name, number::LENGTH, 4, &length.to_le_bytes());
         }
-        for (name, offset, value) in [("major", 8, 0), ("major", 8, 2), ("minor", 50, 1)] {
+        for (name, offset, value) in [("major", 8, 0), ("major", 8, 2)] {
             self.byte(&header, name, number::HEADER_VERSION, offset, value);
         }
         self.reference(&header, "driver-signature", DRIVER_SIGNATURE_AT, false);
@@ -140,7 +140,6 @@ impl<'a> Finder<'a> {
             ("id", 64, 2),
             ("major", 65, 0),
             ("major", 65, 2),
-            ("minor", 66, 1),
             ("block-not-valid", 70, 0xFE),
         ];
         for (name, offset, value) in wrong {

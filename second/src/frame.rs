@@ -226,7 +226,7 @@ fn judge_header(lent: &[u8]) -> Result<&[u8], u8> {
     if byte_sum(table) != 0 {
         return Err(number::CHECKSUM);
     }
-    if table[8] != 1 || table[50] != 0 {
+    if table[8] != 1 {
         return Err(number::HEADER_VERSION);
     }
     Ok(table)
@@ -234,7 +234,7 @@ fn judge_header(lent: &[u8]) -> Result<&[u8], u8> {
 
 /// Number 7.
 fn judge_control(table: &[u8]) -> Result<(), u8> {
-    let identity = table[64] == 1 && table[65] == 1 && table[66] == 0;
+    let identity = table[64] == 1 && table[65] == 1;
     let size = usize::from(u16_at(table, 68));
     let fits = size >= CONTROL_SIZE && CONTROL_START + size <= table.len();
     let block_valid = table[70] & 1 == 1;

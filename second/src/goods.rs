@@ -71,6 +71,9 @@ fn front_goods() -> Vec<Sample> {
     vec![
         good("host-only", &base, |_| ()),
         good("no-driver-signature", &bare, |_| ()),
+        good("header-minor-1", &base, |table| table[50] = 1),
+        filled("header-minor-255", 50..51),
+        filled("control-minor-255", 66..67),
         filled("header-reserved", 51..64),
         filled("control-reserved-67", 67..68),
         filled("control-flags-all-set", 70..71),

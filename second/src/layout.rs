@@ -282,11 +282,10 @@ impl Plan {
         put_u32(table, 40, parts.heap.len() as u32);
         let (offset, length) = parts.signature;
         put_reference(table, DRIVER_SIGNATURE_AT, offset, length);
-        table[50] = 0;
     }
 
     fn write_control(&self, table: &mut [u8], parts: &Parts) {
-        put(table, CONTROL_START, &[1, 1, 0]);
+        put(table, CONTROL_START, &[1, 1]);
         put_u16(table, 68, self.control_size as u16);
         set_bit(table, 70, 0, true);
         put_reference(table, 72, self.host as u32, parts.host.len() as u16);

@@ -89,10 +89,9 @@ module _ (m : Meaning) (w : Lawful m) (short : formLength m ≤ limit) where
               (
                 rw size-back (eq (total (take (formLength m) (form m)) % 256) 0 sum-back),
                 (
-                  yes-and (eqb (getD (form m) 8 0) 1) _ (eq (getD (form m) 8 0) 1 (p .major))
-                      (eq (getD (form m) 50 0) 0 (p .minor)),
+                  eq (getD (form m) 8 0) 1 (p .major),
                   (
-                    rw (x .ident, x .major, x .minor, x .csl, x .valid, size-back) (yes-and (leb 128 (formLength m)) _ (yes-leb {a = 128} {b = formLength m} (omega arith)) tt),
+                    rw (x .ident, x .major, x .csl, x .valid, size-back) (yes-and (leb 128 (formLength m)) _ (yes-leb {a = 128} {b = formLength m} (omega arith)) tt),
                     (
                       rw (x .csl, x .ownerLen, size-back)
                           (yes-and (longEnough listKinds (form m) 80) _ (lists-long .0)

@@ -150,7 +150,6 @@ module _ (m : Meaning) (w : Shaped m) where
       pub heapFrom : num t 36 4 ≡ heapAt m
       pub heapSize : num t 40 4 ≡ heapLen m
       pub signature : Holds t 44 (driverRef m)
-      pub minor : getD t 50 0 ≡ 0
 
     pub small : formLength m < 256 ^ 4
     unfolding limit
@@ -167,7 +166,6 @@ module _ (m : Meaning) (w : Shaped m) where
         let q₂ : Holds t 36 (le 4 (heapAt m) ++ (le 4 (heapLen m) ++ (r ++ z))) = rw (w .sized) at (holds-right t 10 (m .oem) _ (p .back)) in
         let q₃ : Holds t 40 (le 4 (heapLen m) ++ (r ++ z)) = holds-right t 36 (le 4 (heapAt m)) _ q₂ in
         let q₄ : Holds t 44 (r ++ z) = holds-right t 40 (le 4 (heapLen m)) _ q₃ in
-        let q₅ : Holds t 50 z = rw (length-driverRef m) at (holds-right t 44 r z q₄) in
         record {
           sig = ap val (holds-part t 0 s (holds-left t 0 s _ (p .front)));
           size = holds-num t 4 4 (formLength m) k (holds-left t 4 (le 4 (formLength m)) _ q₁);
@@ -176,7 +174,6 @@ module _ (m : Meaning) (w : Shaped m) where
           heapFrom = holds-num t 36 4 (heapAt m) (omega arith) (holds-left t 36 (le 4 (heapAt m)) _ q₂);
           heapSize = holds-num t 40 4 (heapLen m) (omega arith) (holds-left t 40 (le 4 (heapLen m)) _ q₃);
           signature = holds-left t 44 r z q₄;
-          minor = holds-getD t 50 z q₅ 0 (lit< tt);
         }
 
     pub form-head : Head (form m)
@@ -194,7 +191,6 @@ module _ (m : Meaning) (w : Shaped m) where
     pub record Fixed (t : List ℕ) : Type 0 where
       pub ident : getD t 64 0 ≡ 1
       pub major : getD t 65 0 ≡ 1
-      pub minor : getD t 66 0 ≡ 0
       pub csl : num t 68 2 ≡ 64
       pub valid : getD t 70 0 ≡ 1
       pub ownerAt : num t 72 4 ≡ 128
@@ -213,7 +209,6 @@ module _ (m : Meaning) (w : Shaped m) where
         record {
           ident = holds-getD (form m) 64 (controlBytes m) h 0 (omega (arith, control-part));
           major = holds-getD (form m) 64 (controlBytes m) h 1 (omega (arith, control-part));
-          minor = holds-getD (form m) 64 (controlBytes m) h 2 (omega (arith, control-part));
           csl = holds-num (form m) 68 2 64 (lit< tt) (holds-left (form m) 68 (le 2 64) _ (holds-right (form m) 64 (1 ∷ 1 ∷ 0 ∷ 0 ∷ []) _ h));
           valid = holds-getD (form m) 64 (controlBytes m) h 6 (omega (arith, control-part));
           ownerAt = holds-num (form m) 72 4 128 (lit< tt) (holds-left (form m) 72 (le 4 128) _ h₇₂);

@@ -16,7 +16,7 @@ use Rattle.table.specs.Layout.{region, baseOf}
 use Rattle.table.specs.FixedLayouts.{listKinds, host, hfi, ssns, security, discovery}
 use Rattle.table.specs.Rules.{answer, first, test, firstFail, apart, apartAll, apartEach, inside, consIf, listRegions, longEnough, versioned}
 use Rattle.table.specs.Meaning.{limit}
-use Rattle.table.specs.Numbers.{tests, regions, minorRight}
+use Rattle.table.specs.Numbers.{tests, regions}
 use Rattle.laws.specs.TestLaws.{all-pass}
 use Rattle.reader_head.specs.declared.Entry.{Entry}
 use Rattle.reader_head.specs.declared.Head.{Head}
@@ -116,7 +116,7 @@ misplaced-is t =
 
 control-is : (h : Head)
     → eqb (controlWrong h) 0
-    ≡ (eqb (h .controlid) 1 && (eqb (h .controlmajor) 1 && (minorRight (h .controlminor) && (leb 64 (h .csl) && (leb (64 + h .csl) (h .size) && odd (h .flags))))))
+    ≡ (eqb (h .controlid) 1 && (eqb (h .controlmajor) 1 && (leb 64 (h .csl) && (leb (64 + h .csl) (h .size) && odd (h .flags)))))
 unfolding controlWrong
 control-is h = none₁ _
 

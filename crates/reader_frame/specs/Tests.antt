@@ -7,7 +7,6 @@ use Rattle.table.specs.Bytes.{pick, odd}
 use Rattle.table.specs.Layout.{baseOf}
 use Rattle.table.specs.FixedLayouts.{hfi, ssns, security, discovery}
 use Rattle.table.specs.Rules.{Test}
-use Rattle.table.specs.Numbers.{minorRight}
 use Rattle.reader_head.specs.declared.Entry.{Entry}
 use Rattle.reader_head.specs.declared.Head.{Head}
 use Rattle.reader_regions.specs.Regions.{misplaced}
@@ -19,8 +18,7 @@ unfoldable pub controlWrong : Head → ℕ
 controlWrong h =
     pick
     (eqb (h .controlid) 1
-    && (eqb (h .controlmajor) 1
-    && (minorRight (h .controlminor) && (leb 64 (h .csl) && (leb (64 + h .csl) (h .size) && odd (h .flags))))))
+    && (eqb (h .controlmajor) 1 && (leb 64 (h .csl) && (leb (64 + h .csl) (h .size) && odd (h .flags)))))
     0 1
 
 -- ---- test 8: record lengths
@@ -43,4 +41,4 @@ wrongVersions h = wrongVersion (h .hfi) + (wrongVersion (h .ssns) + (wrongVersio
 -- ---- tests 6 to 9
 
 unfoldable pub headTests : Head → List Test
-headTests h = judged (h .major) (h .minor) (controlWrong h) (h .host .len) (shortLists h) (misplaced h) (h .hostversion) (wrongVersions h)
+headTests h = judged (h .major) (controlWrong h) (h .host .len) (shortLists h) (misplaced h) (h .hostversion) (wrongVersions h)

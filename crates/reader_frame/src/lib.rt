@@ -77,9 +77,6 @@ fn control_wrong(h: Head) -> usize
     if h.controlmajor != 1 {
         return 1;
     }
-    if h.controlminor != 0 {
-        return 1;
-    }
     if csl < table::Control::SIZE {
         return 1;
     }
@@ -103,7 +100,6 @@ fn head_fault(h: Head) -> Answer
     let wrong = wrong_versions(h);
     judge(
         h.major,
-        h.minor,
         control,
         host.len,
         short,

@@ -30,7 +30,6 @@ pub fn size_fault(signature: usize, size: usize, lent: usize) -> Answer
 // Tests 6 to 9 in their order, by what was read and counted: the first fault wins.
 pub fn judge(
     major: u8,
-    minor: u8,
     control: usize,
     hostlen: usize,
     short: usize,
@@ -38,12 +37,9 @@ pub fn judge(
     version: u8,
     wrong: usize,
 ) -> Answer
-    ensures { λ r. ⌜ r ≡ firstFail (judged major minor control hostlen short misplaced version wrong) ⌝ }
+    ensures { λ r. ⌜ r ≡ firstFail (judged major control hostlen short misplaced version wrong) ⌝ }
 {
     if major != 1 {
-        return table::refuse(6, 0, 0);
-    }
-    if minor != 0 {
         return table::refuse(6, 0, 0);
     }
     if control != 0 {

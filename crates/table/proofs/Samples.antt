@@ -195,6 +195,16 @@ further =
     ∷ refused (fullWith (edit 419 (0 ∷ []) ∷ [])) 13 6 1
     ∷ []
 
+-- minor revisions are not looked at, and the form has 0 there: K1 with header minor 1, with control minor 255, with both; major revisions are
+abbrev minors : List Case
+minors =
+    taken (with (edit 50 (1 ∷ []) ∷ [])) k1
+    ∷ taken (with (edit 66 (0xFF ∷ []) ∷ [])) k1
+    ∷ taken (with (edit 50 (1 ∷ []) ∷ edit 66 (0xFF ∷ []) ∷ [])) k1
+    ∷ refused (with (edit 8 (2 ∷ []) ∷ edit 50 (1 ∷ []) ∷ [])) 6 0 0
+    ∷ refused (with (edit 65 (2 ∷ []) ∷ edit 66 (1 ∷ []) ∷ [])) 7 1 0
+    ∷ further
+
 -- K1 to K10 in order, then K12 and K13, what K12 becomes with flag 2 clear, and further ones
 abbrev pub samples : List Case
 samples =
@@ -211,7 +221,7 @@ samples =
     ∷ refused (k12Like 5 0) 13 4 1
     ∷ refused (k12Like 5 1) 13 4 1
     ∷ taken (k12Like 1 1) (k12Like 1 0)
-    ∷ further
+    ∷ minors
 
 pub samples-fine : T (allFine samples)
 unfolding fine

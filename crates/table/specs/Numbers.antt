@@ -13,10 +13,6 @@ use Rattle.table.specs.Objects.{usedIn, countIn}
 use Rattle.table.specs.Rules.{answer, done, first, Test, test, firstFail, inside, apartEach, consIf, listRegions, longEnough, versioned, refsRule, usedRule, bodyRule}
 use Rattle.table.specs.Meaning.{limit, Meaning, meaning}
 
--- the one place for the test of a minor revision, of the header and of the control record
-abbrev pub minorRight : ℕ → Bool
-minorRight n = eqb n 0
-
 unfoldable pub heapIn : List ℕ → Region
 heapIn t = region (num t 36 4) (num t 40 4)
 
@@ -33,8 +29,8 @@ tests t =
     ∷ test (leb 160 size && leb size (length t)) 3 0 0
     ∷ test (leb size limit) 4 0 0
     ∷ test (eqb (total (take size t) % 256) 0) 5 0 0
-    ∷ test (eqb (getD t 8 0) 1 && minorRight (getD t 50 0)) 6 0 0
-    ∷ test (eqb (getD t 64 0) 1 && (eqb (getD t 65 0) 1 && (minorRight (getD t 66 0) && (leb 64 csl && (leb (64 + csl) size && odd (getD t 70 0)))))) 7 1 0
+    ∷ test (eqb (getD t 8 0) 1) 6 0 0
+    ∷ test (eqb (getD t 64 0) 1 && (eqb (getD t 65 0) 1 && (leb 64 csl && (leb (64 + csl) size && odd (getD t 70 0))))) 7 1 0
     ∷ test (leb (baseOf host) (referenceAt t 72 .len) && (longEnough listKinds t 80 && (inside (64 + csl) size (regions t) && apartEach (regions t)))) 8 1 0
     ∷ test (eqb (getD t 78 0) 1 && versioned listKinds t 80) 9 1 0
     ∷ []

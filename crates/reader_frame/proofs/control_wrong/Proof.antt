@@ -16,12 +16,12 @@ returns-3 : tie.Need-returns-3
 unfolding controlWrong
 returns-3 c = search picks
 
+add-if4 : tie.Need-add-if4
+add-if4 c = search needs
+
 returns-4 : tie.Need-returns-4
 unfolding controlWrong
 returns-4 c = search picks
-
-add-if5 : tie.Need-add-if5
-add-if5 c = search needs
 
 returns-5 : tie.Need-returns-5
 unfolding controlWrong
@@ -31,11 +31,7 @@ returns-6 : tie.Need-returns-6
 unfolding controlWrong
 returns-6 c = search picks
 
-returns-7 : tie.Need-returns-7
-unfolding controlWrong
-returns-7 c = search picks
-
 pub control-wrong-spec : {M : Type 1} → statement M
 control-wrong-spec =
     tie.close
-    (tie.spec returns returns-2 returns-3 returns-4 add-if5 returns-5 returns-6 returns-7)
+    (tie.spec returns returns-2 returns-3 add-if4 returns-4 returns-5 returns-6)

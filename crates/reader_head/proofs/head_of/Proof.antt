@@ -19,23 +19,17 @@ shared-slice-read-t7 c = search needs
 shared-slice-read-t9 : tie.Need-shared-slice-read-t9
 shared-slice-read-t9 c = search needs
 
-shared-slice-read-t11 : tie.Need-shared-slice-read-t11
-shared-slice-read-t11 c = search needs
-
-shared-slice-read-t13 : tie.Need-shared-slice-read-t13
-shared-slice-read-t13 c = search needs
-
 u16-at-requires : tie.Need-u16-at-requires
 u16-at-requires c κs = search needs
 
-shared-slice-read-t16 : tie.Need-shared-slice-read-t16
-shared-slice-read-t16 c = search needs
+shared-slice-read-t12 : tie.Need-shared-slice-read-t12
+shared-slice-read-t12 c = search needs
 
 reference-at-requires : tie.Need-reference-at-requires
 reference-at-requires c κs = search needs
 
-shared-slice-read-t19 : tie.Need-shared-slice-read-t19
-shared-slice-read-t19 c = search needs
+shared-slice-read-t15 : tie.Need-shared-slice-read-t15
+shared-slice-read-t15 c = search needs
 
 region-at-requires : tie.Need-region-at-requires
 region-at-requires c κs = search needs
@@ -52,7 +46,7 @@ entry-at-requires-3 c κs = search needs
 entry-at-requires-4 : tie.Need-entry-at-requires-4
 entry-at-requires-4 c κs =
     let start = c .before .before .before .before .before .before .before .before .before .before .before .before
-    .before .before .before .before in
+    .before .before in
     omega (arith, start .pre)
 
 returns : tie.Need-returns
@@ -62,7 +56,7 @@ returns c =
     let e = at2 .before in
     let h = e .before .before .before in
     let s = h .before .before in
-    let n = s .before .before .before .before .before .before in (
+    let n = s .before .before .before .before in (
       rw (
         n .before .u32-at .ensures .0,
         n .u32-at2 .ensures .0,
@@ -94,12 +88,10 @@ head-of-spec =
     shared-slice-read-t5
     shared-slice-read-t7
     shared-slice-read-t9
-    shared-slice-read-t11
-    shared-slice-read-t13
     u16-at-requires
-    shared-slice-read-t16
+    shared-slice-read-t12
     reference-at-requires
-    shared-slice-read-t19
+    shared-slice-read-t15
     region-at-requires
     entry-at-requires
     entry-at-requires-2

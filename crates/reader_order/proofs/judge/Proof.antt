@@ -54,19 +54,12 @@ returns-7 : tie.Need-returns-7
 unfolding judged host
 returns-7 c = search picks
 
-refuse-requires-8 : tie.Need-refuse-requires-8
-refuse-requires-8 c κs = search needs
+done-requires : tie.Need-done-requires
+done-requires c κs = search needs
 
 returns-8 : tie.Need-returns-8
 unfolding judged host
 returns-8 c = search picks
-
-done-requires : tie.Need-done-requires
-done-requires c κs = search needs
-
-returns-9 : tie.Need-returns-9
-unfolding judged host
-returns-9 c = search picks
 
 pub judge-spec : {M : Type 1} → statement M
 judge-spec =
@@ -86,7 +79,5 @@ judge-spec =
     returns-6
     refuse-requires-7
     returns-7
-    refuse-requires-8
-    returns-8
     done-requires
-    returns-9)
+    returns-8)
