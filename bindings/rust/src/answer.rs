@@ -17,7 +17,7 @@ pub enum Number {
     TooLong = 4,
     /// The bytes do not add up to 0 modulo 256.
     Checksum = 5,
-    /// The header's revision.
+    /// The header's major revision is wrong.
     Revision = 6,
     /// The control record.
     Control = 7,
@@ -73,7 +73,7 @@ impl Number {
             Number::Length => "Length is outside what is lent",
             Number::TooLong => "Length is above 65536",
             Number::Checksum => "the checksum is wrong",
-            Number::Revision => "the header's revision is wrong",
+            Number::Revision => "the header's major revision is wrong",
             Number::Control => "the control record is wrong",
             Number::Region => "a record length or a region is wrong",
             Number::Version => "a version is wrong",

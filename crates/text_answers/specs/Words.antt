@@ -16,7 +16,7 @@ meaningOf n =
     (cond (eqb n 3) "Length is outside what is lent"
     (cond (eqb n 4) "Length is above 65536"
     (cond (eqb n 5) "the checksum is wrong"
-    (cond (eqb n 6) "the header's revision is wrong"
+    (cond (eqb n 6) "the header's major revision is wrong"
     (cond (eqb n 7) "the control record is wrong"
     (cond (eqb n 8) "a record length or a region is wrong"
     (cond (eqb n 9) "a version is wrong"

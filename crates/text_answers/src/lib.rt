@@ -41,7 +41,7 @@ fn with_meaning(t: Text, number: u8) -> Text
         3 => with_bytes(t, b"Length is outside what is lent"),
         4 => with_limit(t, b"Length is above ", b""),
         5 => with_bytes(t, b"the checksum is wrong"),
-        6 => with_bytes(t, b"the header's revision is wrong"),
+        6 => with_bytes(t, b"the header's major revision is wrong"),
         7 => with_bytes(t, b"the control record is wrong"),
         8 => with_bytes(t, b"a record length or a region is wrong"),
         9 => with_bytes(t, b"a version is wrong"),
