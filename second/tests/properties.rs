@@ -80,13 +80,13 @@ fn layouts_of_a_meaning_have_its_form() {
     }
 }
 
-/// A few bytes of a good table changed at random, with the checksum right.
+/// A few bytes of a good table changed at random, from the major revision on, with the checksum right.
 fn mutated(random: &mut Random) -> Vec<u8> {
     let told = random_meaning(random);
     let mut table = lay_out_freely(random, &told, Style::WILD);
     for _ in 0..=random.below(4) {
         let within = *random.pick(&[128, table.len()]);
-        let place = 10 + random.below(within - 10);
+        let place = 8 + random.below(within - 8);
         let byte = random.byte();
         table[place] = *random.pick(&[0, 1, 3, 255, byte]);
     }
@@ -292,8 +292,9 @@ fn offset_at(table: &[u8], at: usize) -> usize {
 #[test]
 fn exactly_the_reserved_bits_of_front_and_subsystem_count_for_nothing() {
     let all = form(&small(4, 1));
-    assert_eq!(reserved_bits(&all, 0..64, &[0, 4, 44]), 13 * 8);
-    assert_eq!(reserved_bits(&all, 64..128, &[]), 8 + 7 + 8 + 8 + 16 * 8);
+    assert_eq!(reserved_bits(&all, 0..64, &[0, 4, 44]), 8 + 13 * 8);
+    let control = 8 + 8 + 7 + 8 + 8 + 16 * 8;
+    assert_eq!(reserved_bits(&all, 64..128, &[]), control);
     assert_eq!(reserved_bits(&all, 128..160, &[18]), 3 + 8 * 8);
     let ssns = offset_at(&all, 88);
     let expected = 7 + 13 + 8 + 8 + 62 * 8;
@@ -339,7 +340,8 @@ fn goods_that_differ_in_nothing_that_counts_have_one_form() {
             Some("discovery") => 6,
             _ => 2,
         };
-        if sample.name.contains("reserved") || sample.name.contains("list-garbage") {
+        let idle = ["reserved", "list-garbage", "minor"];
+        if idle.iter().any(|word| sample.name.contains(word)) {
             assert_eq!(
                 rewritten(&sample.table),
                 form(&small(kind, 1)),
