@@ -29,6 +29,11 @@ noNames used img ss = true
 abbrev pub zeroOr : (ℕ → Bool) → ℕ → Bool
 zeroOr named n = eqb n 0 || named n
 
+-- ---- how the lines of a figure are read: first byte, name, stretch (Layout)
+
+-- flags 2 9: two bytes, of which the lowest nine bits count. onlyIf 16 6 2: sixteen bytes, which count if bit 2 of byte 6 is set. No fields are the bytes of a
+-- reference, those of header and control record that tests look at or the form fixes (frame), and reserved ones
+
 -- ---- outside the lists
 
 unfoldable pub header : Layout
