@@ -51,19 +51,8 @@ LINKED  := $(RUN) second/linked/target/$(X86)/release/linked
 
 PREFIX ?= /usr/local
 
-# Times under an emulator say nothing: on another processor the benchmark links the library's module compiled for that one.
-ifeq ($(RUN),)
-NATIVE  := true
-BENCHED := $(CARGO) build --target $(X86)
-BENCH   := bench/target/$(X86)/release/bench
-else
-NATIVE  := bench/native target/native
-BENCHED := NBFT_LIB=$(CURDIR)/target/native $(CARGO) build
-BENCH   := bench/target/release/bench
-endif
-
 .PHONY: run test proofs compared second-tests comparisons compared-checks compared-reads compared-rewrites compared-builds library lib install \
-        examples bindings readme soak bench benched plot vectors clean second linked
+        examples bindings readme soak vectors clean second linked
 
 # The programs are proved, then compiled: the first run takes some minutes.
 run:
@@ -172,17 +161,6 @@ SECONDS = 600
 soak: linked
 	$(LINKED) soak $(if $(CASES),cases $(CASES),seconds $(SECONDS)) $(SEED)
 
-bench: benched
-	$(BENCH)
-
-plot: benched
-	$(BENCH) series > bench/target/series
-	bench/plot bench/target/series docs/performance.png
-
-benched: $(if $(RUN),library,linked)
-	@$(NATIVE)
-	@cd bench && $(BENCHED) --offline --quiet --release
-
 vectors: second
 	$(SECOND) vectors write second/vectors
 	$(SECOND) samples write samples
@@ -197,3 +175,6 @@ linked: $(if $(NBFT_LIB),,library)
 
 clean:
 	rm -rf target build second/target second/linked/target bench/target bindings/rust/target
+
+# By the place of this file, which `compared` has read in a folder that has no benchmark.
+include $(dir $(lastword $(MAKEFILE_LIST)))bench/rules.mk
