@@ -2,7 +2,7 @@
 use table::Region;
 ghost use mathlib.Core.Path.{_≡_};
 ghost use Prim.Native.Nat.{_+_, _%_, _≤_, _<_};
-ghost use lib.ListN.{length};
+ghost use lib.ListN.{length, drop};
 ghost use Rattle.table.specs.Bytes.{num, total};
 ghost use Rattle.table.specs.Layout.{referenceAt};
 
@@ -39,24 +39,47 @@ pub fn reference_at(t: &[u8], at: usize) -> Region
     }
 }
 
-// The sum of all bytes modulo 256, which a u8 that wraps keeps by itself. The halves are summed side by side, so
-// that a turn of the compiled loop takes in 64 bytes and not 32.
+// The sum of the bytes from a place on modulo 256, one byte after the other.
+fn sum_from(t: &[u8], start: usize) -> u8
+    ensures { λ r. ⌜ r ≡ total (drop start (now (t .entry))) % 256 ⌝ }
+{
+    let mut sum: u8 = 0;
+    let mut added: usize = 0;
+    while start + added < t.len() {
+        sum = std::num::wrapping_add_u8(sum, t[start + added]);
+        added += 1;
+    }
+    sum
+}
+
+// Fewer bytes than a table has that names an interface and a namespace. One sum of them takes less time than four where the compiled loop has vectors.
+const SHORT: usize = 256;
+
+// The sum of all bytes modulo 256, which a u8 that wraps keeps by itself. The quarters are summed side by side, so that
+// an addition waits for none but the one four before it; behind them stand three bytes at most.
 pub fn sum8(t: &[u8]) -> u8
     ensures { λ r. ⌜ r ≡ total (now (t .entry)) % 256 ⌝ }
 {
-    let n = t.len();
-    let h = n / 2;
-    let mut a: u8 = 0;
-    let mut b: u8 = 0;
+    if t.len() < SHORT {
+        return sum_from(t, 0);
+    }
+    let quarter = t.len() / 4;
+    let mut first: u8 = 0;
+    let mut second: u8 = 0;
+    let mut third: u8 = 0;
+    let mut fourth: u8 = 0;
     let mut i: usize = 0;
-    while i < h {
-        a = std::num::wrapping_add_u8(a, t[i]);
-        b = std::num::wrapping_add_u8(b, t[h + i]);
+    while i < quarter {
+        first = std::num::wrapping_add_u8(first, t[i]);
+        second = std::num::wrapping_add_u8(second, t[quarter + i]);
+        third = std::num::wrapping_add_u8(third, t[2 * quarter + i]);
+        fourth = std::num::wrapping_add_u8(fourth, t[3 * quarter + i]);
         i += 1;
     }
-    let sum = std::num::wrapping_add_u8(a, b);
-    if h < n - h {
-        return std::num::wrapping_add_u8(sum, t[h + h]);
-    }
-    sum
+    let front = std::num::wrapping_add_u8(first, second);
+    let back = std::num::wrapping_add_u8(third, fourth);
+    std::num::wrapping_add_u8(
+        std::num::wrapping_add_u8(front, back),
+        sum_from(t, 4 * quarter),
+    )
 }

@@ -1,22 +1,34 @@
 use Rattle.table.proofs.Rules.{picks}
-use Prim.Native.Nat.{_≤_, _+_, _-_, _/_, _%_, _<_}
-use Rattle.table.specs.Bytes.{total}
-use mathlib.Core.Path.{_≡_}
-use lib.ListN.{length, drop}
+use mathlib.Core.List.{List, [], _∷_}
+use Prim.Native.Nat.{ℕ, _+_, _-_, _*_, _/_, _≤_, _<_}
+use lib.ListN.{length}
 use native.Mathlib.Omega.{arith}
-use Rattle.bytes_wire.proofs.Laws.{sum-step, sum-done, sum-same, sum-both}
+use Rattle.bytes_wire.proofs.Laws.{Summed, summed-none, summed-more, summed-to, summed-all}
 use Rattle.bytes_wire.proofs.sum8.Statement.{statement}
 use Rattle.bytes_wire.proofs.sum8.Tie as tie
 
 abbrev Inv-loop : tie.InvT-loop
-Inv-loop t n h a₀ b₀ i₀ a b i =
-    (i ≤ h) × (a < 256) × (b < 256) × ((a + total (drop i t)) % 256 ≡ total t % 256) × ((b + total (drop (h + i) t)) % 256 ≡ total (drop h t) % 256)
+Inv-loop t quarter first₀ second₀ third₀ fourth₀ i₀ first second third fourth i =
+    (i ≤ quarter) ×
+    ((first < 256) × Summed t 0 i first) ×
+    ((second < 256) × Summed t quarter (quarter + i) second) ×
+    ((third < 256) × Summed t (2 * quarter) (2 * quarter + i) third) ×
+    ((fourth < 256) × Summed t (3 * quarter) (3 * quarter + i) fourth)
 
 abbrev μ-loop : tie.MeasureT-loop
-μ-loop t n h a₀ b₀ i₀ a b i = h - i
+μ-loop t quarter first₀ second₀ third₀ fourth₀ i₀ first second third fourth i = quarter - i
+
+sum-from-requires : tie.Need-sum-from-requires Inv-loop μ-loop
+sum-from-requires c κs = search picks
+
+returns : tie.Need-returns Inv-loop μ-loop
+returns c = search picks
 
 loop-holds : tie.Need-loop-holds Inv-loop μ-loop
-loop-holds c = let t = c .before .args .t .now in omega (arith, sum-same t (length t / 2 + 0) (length t / 2) (omega arith))
+loop-holds c =
+    let t = c .before .before .args .t .now in
+    let q = length t / 4 in
+    omega (arith, summed-none t q (q + 0) (omega arith), summed-none t (2 * q) (2 * q + 0) (omega arith), summed-none t (3 * q) (3 * q + 0) (omega arith))
 
 shared-slice-read-wrapping-add-u8 : tie.Need-shared-slice-read-wrapping-add-u8 Inv-loop μ-loop
 shared-slice-read-wrapping-add-u8 c = search picks
@@ -33,6 +45,30 @@ shared-slice-read-wrapping-add-u8-2 c = search picks
 wrapping-add-u8-requires-2 : tie.Need-wrapping-add-u8-requires-2 Inv-loop μ-loop
 wrapping-add-u8-requires-2 c κs = search picks
 
+mul-wrapping-add-u8 : tie.Need-mul-wrapping-add-u8 Inv-loop μ-loop
+mul-wrapping-add-u8 c = search picks
+
+add-wrapping-add-u8-2 : tie.Need-add-wrapping-add-u8-2 Inv-loop μ-loop
+add-wrapping-add-u8-2 c = search picks
+
+shared-slice-read-wrapping-add-u8-3 : tie.Need-shared-slice-read-wrapping-add-u8-3 Inv-loop μ-loop
+shared-slice-read-wrapping-add-u8-3 c = search picks
+
+wrapping-add-u8-requires-3 : tie.Need-wrapping-add-u8-requires-3 Inv-loop μ-loop
+wrapping-add-u8-requires-3 c κs = search picks
+
+mul-wrapping-add-u8-2 : tie.Need-mul-wrapping-add-u8-2 Inv-loop μ-loop
+mul-wrapping-add-u8-2 c = search picks
+
+add-wrapping-add-u8-3 : tie.Need-add-wrapping-add-u8-3 Inv-loop μ-loop
+add-wrapping-add-u8-3 c = search picks
+
+shared-slice-read-wrapping-add-u8-4 : tie.Need-shared-slice-read-wrapping-add-u8-4 Inv-loop μ-loop
+shared-slice-read-wrapping-add-u8-4 c = search picks
+
+wrapping-add-u8-requires-4 : tie.Need-wrapping-add-u8-requires-4 Inv-loop μ-loop
+wrapping-add-u8-requires-4 c κs = search picks
+
 add-i : tie.Need-add-i Inv-loop μ-loop
 add-i c = search picks
 
@@ -41,50 +77,56 @@ loop-less c = search picks
 
 loop-again : tie.Need-loop-again Inv-loop μ-loop
 loop-again c =
-    let l = c .before .before .before .before .before in
-    let t = l .before .before .args .t .now in
+    let l = c .before .before .before .before .before .before .before .before .before in
+    let t = l .before .before .before .args .t .now in
+    let q = length t / 4 in
     let i = l .loop .i in
-    let j = length t / 2 + i in
-    omega (arith, sum-step t i (omega arith), sum-step t j (omega arith), sum-same t (j + 1) (length t / 2 + (i + 1)) (omega arith))
+    let v = l .loop .inv in
+    let a = summed-more t 0 i (i + 1) (l .loop .first) (omega arith) (omega arith) (v .1 .1) in
+    let b = summed-more t q (q + i) (q + (i + 1)) (l .loop .second) (omega arith) (omega arith) (v .2 .1) in
+    let d = summed-more t (2 * q) (2 * q + i) (2 * q + (i + 1)) (l .loop .third) (omega arith) (omega arith) (v .3 .1) in
+    let e = summed-more t (3 * q) (3 * q + i) (3 * q + (i + 1)) (l .loop .fourth) (omega arith) (omega arith) (v .4 .1) in
+    omega (arith, a, b, d, e)
 
-wrapping-add-u8-requires-3 : tie.Need-wrapping-add-u8-requires-3 Inv-loop μ-loop
-wrapping-add-u8-requires-3 c κs = search picks
+wrapping-add-u8-requires-5 : tie.Need-wrapping-add-u8-requires-5 Inv-loop μ-loop
+wrapping-add-u8-requires-5 c κs = search picks
 
-sub-if1 : tie.Need-sub-if1 Inv-loop μ-loop
-sub-if1 c = search picks
+wrapping-add-u8-requires-6 : tie.Need-wrapping-add-u8-requires-6 Inv-loop μ-loop
+wrapping-add-u8-requires-6 c κs = search picks
 
-add-wrapping-add-u8-2 : tie.Need-add-wrapping-add-u8-2 Inv-loop μ-loop
-add-wrapping-add-u8-2 c = search picks
+wrapping-add-u8-requires-7 : tie.Need-wrapping-add-u8-requires-7 Inv-loop μ-loop
+wrapping-add-u8-requires-7 c κs = search picks
 
-shared-slice-read-wrapping-add-u8-3 : tie.Need-shared-slice-read-wrapping-add-u8-3 Inv-loop μ-loop
-shared-slice-read-wrapping-add-u8-3 c = search picks
+mul-sum-from : tie.Need-mul-sum-from Inv-loop μ-loop
+mul-sum-from c = search picks
 
-wrapping-add-u8-requires-4 : tie.Need-wrapping-add-u8-requires-4 Inv-loop μ-loop
-wrapping-add-u8-requires-4 c κs = search picks
+sum-from-requires-2 : tie.Need-sum-from-requires-2 Inv-loop μ-loop
+sum-from-requires-2 c κs = search picks
 
--- the two sums together leave out what stands behind the second half
-halves : (c : tie.After-wrapping-add-u83 Inv-loop μ-loop) → let t = c .before .before .before .before .args .t .now in
-    (c .wrapping-add-u83 .result + total (drop (length t / 2 + length t / 2) t)) % 256 ≡ total t % 256
-halves c =
-    let l = c .before .before in
-    let t = l .before .before .args .t .now in
-    let i = l .loop .i in
-    let h = length t / 2 in
-    let e : i ≡ h = omega arith in
-    let w = sum-both (l .loop .a) (l .loop .b) (total (drop h t)) (total (drop (h + h) t)) (total t) (rw e at (l .loop .inv .3)) (rw e at (l .loop .inv .4)) in
-    omega (arith, w)
+wrapping-add-u8-requires-8 : tie.Need-wrapping-add-u8-requires-8 Inv-loop μ-loop
+wrapping-add-u8-requires-8 c κs = search picks
 
-returns : tie.Need-returns Inv-loop μ-loop
-returns c =
-    let s = c .before .before in
-    let t = s .before .before .before .before .before .args .t .now in
-    let j = length t / 2 + length t / 2 in
-    omega (arith, halves (s .before), sum-step t j (omega arith), sum-done t (j + 1) (omega arith))
+-- the quarters' sums together are the sum of what stands before the rest
+quarters : (c : tie.After-loop Inv-loop μ-loop) → let t = c .before .before .before .before .args .t .now in
+    Summed t 0 (4 * (length t / 4)) (c .before .loop .first + (c .before .loop .second + (c .before .loop .third + (c .before .loop .fourth + 0))))
+quarters c =
+    let o = c .before .loop in
+    let t = c .before .before .before .before .args .t .now in
+    let q = length t / 4 in
+    let i = o .i in
+    let xs : List (ℕ × ℕ) = (o .first, q) ∷ (o .second, 2 * q) ∷ (o .third, 3 * q) ∷ (o .fourth, 4 * q) ∷ [] in
+    let a = summed-to t 0 i q (o .first) (omega arith) (o .inv .1 .1) in
+    let b = summed-to t q (q + i) (2 * q) (o .second) (omega arith) (o .inv .2 .1) in
+    let d = summed-to t (2 * q) (2 * q + i) (3 * q) (o .third) (omega arith) (o .inv .3 .1) in
+    let e = summed-to t (3 * q) (3 * q + i) (4 * q) (o .fourth) (omega arith) (o .inv .4 .1) in
+    summed-all t 0 xs (4 * q) (a, (b, (d, (e, omega arith))))
+
+joined : (c : tie.After-wrapping-add-u87 Inv-loop μ-loop) → let t = c .before .before .before .before .before .before .before .args .t .now in
+    Summed t 0 (4 * (length t / 4)) (c .wrapping-add-u87 .result)
+joined c = omega (arith, quarters (c .before .before .before))
 
 returns-2 : tie.Need-returns-2 Inv-loop μ-loop
-returns-2 c =
-    let t = c .before .before .before .before .before .args .t .now in
-    omega (arith, halves (c .before), sum-done t (length t / 2 + length t / 2) (omega arith))
+returns-2 c = omega (arith, joined (c .before .before))
 
 pub sum8-spec : {M : Type 1} → statement M
 sum8-spec =
@@ -92,19 +134,29 @@ sum8-spec =
     (tie.spec
     Inv-loop
     μ-loop
+    sum-from-requires
+    returns
     loop-holds
     shared-slice-read-wrapping-add-u8
     wrapping-add-u8-requires
     add-wrapping-add-u8
     shared-slice-read-wrapping-add-u8-2
     wrapping-add-u8-requires-2
+    mul-wrapping-add-u8
+    add-wrapping-add-u8-2
+    shared-slice-read-wrapping-add-u8-3
+    wrapping-add-u8-requires-3
+    mul-wrapping-add-u8-2
+    add-wrapping-add-u8-3
+    shared-slice-read-wrapping-add-u8-4
+    wrapping-add-u8-requires-4
     add-i
     loop-less
     loop-again
-    wrapping-add-u8-requires-3
-    sub-if1
-    add-wrapping-add-u8-2
-    shared-slice-read-wrapping-add-u8-3
-    wrapping-add-u8-requires-4
-    returns
+    wrapping-add-u8-requires-5
+    wrapping-add-u8-requires-6
+    wrapping-add-u8-requires-7
+    mul-sum-from
+    sum-from-requires-2
+    wrapping-add-u8-requires-8
     returns-2)
