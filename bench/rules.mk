@@ -1,14 +1,22 @@
-# The benchmark: make bench, make plot. Included by the Makefile above, and run from its folder.
+# The benchmark, run from the repository's top, whose Makefile includes this:
+#
+#   make bench           time of a sum, a check, a read, a rewrite and a build, beside the second program's and a bare byte sum's
+#   make bench SCALAR=1  the same without vector loops, as on a processor that has none: the library's module and the benchmark compiled so
+#   make plot            time by the table's length, drawn to docs/performance.png (needs python3)
 
-# Times under an emulator say nothing: on another processor the benchmark links the library's module compiled for that one.
-ifeq ($(RUN),)
-NATIVE  := true
-BENCHED := $(CARGO) build --target $(X86)
-BENCH   := bench/target/$(X86)/release/bench
+# The library itself is timed where it can be: it is x86-64 code with vector loops. Elsewhere its module is, compiled for what is asked for;
+# times under an emulator would say nothing.
+MODULE  := target/native$(if $(SCALAR),-scalar)
+OUTPUT  := bench/target$(if $(SCALAR),/scalar)
+COMPILE := CARGO_TARGET_DIR=$(CURDIR)/$(OUTPUT) NBFT_SUM=$(CURDIR)/$(MODULE)
+ifeq ($(RUN)$(SCALAR),)
+BENCH   := $(OUTPUT)/$(X86)/release/bench
+BENCHED := $(COMPILE) $(CARGO) build --target $(X86)
 else
-NATIVE  := bench/native target/native
-BENCHED := NBFT_LIB=$(CURDIR)/target/native $(CARGO) build
-BENCH   := bench/target/release/bench
+BENCH   := $(OUTPUT)/release/bench
+NOT_IT  := not the library but its module compiled for $(shell uname -m)$(if $(SCALAR), without vector loops as is the benchmark)
+NOVECT  := $(if $(SCALAR),RUSTFLAGS="-C no-vectorize-loops -C no-vectorize-slp")
+BENCHED := $(COMPILE) NBFT_LIB=$(CURDIR)/$(MODULE) NBFT_TIMED="$(NOT_IT)" $(NOVECT) $(CARGO) build
 endif
 
 .PHONY: bench benched plot
@@ -20,6 +28,6 @@ plot: benched
 	$(BENCH) series > bench/target/series
 	bench/plot bench/target/series docs/performance.png
 
-benched: $(if $(RUN),library,linked)
-	@$(NATIVE)
+benched: $(if $(RUN)$(SCALAR),library,linked)
+	@SCALAR=$(SCALAR) bench/native $(MODULE)
 	@cd bench && $(BENCHED) --offline --quiet --release

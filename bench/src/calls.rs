@@ -15,13 +15,29 @@ pub struct Both {
     pub second: Timed,
 }
 
-fn byte_sum(bytes: &[u8]) -> u8 {
+extern "C" {
+    fn nbft_sum(table: *const u8, length: usize) -> u8;
+}
+
+/// The sum that the library's check takes.
+fn library_sum(bytes: &[u8]) -> u8 {
+    // SAFETY: pointer and length are a slice's; the function only reads.
+    unsafe { nbft_sum(bytes.as_ptr(), bytes.len()) }
+}
+
+fn bare_sum(bytes: &[u8]) -> u8 {
     bytes.iter().fold(0, |sum, byte| sum.wrapping_add(*byte))
 }
 
 impl<'a> Turns<'a> {
+    pub fn bare_sum(&mut self, table: &'a [u8]) -> Timed {
+        self.enter(|| bare_sum(black_box(table)))
+    }
+
+    /// The library's; the second program has the bare one.
     pub fn sum(&mut self, table: &'a [u8]) -> Timed {
-        self.enter(|| byte_sum(black_box(table)))
+        (0..table.len()).for_each(|start| assert_eq!(library_sum(&table[start..]), bare_sum(&table[start..])));
+        self.enter(|| library_sum(black_box(table)))
     }
 
     pub fn check(&mut self, table: &'a [u8]) -> Both {

@@ -14,7 +14,7 @@ use std::process::ExitCode;
 const HELP: &str = "\
 bench: times of the static library beside the second program
 
-  bench           checks, a field read, rewrites and a build, each in a table
+  bench           sums, checks, a field read, rewrites and a build, each in a table
   bench series    checks and rewrites by the table's length
 ";
 

@@ -1,5 +1,5 @@
-//! The benchmark's tables: a check, a field read, a rewrite and a build, each
-//! beside the second program's and one more that it is held to.
+//! The benchmark's tables: a sum, a check, a field read, a rewrite and a build,
+//! each beside two more that it is held to.
 
 use crate::stack;
 use crate::tables::{grown, long_heap};
@@ -13,7 +13,7 @@ use std::slice::from_ref;
 
 const ROUNDS: usize = 1_000;
 
-/// Library, second program, and what else the library is held to.
+/// The library's call, and two that it is held to: most often the second program's, and one more.
 struct Row {
     name: &'static str,
     bytes: usize,
@@ -22,13 +22,13 @@ struct Row {
 
 impl Row {
     fn print(&self, times: &Times) {
-        let [library, second, third] = self.timed.map(|timed| times[timed]);
+        let [library, one, other] = self.timed.map(|timed| times[timed]);
         println!(
-            "{:<22} {:>6} bytes {library:>9.0} {second:>9.0} {third:>9.0}   {:>6.2} {:>6.2}",
+            "{:<22} {:>6} bytes {library:>9.0} {one:>9.0} {other:>9.0}   {:>6.2} {:>6.2}",
             self.name,
             self.bytes,
-            library / second,
-            library / third
+            library / one,
+            library / other
         );
     }
 
@@ -40,7 +40,12 @@ impl Row {
 
 fn check_row<'a>(turns: &mut Turns<'a>, name: &'static str, table: &'a [u8]) -> Row {
     let check = turns.check(table);
-    Row { name, bytes: table.len(), timed: [check.library, check.second, turns.sum(table)] }
+    Row { name, bytes: table.len(), timed: [check.library, check.second, turns.bare_sum(table)] }
+}
+
+/// Beside the bare sum and the check of the same table, which has this sum in it.
+fn sum_row<'a>(turns: &mut Turns<'a>, table: &'a [u8], check: &Row) -> Row {
+    Row { timed: [turns.sum(table), check.timed[2], check.timed[0]], ..*check }
 }
 
 /// Beside the check of the same table.
@@ -60,9 +65,10 @@ fn build_row<'a>(turns: &mut Turns<'a>, calls: &'a [Call], table: &'a [u8], chec
     Row { timed: [build.library, build.second, check.timed[2]], ..*check }
 }
 
-fn print_table(call: &str, third: &str, rows: &[Row], times: &Times) {
-    let (call, short) = (format!("ns per {call}"), third.trim_start_matches("byte "));
-    println!("{call:<41} library    second {third:>9}   to second, to {short}");
+fn print_table(call: &str, held_to: [&str; 2], rows: &[Row], times: &Times) {
+    let [one, other] = held_to;
+    let [short, other_short] = held_to.map(|name| name.trim_start_matches("byte "));
+    println!("{:<41} library {one:>9} {other:>9}   to {short}, to {other_short}", format!("ns per {call}"));
     rows.iter().for_each(|row| row.print(times));
 }
 
@@ -79,6 +85,7 @@ fn stacks(table: &[u8], calls: &[Call]) -> [usize; 3] {
 
 /// What is timed, a table of rows for each call.
 struct Report {
+    sums: [Row; 3],
     checks: [Row; 5],
     field: Row,
     rewrites: [Row; 4],
@@ -99,6 +106,8 @@ pub fn print() {
     ]
     .map(|(name, table)| check_row(&mut turns, name, table));
     let report = Report {
+        sums: [(&smallest, 0), (&typical, 1), (&long, 2)]
+            .map(|(table, check)| sum_row(&mut turns, table, &checks[check])),
         field: field_row(&mut turns, &typical, &checks[1]),
         rewrites: [(&typical, 1), (&long, 2), (&half, 3), (&large, 4)]
             .map(|(table, check)| rewrite_row(&mut turns, table, &checks[check])),
@@ -110,19 +119,22 @@ pub fn print() {
 
 impl Report {
     fn print(&self, times: &Times, stacks: [usize; 3]) {
-        let Report { checks, field, rewrites, build } = self;
-        print_table("check", "byte sum", checks, times);
+        let Report { sums, checks, field, rewrites, build } = self;
+        println!("timed: {}\n", env!("TIMED"));
+        print_table("sum", ["byte sum", "check"], sums, times);
+        println!("to check: the part of a check that is the sum\n");
+        print_table("check", ["second", "byte sum"], checks, times);
         println!("twice the table takes {:.2} times the time", checks[4].to(&checks[3], times));
         println!("a check takes {} bytes of stack", stacks[0]);
         println!("targets: 60 kB with few records at most 1.2 to second and 1.5 to sum");
         println!("         typical at most 1.5 to second; twice at most 2.2\n");
-        print_table("field read", "check", from_ref(field), times);
+        print_table("field read", ["second", "check"], from_ref(field), times);
         println!();
-        print_table("rewrite", "check", rewrites, times);
+        print_table("rewrite", ["second", "check"], rewrites, times);
         println!("twice the table takes {:.2} times the time", rewrites[3].to(&rewrites[2], times));
         println!("a rewrite takes {} bytes of stack", stacks[1]);
         println!("targets: typical and 60 kB at most 3 to check; twice at most 2.2\n");
-        print_table("build", "byte sum", from_ref(build), times);
+        print_table("build", ["second", "byte sum"], from_ref(build), times);
         println!("a build takes {} bytes of stack", stacks[2]);
     }
 }

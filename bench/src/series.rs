@@ -22,7 +22,7 @@ fn tables() -> Vec<(&'static str, Vec<u8>)> {
 
 fn point<'a>(turns: &mut Turns<'a>, records: &'static str, table: &'a [u8]) -> Point {
     let check = turns.check(table);
-    let timed = [check.library, turns.rewrite(table).library, check.second, turns.sum(table)];
+    let timed = [check.library, turns.rewrite(table).library, check.second, turns.bare_sum(table)];
     Point { records, bytes: table.len(), timed }
 }
 
