@@ -3,7 +3,7 @@
 use crate::cases::each;
 use crate::guard::Guarded;
 use crate::tally::Tally;
-use crate::{hex, tables};
+use crate::{hex, sums, tables};
 use second::answer::number::TOO_FEW_BYTES;
 use second::random::Random;
 use second::{samples, Answer};
@@ -28,7 +28,7 @@ pub fn by_library_in_pages(pages: &mut Guarded, table: &[u8]) -> Result<Answer, 
     }
 }
 
-/// No bytes first, then the known samples, then generated tables.
+/// What is known first, then generated tables.
 pub fn compare(count: u64, seed: u64, mut check: impl Check) -> Result<String, String> {
     known(&mut check)?;
     let mut tally = Tally::default();
@@ -36,12 +36,14 @@ pub fn compare(count: u64, seed: u64, mut check: impl Check) -> Result<String, S
     Ok(format!("{count} tables agree (seed {seed}); by number {}", tally.by_number()))
 }
 
+/// No bytes, the known samples, and tables whose sum is off by one.
 pub fn known(mut check: impl Check) -> Result<(), String> {
     for answer in crate::check_nothing() {
         same(&[], Answer::plain(TOO_FEW_BYTES), answer)?;
     }
     let samples = samples::known();
-    samples.iter().try_for_each(|sample| same(&sample.table, sample.answer, check(&sample.table)?))
+    samples.iter().try_for_each(|sample| same(&sample.table, sample.answer, check(&sample.table)?))?;
+    sums::each(|table| same(table, second::check(table), check(table)?))
 }
 
 pub fn generated(count: u64, seed: u64, tally: &mut Tally, mut check: impl Check) -> Result<(), String> {

@@ -11,6 +11,7 @@ pub mod reads;
 pub mod rewrites;
 pub mod runs;
 pub mod soak;
+pub mod sums;
 pub mod tables;
 pub mod tally;
 
