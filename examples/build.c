@@ -40,16 +40,19 @@ static void put_ipv4(uint8_t at[16], uint8_t a, uint8_t b, uint8_t c, uint8_t d)
 
 static uint32_t tell_hfi(void)
 {
+    static const uint8_t no_extended[20];
     const uint8_t record[32] = {0}; /* whatever it holds the builder sets itself */
     uint8_t info[128] = {0};
 
+    info[3] = 1; /* its version */
     info[8] = 3; /* PCI Express routing ID 0300h */
     memcpy(info + 11, "\x02\x00\x00\x00\x00\x01", 6);
     info[19] = 1; /* the address was set by hand */
     put_ipv4(info + 20, 10, 0, 0, 2);
     info[36] = 24;
     put_ipv4(info + 37, 10, 0, 0, 1);
-    return nbft_hfi(state, table, sizeof table, record, info, OBJECT("machine"));
+    return nbft_hfi(state, table, sizeof table, record, info, OBJECT("machine"), 0, no_extended, NULL, 0,
+                    NULL, 0);
 }
 
 static uint32_t tell_subsystem(void)

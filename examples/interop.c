@@ -115,6 +115,7 @@ static void fill_host_and_interface(void)
     host.flags = 0xe2; /* reserved bits set, valid bit clear, host ID configured */
     memset(&hfi, 0xff, sizeof hfi);
     memset(&hfi_info_tcp, 0xff, sizeof hfi_info_tcp);
+    hfi_info_tcp.trinfo_version = 1;
     hfi_info_tcp.flags = 0; /* so the DHCP server's address does not count */
     hfi_info_tcp.pci_sbdf = 0x1c00;
     hfi_info_tcp.subnet_mask_prefix = 24;
@@ -144,13 +145,14 @@ static void fill_subsystem(void)
 /* The first answer that is not done, or that of the last call. */
 static uint32_t build(void)
 {
-    static const uint8_t counts[4] = {1, 1, 1, 1};
+    static const uint8_t counts[4] = {1, 1, 1, 1}, no_hfi_extended[20];
     uint32_t answer = nbft_begin(state, table, sizeof table, BYTES(header) + offsetof(struct nbft_header, oem_id), counts, OBJECT("driver"));
 
     if (answer == NBFT_DONE)
         answer = nbft_host(state, table, sizeof table, BYTES(host), OBJECT("nqn.2014-08.org.example:host"));
     if (answer == NBFT_DONE)
-        answer = nbft_hfi(state, table, sizeof table, BYTES(hfi), BYTES(hfi_info_tcp), OBJECT("machine"));
+        answer = nbft_hfi(state, table, sizeof table, BYTES(hfi), BYTES(hfi_info_tcp), OBJECT("machine"), 0,
+                          no_hfi_extended, NULL, 0, NULL, 0);
     if (answer == NBFT_DONE)
         answer = nbft_ssns(state, table, sizeof table, BYTES(ssns), OBJECT("10.0.0.9"), OBJECT("4420"), NULL, 0,
                            OBJECT("nqn.2014-08.org.example:array"), BYTES(ssns_ext_info), OBJECT("path"));

@@ -5,9 +5,10 @@ use crate::discovery::Discovery;
 use crate::form::{lay_out, lay_out_front, record_start, records_end, seal, Heap, HOST_START};
 use crate::frame::GREATEST_LENGTH;
 use crate::host::Host;
+use crate::identity::Identity;
 use crate::interface::{Info, Interface};
 use crate::meaning::{check, Origin};
-use crate::record::{Bytes, Number, Objects, Record};
+use crate::record::{Bytes, HeapRecord, Number, Objects, Record};
 use crate::security::Security;
 use crate::state::{State, READY};
 use crate::subsystem::{Extended, Subsystem};
@@ -16,6 +17,18 @@ use std::borrow::Cow;
 
 const LONGEST_OBJECT: usize = 65_535;
 const OUT_OF_TURN: Answer = Answer::plain(number::OUT_OF_TURN);
+
+/// An HFI record as it is told. The extended info counts only where it is
+/// told and the info's version has it.
+#[derive(Clone, Copy, Debug)]
+pub struct ToldInterface<'a> {
+    pub record: [u8; 32],
+    pub info: [u8; 128],
+    pub host_name: &'a [u8],
+    pub extended: Option<[u8; 20]>,
+    pub iaid: &'a [u8],
+    pub duid: &'a [u8],
+}
 
 /// An SSNS record as it is told. The extended info counts only when the
 /// record's flags say that it is in use.
@@ -30,19 +43,19 @@ pub struct ToldSubsystem<'a> {
     pub root_path: &'a [u8],
 }
 
-/// Objects that a caller tells, each with its reference field's offset.
+/// Objects that a caller tells, each with its reference field's offset, and
+/// the heap record: no record refers to more than one.
+#[derive(Clone, Copy)]
 struct Told<'a> {
     objects: &'a [(usize, &'a [u8])],
-    heap_record: &'a [u8],
-    inner: &'a [(usize, &'a [u8])],
+    heap_record: Option<(&'a [u8], &'a Told<'a>)>,
 }
 
 impl<'a> Told<'a> {
     fn plain(objects: &'a [(usize, &'a [u8])]) -> Told<'a> {
         Told {
             objects,
-            heap_record: &[],
-            inner: &[],
+            heap_record: None,
         }
     }
 }
@@ -53,9 +66,27 @@ impl<'a> Objects<'a> for Told<'a> {
         told.map_or(Ok(None), |(_, object)| told_object(object))
     }
 
-    fn heap_record(&self, _field: usize) -> Result<(Bytes<'a>, Box<dyn Objects<'a> + 'a>), Number> {
-        let inner = Told::plain(self.inner);
-        Ok((Cow::Borrowed(self.heap_record), Box::new(inner)))
+    fn optional_heap_record(&self, _field: usize) -> Result<Option<HeapRecord<'a>>, Number> {
+        let nested = |(bytes, told): (&'a [u8], &'a Told<'a>)| -> HeapRecord<'a> {
+            (Cow::Borrowed(bytes), Box::new(*told))
+        };
+        Ok(self.heap_record.map(nested))
+    }
+}
+
+/// The same records as if every object were fine.
+struct FineObjects<'a>(&'a Told<'a>);
+
+impl<'a> Objects<'a> for FineObjects<'a> {
+    fn optional(&self, _field: usize) -> Result<Option<Bytes<'a>>, Number> {
+        Ok(Some(Cow::Borrowed(b"fine")))
+    }
+
+    fn optional_heap_record(&self, _field: usize) -> Result<Option<HeapRecord<'a>>, Number> {
+        let nested = |(bytes, told): (&'a [u8], &'a Told<'a>)| -> HeapRecord<'a> {
+            (Cow::Borrowed(bytes), Box::new(FineObjects(told)))
+        };
+        Ok(self.0.heap_record.map(nested))
     }
 }
 
@@ -95,26 +126,37 @@ fn handed_back(given: State, outcome: Result<State, Answer>) -> (Answer, State) 
     }
 }
 
+/// The record that is told. What is wrong with it or its heap records comes
+/// before what is wrong with any object, whatever the order of the fields.
+fn read_told<'a, R: Record<'a>>(
+    bytes: &[u8],
+    position: u16,
+    objects: &'a Told<'a>,
+) -> Result<R, Number> {
+    R::read(bytes, position, &FineObjects(objects))?;
+    R::read(bytes, position, objects)
+}
+
 /// Writes the record whose turn it is.
 fn place<'a, R: Record<'a>>(
     buffer: &mut [u8],
     state: State,
     told: &[u8],
-    objects: &Told<'a>,
+    objects: &'a Told<'a>,
 ) -> Result<State, Answer> {
     if !state.is_begun() || state.turn != u16::from(R::ID) {
         return Err(OUT_OF_TURN);
     }
     let position = state.position;
     let bytes = stamped::<R>(told, position);
-    let record =
-        R::read(&bytes, position, objects).map_err(|number| Answer::at(number, R::ID, position))?;
-    let mut heap = Heap::starting_at(state.used);
+    let record: R = read_told(&bytes, position, objects)
+        .map_err(|number| Answer::at(number, R::ID, position))?;
+    let mut heap = Heap::starting_at(state.end());
     let bytes = lay_out(&record, position, &mut heap);
     judge_end(buffer, heap.end())?;
     put(buffer, record_start::<R>(state.counts, position), &bytes);
     put(buffer, heap.start, &heap.bytes);
-    Ok(state.next(heap.end()))
+    Ok(state.after(heap.end(), record.minor()))
 }
 
 fn try_begin(
@@ -162,23 +204,27 @@ pub fn host(buffer: &mut [u8], state: State, record: &[u8; 32], name: &[u8]) -> 
     handed_back(state, outcome)
 }
 
-pub fn hfi(
-    buffer: &mut [u8],
-    state: State,
-    record: &[u8; 32],
-    info: &[u8; 128],
-    host_name: &[u8],
-) -> (Answer, State) {
+pub fn hfi(buffer: &mut [u8], state: State, told: &ToldInterface) -> (Answer, State) {
+    let info = stamped::<Info>(&told.info, state.position);
+    let extended = told.extended;
+    let extended = extended.map(|bytes| stamped::<Identity>(&bytes, state.position));
+    let client = [(8, told.iaid), (14, told.duid)];
+    let client = Told::plain(&client);
+    let inner = Told {
+        objects: &[(104, told.host_name)],
+        heap_record: extended.as_deref().map(|bytes| (bytes, &client)),
+    };
     let objects = Told {
         objects: &[],
-        heap_record: &stamped::<Info>(info, state.position),
-        inner: &[(104, host_name)],
+        heap_record: Some((&info, &inner)),
     };
-    let outcome = place::<Interface>(buffer, state, record, &objects);
+    let outcome = place::<Interface>(buffer, state, &told.record, &objects);
     handed_back(state, outcome)
 }
 
 pub fn ssns(buffer: &mut [u8], state: State, told: &ToldSubsystem) -> (Answer, State) {
+    let extended = stamped::<Extended>(&told.extended, state.position);
+    let root_path = [(12, told.root_path)];
     let objects = Told {
         objects: &[
             (10, told.address),
@@ -186,8 +232,7 @@ pub fn ssns(buffer: &mut [u8], state: State, told: &ToldSubsystem) -> (Answer, S
             (48, told.secondary_interfaces),
             (54, told.name),
         ],
-        heap_record: &stamped::<Extended>(&told.extended, state.position),
-        inner: &[(12, told.root_path)],
+        heap_record: Some((&extended, &Told::plain(&root_path))),
     };
     let outcome = place::<Subsystem>(buffer, state, &told.record, &objects);
     handed_back(state, outcome)
@@ -230,23 +275,23 @@ pub fn leave(buffer: &mut [u8], state: State) -> (Answer, State) {
     if !state.is_begun() || !state.is_in_list() {
         return (OUT_OF_TURN, state);
     }
-    let used = state.used;
-    let outcome = judge_end(buffer, used).map(|()| state.next(used));
+    let outcome = judge_end(buffer, state.end()).map(|()| state.next());
     handed_back(state, outcome)
 }
 
-/// Stores heap length, Length and checksum, if the reader takes the table
-/// that this makes.
+/// Stores heap length, Length, minor revision and checksum, if the reader
+/// takes the table that this makes.
 pub fn finish(buffer: &mut [u8], state: State) -> (Answer, State) {
     if !state.is_begun() || state.turn != READY {
         return (OUT_OF_TURN, state);
     }
-    let used = state.used;
+    let used = state.end();
     if let Err(answer) = judge_end(buffer, used) {
         return (answer, state);
     }
     let mut table = buffer[..used].to_vec();
-    seal(&mut table, used - records_end(state.counts));
+    let heap_length = used - records_end(state.counts);
+    seal(&mut table, heap_length, state.minor as u8);
     let answer = check(&table);
     if !answer.is_done() {
         return (answer, state);

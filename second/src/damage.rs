@@ -15,8 +15,10 @@ pub struct Damage {
     pub name: String,
     pub edits: Vec<(usize, Vec<u8>)>,
     pub answer: Answer,
-    /// When the fault is met within its record.
-    pub stage: usize,
+    /// When the fault is met within its record: the reference fields that
+    /// lead there, each behind the one it is nested in. Nothing for the
+    /// record's own fields, and a field 0 for a heap record's.
+    pub stage: Vec<usize>,
 }
 
 impl Damage {
@@ -29,6 +31,12 @@ impl Damage {
             table,
             answer: self.answer,
         }
+    }
+
+    /// The same under a name that tells the table that it is done to.
+    pub fn named(self, table: &str) -> Damage {
+        let name = format!("{table}-{}", self.name);
+        Damage { name, ..self }
     }
 
     fn edit(&self, table: &mut [u8]) {
@@ -54,12 +62,15 @@ impl Damage {
     /// Numbers up to 9 are judged in their order; then records by kind and
     /// position, and each of them in stages.
     fn comes_before(&self, other: &Damage) -> bool {
-        let place = |damage: &Damage| (damage.answer.kind, damage.answer.position, damage.stage);
         if self.answer.number <= number::RECORD_VERSION {
             self.answer.number < other.answer.number
         } else {
-            other.answer.number > number::RECORD_VERSION && place(self) < place(other)
+            other.answer.number > number::RECORD_VERSION && self.place() < other.place()
         }
+    }
+
+    fn place(&self) -> (u8, u16, &[usize]) {
+        (self.answer.kind, self.answer.position, &self.stage)
     }
 }
 
@@ -88,7 +99,7 @@ pub fn outer_damage(good: &[u8]) -> Vec<Sample> {
     let (sum, last) = (good[9], good.len() - 1);
     let mut too_long = good.to_vec();
     too_long.resize(GREATEST_LENGTH + 1, 0);
-    seal(&mut too_long, 0);
+    seal(&mut too_long, 0, 0);
     vec![
         refused("nothing-lent", number::TOO_FEW_BYTES, lent(0)),
         refused("one-byte-lent", number::TOO_FEW_BYTES, lent(1)),

@@ -5,11 +5,17 @@ use crate::damage::Damage;
 use crate::discovery::Discovery;
 use crate::frame::{Frame, Region, CONTROL_START, DRIVER_SIGNATURE_AT};
 use crate::host::Host;
+use crate::identity::{Identity, DHCP_ORIGIN};
 use crate::interface::{Info, Interface};
 use crate::record::Record;
 use crate::security::Security;
 use crate::subsystem::{Extended, Subsystem};
 use crate::wire::{bit, two_bits, u16_at, u32_at};
+
+/// Flags of an info, and of an identity.
+const BY_DHCP: u8 = 1 << Info::DHCP_BIT;
+const AUTOCONFIGURED: u8 = 1 << Info::AUTOCONFIGURED_BIT;
+const CLIENT: u8 = 1 << Identity::CLIENT_BIT;
 
 /// All damages of a good table whose objects share no bytes.
 pub fn damages(good: &[u8]) -> Vec<Damage> {
@@ -40,7 +46,7 @@ struct Subject {
     /// Where its bytes start in the table.
     start: usize,
     /// How far the judgement of the record has come.
-    stage: usize,
+    stage: Vec<usize>,
 }
 
 impl Subject {
@@ -50,20 +56,29 @@ impl Subject {
             kind,
             position: 0,
             start: 0,
-            stage: 0,
+            stage: Vec::new(),
         }
     }
 
-    fn at_stage(&self, stage: usize) -> Subject {
+    /// The subject when the reference field at this offset is judged.
+    fn at_field(&self, field: usize) -> Subject {
+        let mut stage = self.stage.clone();
+        stage.push(field);
         Subject {
             stage,
             ..self.clone()
         }
     }
 
+    /// A heap record's own rule is judged before its references, none of
+    /// which stands at 0.
+    fn own_rule(&self) -> Subject {
+        self.at_field(0)
+    }
+
     /// Indexes are judged after everything else in a record.
     fn indexes(&self) -> Subject {
-        self.at_stage(usize::MAX)
+        self.at_field(usize::MAX)
     }
 }
 
@@ -75,11 +90,17 @@ struct Finder<'a> {
 impl<'a> Finder<'a> {
     /// Bytes that must not stand at this offset of the subject.
     fn fault(&mut self, subject: &Subject, name: &str, number: u8, offset: usize, bytes: &[u8]) {
+        self.joint_fault(subject, name, number, &[(offset, bytes)]);
+    }
+
+    /// Bytes that must not stand at these offsets all at once.
+    fn joint_fault(&mut self, subject: &Subject, name: &str, number: u8, parts: &[(usize, &[u8])]) {
+        let edit = |(offset, bytes): &(usize, &[u8])| (subject.start + offset, bytes.to_vec());
         self.found.push(Damage {
             name: format!("{}-{name}", subject.name),
-            edits: vec![(subject.start + offset, bytes.to_vec())],
+            edits: parts.iter().map(edit).collect(),
             answer: Answer::at(number, subject.kind, subject.position),
-            stage: subject.stage,
+            stage: subject.stage.clone(),
         });
     }
 
@@ -266,11 +287,11 @@ impl<'a> Finder<'a> {
 
     /// A reference field of a record, in its turn.
     fn record_reference(&mut self, subject: &Subject, name: &str, field: usize, required: bool) {
-        self.reference(&subject.at_stage(3 * field), name, field, required);
+        self.reference(&subject.at_field(field), name, field, required);
     }
 
-    /// The heap record behind a required reference field. Its own rule is
-    /// judged right after the field, and its own reference after that.
+    /// The heap record behind a reference field that is judged. Its own
+    /// rule comes right after the field, and its own references after that.
     fn heap_record<R: Record<'a>>(
         &mut self,
         owner: &Subject,
@@ -278,21 +299,21 @@ impl<'a> Finder<'a> {
         field: usize,
         identity: &[(&str, usize)],
     ) -> Subject {
-        self.record_reference(owner, name, field, true);
-        let rule = owner.at_stage(3 * field + 1);
+        let nested = owner.at_field(field);
         for length in [1, R::SIZE as u16 - 1] {
             let name = format!("{name}-length-{length}");
             let bytes = length.to_le_bytes();
+            let rule = nested.own_rule();
             self.fault(&rule, &name, number::HEAP_RECORD, field + 4, &bytes);
         }
         let record = Subject {
             name: format!("{}-{name}", owner.name),
             start: u32_at(self.frame.table, owner.start + field) as usize,
-            ..rule
+            ..nested
         };
-        self.identity(&record, number::HEAP_RECORD, identity);
-        self.not_valid::<R>(&record, number::HEAP_RECORD);
-        record.at_stage(3 * field + 2)
+        self.identity(&record.own_rule(), number::HEAP_RECORD, identity);
+        self.not_valid::<R>(&record.own_rule(), number::HEAP_RECORD);
+        record
     }
 
     fn not_valid<R: Record<'a>>(&mut self, subject: &Subject, number: u8) {
@@ -336,7 +357,7 @@ impl<'a> Finder<'a> {
             kind: R::ID,
             position,
             start: list.offset as usize + before,
-            stage: 0,
+            stage: Vec::new(),
         }
     }
 
@@ -358,12 +379,108 @@ impl<'a> Finder<'a> {
             ("id", 0),
             ("version", 1),
             ("type", 2),
-            ("transport-version", 3),
             ("index", 4),
             ("index-high", 5),
         ];
+        self.record_reference(&interface, "info", 16, true);
         let info = self.heap_record::<Info>(&interface, "info", 16, &identity);
-        self.reference(&info, "host-name", 104, false);
+        for version in [0, 3, 255] {
+            let (rule, at) = (info.own_rule(), Info::VERSION_AT);
+            self.byte(&rule, "transport-version", number::HEAP_RECORD, at, version);
+        }
+        self.record_reference(&info, "host-name", 104, false);
+        match self.frame.table[info.start + Info::VERSION_AT] {
+            1 => self.raised_version(&info),
+            _ => self.addition(&info),
+        }
+    }
+
+    /// What version 1 reserves, and is wrong once the info has version 2.
+    fn raised_version(&mut self, info: &Subject) {
+        let flags = self.frame.table[info.start + Info::VALID_AT];
+        let (version, at) = ((Info::VERSION_AT, &[2][..]), Info::VALID_AT);
+        self.joint_fault(
+            &info.own_rule(),
+            "raised-autoconfigured-by-dhcp",
+            number::HEAP_RECORD,
+            &[version, (at, &[flags | AUTOCONFIGURED | BY_DHCP])],
+        );
+        let flags = (at, &[flags & !AUTOCONFIGURED][..]);
+        self.joint_fault(
+            &info.at_field(110),
+            "raised-identity-offset-zero",
+            number::REFERENCE,
+            &[version, flags, (110, &[0, 0, 0, 0, 20, 0])],
+        );
+    }
+
+    /// What version 2 of an info adds.
+    fn addition(&mut self, info: &Subject) {
+        self.autoconfigured(&info.own_rule());
+        self.record_reference(info, "identity", 110, false);
+        if u32_at(self.frame.table, info.start + 110) != 0 {
+            let parts = [("id", 0), ("version", 1), ("index", 2), ("index-high", 3)];
+            let record = self.heap_record::<Identity>(info, "identity", 110, &parts);
+            self.client(info, &record);
+        }
+    }
+
+    /// An autoconfigured address that is said to have an origin, too.
+    fn autoconfigured(&mut self, info: &Subject) {
+        let flags = self.frame.table[info.start + Info::VALID_AT];
+        let origin = self.frame.table[info.start + Info::ORIGIN_AT];
+        let mut wrong = vec![(
+            "autoconfigured-by-dhcp",
+            Info::VALID_AT,
+            flags | AUTOCONFIGURED | BY_DHCP,
+        )];
+        if flags & AUTOCONFIGURED != 0 {
+            wrong.extend([1, DHCP_ORIGIN, 255].map(|o| ("origin", Info::ORIGIN_AT, o)));
+        } else if origin != 0 {
+            let flags = flags & !BY_DHCP | AUTOCONFIGURED;
+            wrong.push(("autoconfigured-with-origin", Info::VALID_AT, flags));
+        }
+        for (name, offset, value) in wrong {
+            self.byte(info, name, number::HEAP_RECORD, offset, value);
+        }
+    }
+
+    /// The client identifier of an info's identity, or one where there is
+    /// none.
+    fn client(&mut self, info: &Subject, identity: &Subject) {
+        let flags = self.frame.table[identity.start + Identity::VALID_AT];
+        let origin = self.frame.table[info.start + Info::ORIGIN_AT];
+        if flags & CLIENT != 0 {
+            let rule = Subject {
+                start: info.start,
+                ..identity.own_rule()
+            };
+            for other in [0, 1, DHCP_ORIGIN - 1, DHCP_ORIGIN + 1, 255] {
+                let at = Info::ORIGIN_AT;
+                self.byte(&rule, "info-origin", number::HEAP_RECORD, at, other);
+            }
+            self.record_reference(identity, "iaid", 8, true);
+            self.record_reference(identity, "duid", 14, true);
+        } else if origin == DHCP_ORIGIN {
+            self.client_without_objects(identity, flags | CLIENT);
+        } else {
+            let (rule, at) = (identity.own_rule(), Identity::VALID_AT);
+            self.byte(&rule, "client", number::HEAP_RECORD, at, flags | CLIENT);
+        }
+    }
+
+    /// The client's first object is absent, or the second one alone.
+    fn client_without_objects(&mut self, identity: &Subject, flags: u8) {
+        let mut there = (self.frame.heap.start as u32).to_le_bytes().to_vec();
+        there.extend([1, 0]);
+        for (name, field, first) in [("iaid", 8, &[0; 6][..]), ("duid", 14, &there)] {
+            self.joint_fault(
+                &identity.at_field(field),
+                &format!("client-without-{name}"),
+                number::REFERENCE,
+                &[(Identity::VALID_AT, &[flags]), (8, first), (14, &[0; 6])],
+            );
+        }
     }
 
     fn subsystem(&mut self, subsystem: Subject) {
@@ -377,8 +494,9 @@ impl<'a> Finder<'a> {
         let flags = u16_at(self.frame.table, subsystem.start + 3).into();
         if bit(flags, 4) {
             let identity = [("id", 0), ("version", 1), ("index", 2), ("index-high", 3)];
+            self.record_reference(&subsystem, "extended", 60, true);
             let extended = self.heap_record::<Extended>(&subsystem, "extended", 60, &identity);
-            self.reference(&extended, "root-path", 12, false);
+            self.record_reference(&extended, "root-path", 12, false);
         }
         self.index::<Discovery>(&subsystem, "discovery-index", 8, true);
         if bit(flags, 2) {

@@ -2,7 +2,9 @@
 
 use crate::answer::{number, Answer};
 use crate::discovery::Discovery;
-use crate::frame::{CONTROL_SIZE, CONTROL_START, DRIVER_SIGNATURE_AT, GREATEST_LENGTH, SIGNATURE};
+use crate::frame::{
+    CONTROL_SIZE, CONTROL_START, DRIVER_SIGNATURE_AT, GREATEST_LENGTH, MINOR_AT, SIGNATURE,
+};
 use crate::host::Host;
 use crate::interface::Interface;
 use crate::meaning::{Entry, Meaning, Origin};
@@ -72,7 +74,7 @@ impl Heap {
         (offset, bytes.len() as u16)
     }
 
-    /// Puts a heap record first and its own object right behind it.
+    /// Puts a heap record first and what it refers to right behind it.
     fn append_record<'a, R: Record<'a>>(&mut self, record: &R, position: u16) -> (u32, u16) {
         let place = self.bytes.len();
         let reference = self.append(&vec![0; R::SIZE]);
@@ -91,6 +93,7 @@ pub fn lay_out<'a, R: Record<'a>>(record: &R, position: u16, heap: &mut Heap) ->
             Target::Absent => (0, 0),
             Target::Object(object) => heap.append(object),
             Target::Info(info) => heap.append_record(info, position),
+            Target::Identity(identity) => heap.append_record(identity, position),
             Target::Extended(extended) => heap.append_record(extended, position),
         };
         put_reference(&mut bytes, field, offset, length);
@@ -98,7 +101,7 @@ pub fn lay_out<'a, R: Record<'a>>(record: &R, position: u16, heap: &mut Heap) ->
     bytes
 }
 
-/// Header and control record, with Length, heap length and checksum still 0.
+/// Header and control record, with what is stored last still 0.
 pub fn lay_out_front(origin: &Origin, counts: [u8; 4], signature: (u32, u16)) -> Vec<u8> {
     let mut bytes = vec![0; HOST_START];
     put(&mut bytes, 0, &SIGNATURE);
@@ -127,10 +130,12 @@ fn put_list<'a, R: Record<'a>>(bytes: &mut [u8], at: usize, counts: [u8; 4], cou
     bytes[at + 7] = count;
 }
 
-/// Stores Length and heap length, and puts the checksum right.
-pub fn seal(table: &mut [u8], heap_length: usize) {
+/// Stores Length, heap length and minor revision, and puts the checksum
+/// right.
+pub fn seal(table: &mut [u8], heap_length: usize, minor: u8) {
     put_u32(table, 4, table.len() as u32);
     put_u32(table, 40, heap_length as u32);
+    table[MINOR_AT] = minor;
     put_checksum(table);
 }
 
@@ -159,7 +164,7 @@ pub fn form(meaning: &Meaning) -> Vec<u8> {
     lay_out_list(&meaning.securities, &mut table, &mut heap);
     lay_out_list(&meaning.discoveries, &mut table, &mut heap);
     table.extend_from_slice(&heap.bytes);
-    seal(&mut table, heap.bytes.len());
+    seal(&mut table, heap.bytes.len(), meaning.minor());
     table
 }
 

@@ -17,6 +17,8 @@ pub const CONTROL_START: usize = 64;
 pub const CONTROL_SIZE: usize = 64;
 /// The driver signature's reference field in the header.
 pub const DRIVER_SIGNATURE_AT: usize = 44;
+/// The minor revision in the header.
+pub const MINOR_AT: usize = 50;
 
 /// Bytes of a table. Sums are made in 64 bits, where they cannot wrap.
 #[derive(Clone, Copy, Debug, PartialEq, Eq)]

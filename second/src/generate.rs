@@ -2,7 +2,8 @@
 
 use crate::discovery::Discovery;
 use crate::host::Host;
-use crate::interface::{Info, Interface};
+use crate::identity::{Client, Identity, DHCP_ORIGIN};
+use crate::interface::{Addition, Info, Interface};
 use crate::meaning::{Entry, Meaning, Origin};
 use crate::random::Random;
 use crate::record::Bytes;
@@ -100,21 +101,59 @@ fn random_host(random: &mut Random) -> Host<'static> {
     }
 }
 
+fn random_identity(random: &mut Random) -> Identity<'static> {
+    let client = (!random.one_in(3)).then(|| Client {
+        iaid: object(random),
+        duid: object(random),
+    });
+    Identity { client }
+}
+
+/// An address that comes from a mechanism without state has no client.
+fn random_addition(random: &mut Random) -> Addition<'static> {
+    let autoconfigured = random.one_in(3);
+    let identity = (!random.one_in(3)).then(|| match autoconfigured {
+        true => Identity { client: None },
+        false => random_identity(random),
+    });
+    Addition {
+        autoconfigured,
+        identity,
+    }
+}
+
+/// The IP origins that go with an addition: one where it says how the
+/// address was found, else any.
+fn random_origin(random: &mut Random, addition: &Option<Addition>) -> u8 {
+    let identity = addition.as_ref().and_then(|a| a.identity.as_ref());
+    if addition.as_ref().is_some_and(|a| a.autoconfigured) {
+        0
+    } else if identity.is_some_and(|identity| identity.client.is_some()) {
+        DHCP_ORIGIN
+    } else {
+        let any = random.byte();
+        *random.pick(&[0, 1, DHCP_ORIGIN, 4, any])
+    }
+}
+
 fn random_interface(random: &mut Random) -> Interface<'static> {
+    let addition = random.flag().then(|| random_addition(random));
+    let autoconfigured = addition.as_ref().is_some_and(|a| a.autoconfigured);
     let info = Info {
         default_route: random.flag(),
         pci_routing: random.word() as u32,
         mac_address: random.array(),
         vlan: random.word() as u16,
-        ip_origin: random.byte(),
+        ip_origin: random_origin(random, &addition),
         ip_address: random.array(),
         prefix_length: random.byte(),
         gateway: random.array(),
         route_metric: random.word() as u16,
         primary_dns: random.array(),
         secondary_dns: random.array(),
-        dhcp_server: random.flag().then(|| random.array()),
+        dhcp_server: (!autoconfigured && random.flag()).then(|| random.array()),
         host_name: maybe(random),
+        addition,
     };
     Interface { info }
 }

@@ -4,11 +4,15 @@
 use crate::answer::Answer;
 use crate::discovery::Discovery;
 use crate::form::{form, put_checksum, record_start, HOST_START};
+use crate::frame::MINOR_AT;
 use crate::host::Host;
-use crate::interface::{Info, Interface};
-use crate::meaning::Meaning;
+use crate::identity::Identity;
+use crate::interface::{Addition, Info, Interface};
+use crate::meaning::{Entry, Meaning};
 use crate::record::Record;
-use crate::samples::{crowded, far_interface, host_only, longest, machine, small, Sample};
+use crate::samples::{
+    crowded, dhcp, examples, far_interface, host_only, longest, machine, small, Sample,
+};
 use crate::security::Security;
 use crate::subsystem::{Extended, Subsystem};
 use crate::wire::{array_at, put, put_reference, put_u16, set_bit, u16_at, u32_at};
@@ -34,16 +38,19 @@ fn record_change<R: Record<'static>>(name: &str, change: impl Fn(&mut [u8])) -> 
     })
 }
 
-/// A change to the heap record that an owner at position 1 refers to.
+/// A change to a heap record in the small table of this kind: the one that
+/// these reference fields lead to, from an owner at position 1 on.
 fn heap_record_change<O: Record<'static>, R: Record<'static>>(
     name: &str,
-    field: usize,
+    kind: u8,
+    fields: &[usize],
     change: impl Fn(&mut [u8]),
 ) -> Sample {
-    let meaning = small(O::ID, 1);
-    let reference = record_start::<O>(meaning.counts(), 1) + field;
+    let meaning = small(kind, 1);
+    let owner = record_start::<O>(meaning.counts(), 1);
     good(name, &meaning, |table| {
-        let start = u32_at(table, reference) as usize;
+        let follow = |start: usize, field: &usize| u32_at(table, start + field) as usize;
+        let start = fields.iter().fold(owner, follow);
         change(&mut table[start..start + R::SIZE]);
     })
 }
@@ -51,6 +58,9 @@ fn heap_record_change<O: Record<'static>, R: Record<'static>>(
 pub fn goods() -> Vec<Sample> {
     let mut all = front_goods();
     all.extend(interface_goods());
+    all.extend(addition_goods());
+    all.extend(identity_goods());
+    all.extend(examples());
     all.extend(subsystem_goods());
     all.extend(extended_goods());
     all.extend(security_goods());
@@ -58,6 +68,7 @@ pub fn goods() -> Vec<Sample> {
     all.extend(sharing_goods());
     all.extend(long_goods());
     all.push(good("machine-form", &machine(), |_| ()));
+    all.push(good("dhcp-form", &dhcp(), |_| ()));
     all
 }
 
@@ -108,9 +119,13 @@ fn sealed_within_length(mut sample: Sample) -> Sample {
     sample
 }
 
+/// A change to the info in the small table of this kind.
+fn info_change(name: &str, kind: u8, change: impl Fn(&mut [u8])) -> Sample {
+    heap_record_change::<Interface, Info>(name, kind, &[16], change)
+}
+
 fn interface_goods() -> Vec<Sample> {
-    let info =
-        |name: &str, change: fn(&mut [u8])| heap_record_change::<Interface, Info>(name, 16, change);
+    let info = |name: &str, change: fn(&mut [u8])| info_change(name, Interface::ID, change);
     vec![
         good("interface-only", &small(Interface::ID, 1), |_| ()),
         good("interface-behind-unused", &small(Interface::ID, 2), |_| ()),
@@ -133,6 +148,75 @@ fn interface_goods() -> Vec<Sample> {
             put_reference(info, 104, host_name - 100, 104);
         }),
     ]
+}
+
+/// What version 2 of an info adds, and the same where version 1 reserves it.
+fn addition_goods() -> Vec<Sample> {
+    let info = |name: &str, change: fn(&mut [u8])| info_change(name, Identity::ID, change);
+    let header = |name: &str, minor: u8| {
+        good(name, &small(Identity::ID, 1), |table| {
+            table[MINOR_AT] = minor
+        })
+    };
+    vec![
+        good("autoconfigured-only", &small(Info::ID, 1), |_| ()),
+        info_change("autoconfigured-in-version-1", Info::ID, |info| {
+            info[Info::VERSION_AT] = 1;
+            info[Info::ORIGIN_AT] = 1;
+            set_bit(info, Info::VALID_AT, Info::DHCP_BIT, true);
+        }),
+        header("identity-header-minor-0", 0),
+        header("identity-header-minor-255", 255),
+        info("identity-info-reserved-flags", |info| info[6] |= 0xF0),
+        info("identity-info-reserved-116", |info| info[116..].fill(0xFF)),
+        info("identity-absent", |info| info[110..116].fill(0)),
+        info("identity-ignored-in-version-1", |info| {
+            info[Info::VERSION_AT] = 1
+        }),
+        // Half zero, which only an ignored reference may be.
+        info("identity-garbage-in-version-1", |info| {
+            info[Info::VERSION_AT] = 1;
+            put_reference(info, 110, 0, 20);
+        }),
+    ]
+}
+
+fn identity_goods() -> Vec<Sample> {
+    let record = |name: &str, change: fn(&mut [u8])| {
+        heap_record_change::<Interface, Identity>(name, Identity::ID, &[16, 110], change)
+    };
+    vec![
+        good("identity-full", &small(Identity::ID, 1), |_| ()),
+        good("identity-behind-unused", &small(Identity::ID, 2), |_| ()),
+        good("identity-of-autoconfigured", &bare_identity(0), |_| ()),
+        good("identity-of-manual-address", &bare_identity(1), |_| ()),
+        record("identity-reserved-flags", |record| {
+            record[4] |= 0xFC;
+            record[5..8].fill(0xFF);
+        }),
+        record("identity-client-ignored", |record| {
+            record[4] = 1;
+            put_reference(record, 8, 0, 9);
+            put_reference(record, 14, 9, 0);
+        }),
+        record("identity-within-its-own-iaid", |record| {
+            let iaid = u32_at(record, 8);
+            put_reference(record, 8, iaid - 20, 24);
+        }),
+    ]
+}
+
+/// An identity without a client, which goes with any IP origin.
+pub fn bare_identity(ip_origin: u8) -> Meaning<'static> {
+    let mut meaning = small(Info::ID, 1);
+    if let Entry::Used(interface) = &mut meaning.interfaces[0] {
+        interface.info.ip_origin = ip_origin;
+        interface.info.addition = Some(Addition {
+            autoconfigured: ip_origin == 0,
+            identity: Some(Identity { client: None }),
+        });
+    }
+    meaning
 }
 
 fn subsystem_goods() -> Vec<Sample> {
@@ -171,7 +255,7 @@ fn subsystem_goods() -> Vec<Sample> {
 
 fn extended_goods() -> Vec<Sample> {
     let extended = |name: &str, change: fn(&mut [u8])| {
-        heap_record_change::<Subsystem, Extended>(name, 60, change)
+        heap_record_change::<Subsystem, Extended>(name, Subsystem::ID, &[60], change)
     };
     vec![
         extended("extended-reserved-flags", |extended| {

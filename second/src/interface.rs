@@ -1,6 +1,7 @@
 //! The host fabric interface (HFI) record and its transport info.
 
 use crate::answer::number;
+use crate::identity::Identity;
 use crate::record::{Bytes, Number, Objects, Record, Target, TCP};
 use crate::wire::{array_at, bit, put, put_u16, put_u32, set_bit, u16_at, u32_at};
 
@@ -29,6 +30,10 @@ impl<'a> Record<'a> for Interface<'a> {
         Ok(Interface {
             info: Info::read(&info, position, inner.as_ref())?,
         })
+    }
+
+    fn minor(&self) -> u8 {
+        self.info.minor()
     }
 
     fn write_fields(&self, position: u16, bytes: &mut [u8]) {
@@ -68,16 +73,84 @@ pub struct Info<'a> {
     /// Present exactly when DHCP gave the configuration.
     pub dhcp_server: Option<[u8; 16]>,
     pub host_name: Option<Bytes<'a>>,
+    /// Present exactly when the info has version 2.
+    pub addition: Option<Addition<'a>>,
 }
 
-impl Info<'_> {
+/// What version 2 of an info says beyond version 1.
+#[derive(Clone, Debug, PartialEq, Eq)]
+pub struct Addition<'a> {
+    /// The address comes from a mechanism without state, so neither DHCP
+    /// nor any other origin is told.
+    pub autoconfigured: bool,
+    pub identity: Option<Identity<'a>>,
+}
+
+/// The first transport info version, and the one that has an addition.
+const PLAIN: u8 = 1;
+const WITH_ADDITION: u8 = 2;
+
+impl<'a> Info<'a> {
+    pub const VERSION_AT: usize = 3;
+    pub const ORIGIN_AT: usize = 19;
+    pub const DHCP_BIT: usize = 2;
+    pub const AUTOCONFIGURED_BIT: usize = 3;
+
     fn is_identified(bytes: &[u8], position: u16) -> bool {
         bytes[0] == Self::ID
             && bytes[1] == 1
             && bytes[2] == TCP
-            && bytes[3] == 1
             && u16_at(bytes, 4) == position
             && Self::is_valid(bytes)
+    }
+
+    fn version(&self) -> u8 {
+        match self.addition {
+            Some(_) => WITH_ADDITION,
+            None => PLAIN,
+        }
+    }
+
+    fn flag(bytes: &[u8], place: usize) -> bool {
+        bit(bytes[Self::VALID_AT].into(), place as u32)
+    }
+
+    /// In version 1 the bit is reserved.
+    fn origin_is_good(bytes: &[u8]) -> bool {
+        let autoconfigured =
+            bytes[Self::VERSION_AT] == WITH_ADDITION && Self::flag(bytes, Self::AUTOCONFIGURED_BIT);
+        let by_dhcp = Self::flag(bytes, Self::DHCP_BIT);
+        !autoconfigured || (!by_dhcp && bytes[Self::ORIGIN_AT] == 0)
+    }
+
+    fn is_good(bytes: &[u8], position: u16) -> bool {
+        bytes.len() >= Self::SIZE
+            && Self::is_identified(bytes, position)
+            && matches!(bytes[Self::VERSION_AT], PLAIN | WITH_ADDITION)
+            && Self::origin_is_good(bytes)
+    }
+
+    /// In version 1 there is nothing to read, whatever stands there.
+    fn read_addition(
+        bytes: &[u8],
+        position: u16,
+        objects: &dyn Objects<'a>,
+    ) -> Result<Option<Addition<'a>>, Number> {
+        if bytes[Self::VERSION_AT] == PLAIN {
+            return Ok(None);
+        }
+        let origin = bytes[Self::ORIGIN_AT];
+        let identity = match objects.optional_heap_record(110)? {
+            Some((record, inner)) => {
+                let identity = Identity::read_for(origin, &record, position, inner.as_ref())?;
+                Some(identity)
+            }
+            None => None,
+        };
+        Ok(Some(Addition {
+            autoconfigured: Self::flag(bytes, Self::AUTOCONFIGURED_BIT),
+            identity,
+        }))
     }
 }
 
@@ -87,41 +160,50 @@ impl<'a> Record<'a> for Info<'a> {
     const VALID_AT: usize = 6;
 
     fn stamp(bytes: &mut [u8], position: u16) {
-        put(bytes, 0, &[Self::ID, 1, TCP, 1]);
+        put(bytes, 0, &[Self::ID, 1, TCP]);
         put_u16(bytes, 4, position);
         set_bit(bytes, 6, 0, true);
     }
 
     fn read(bytes: &[u8], position: u16, objects: &dyn Objects<'a>) -> Result<Self, Number> {
-        if bytes.len() < Self::SIZE || !Self::is_identified(bytes, position) {
+        if !Self::is_good(bytes, position) {
             return Err(number::HEAP_RECORD);
         }
-        let flags = u32::from(bytes[6]);
+        // Objects are named in the order in which their faults count.
         Ok(Info {
-            default_route: bit(flags, 1),
+            default_route: Self::flag(bytes, 1),
             pci_routing: u32_at(bytes, 7),
             mac_address: array_at(bytes, 11),
             vlan: u16_at(bytes, 17),
-            ip_origin: bytes[19],
+            ip_origin: bytes[Self::ORIGIN_AT],
             ip_address: array_at(bytes, 20),
             prefix_length: bytes[36],
             gateway: array_at(bytes, 37),
             route_metric: u16_at(bytes, 54),
             primary_dns: array_at(bytes, 56),
             secondary_dns: array_at(bytes, 72),
-            dhcp_server: bit(flags, 2).then(|| array_at(bytes, 88)),
+            dhcp_server: Self::flag(bytes, Self::DHCP_BIT).then(|| array_at(bytes, 88)),
             host_name: objects.optional(104)?,
+            addition: Self::read_addition(bytes, position, objects)?,
         })
+    }
+
+    fn minor(&self) -> u8 {
+        self.addition.is_some().into()
     }
 
     fn write_fields(&self, position: u16, bytes: &mut [u8]) {
         Self::stamp(bytes, position);
+        bytes[Self::VERSION_AT] = self.version();
         set_bit(bytes, 6, 1, self.default_route);
-        set_bit(bytes, 6, 2, self.dhcp_server.is_some());
+        set_bit(bytes, 6, Self::DHCP_BIT, self.dhcp_server.is_some());
+        if let Some(addition) = &self.addition {
+            set_bit(bytes, 6, Self::AUTOCONFIGURED_BIT, addition.autoconfigured);
+        }
         put_u32(bytes, 7, self.pci_routing);
         put(bytes, 11, &self.mac_address);
         put_u16(bytes, 17, self.vlan);
-        bytes[19] = self.ip_origin;
+        bytes[Self::ORIGIN_AT] = self.ip_origin;
         put(bytes, 20, &self.ip_address);
         bytes[36] = self.prefix_length;
         put(bytes, 37, &self.gateway);
@@ -134,7 +216,12 @@ impl<'a> Record<'a> for Info<'a> {
     }
 
     fn targets(&self) -> Vec<(usize, Target<'_, 'a>)> {
-        vec![(104, Target::optional(&self.host_name))]
+        let mut targets = vec![(104, Target::optional(&self.host_name))];
+        if let Some(addition) = &self.addition {
+            let identity = addition.identity.as_ref();
+            targets.push((110, identity.map_or(Target::Absent, Target::Identity)));
+        }
+        targets
     }
 
     fn field_length(offset: u32) -> Option<usize> {
@@ -148,6 +235,7 @@ impl<'a> Record<'a> for Info<'a> {
         }
     }
 
+    /// The identity is read by its own kind, not as an object.
     fn object<'r>(record: Option<&'r Self>, offset: u32) -> Option<Option<&'r Bytes<'a>>> {
         match offset {
             104 => Some(record.and_then(|info| info.host_name.as_ref())),

@@ -163,6 +163,7 @@ impl Scribe {
             Target::Absent => (0, 0),
             Target::Object(object) => self.object(object, replaceable),
             Target::Info(info) => self.heap_record(info, position),
+            Target::Identity(identity) => self.heap_record(identity, position),
             Target::Extended(extended) => self.heap_record(extended, position),
         }
     }

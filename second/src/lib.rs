@@ -15,6 +15,7 @@ pub mod frame;
 pub mod generate;
 pub mod goods;
 pub mod host;
+pub mod identity;
 pub mod interface;
 pub mod layout;
 pub mod meaning;

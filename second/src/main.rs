@@ -78,18 +78,19 @@ fn write_form(file: &Path, output: &Path) -> Result<(), String> {
     }
 }
 
-/// The tables that ship as files: the smallest, and one as a machine's
-/// firmware would leave it.
+/// The tables that ship as files: the smallest, and some as a machine's
+/// firmware would leave them.
 fn samples(action: &str, directory: &Path) -> Result<(), String> {
-    let machine = second::form(&second::samples::machine());
-    keep(
-        action,
-        directory.join("smallest.nbft"),
-        &second::samples::smallest(),
-    )?;
-    keep(action, directory.join("machine.nbft"), &machine)?;
-    let mixed = second::form(&second::samples::mixed());
-    keep(action, directory.join("mixed.nbft"), &mixed)
+    use second::form;
+    use second::samples::{dhcp, machine, mixed, smallest};
+    let tables = [
+        ("smallest.nbft", smallest()),
+        ("machine.nbft", form(&machine())),
+        ("mixed.nbft", form(&mixed())),
+        ("dhcp.nbft", form(&dhcp())),
+    ];
+    let mut files = tables.iter();
+    files.try_for_each(|(name, table)| keep(action, directory.join(name), table))
 }
 
 fn cases(action: &str, directory: &Path) -> Result<(), String> {

@@ -102,6 +102,12 @@ impl<'a> Meaning<'a> {
         .map(|count| count as u8)
     }
 
+    /// The minor revision of the form: the least that has all interfaces.
+    pub fn minor(&self) -> u8 {
+        let used = self.interfaces.iter().filter_map(Entry::used);
+        used.map(Interface::minor).max().unwrap_or(0)
+    }
+
     /// All object and heap record bytes, as if nothing were shared.
     pub fn heap_length(&self) -> usize {
         self.driver_signature.as_ref().map_or(0, |o| o.len())

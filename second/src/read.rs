@@ -4,6 +4,7 @@ use crate::answer::{number, Answer, CONTROL_KIND, HEADER_KIND};
 use crate::discovery::Discovery;
 use crate::frame::{CONTROL_START, DRIVER_SIGNATURE_AT};
 use crate::host::Host;
+use crate::identity::Identity;
 use crate::interface::{Info, Interface};
 use crate::meaning::{Entry, Meaning};
 use crate::record::{Bytes, Record};
@@ -45,6 +46,7 @@ enum Selected<'r, 'a> {
     Discovery(Option<&'r Discovery<'a>>),
     Info(&'r Info<'a>),
     Extended(&'r Extended<'a>),
+    Identity(&'r Identity<'a>),
 }
 
 /// A table that is checked once and then read as often as needed.
@@ -125,6 +127,7 @@ impl<'a> Reading<'a> {
             Discovery::ID => entry(&meaning.discoveries, position).map(Selected::Discovery),
             Info::ID => info_of(meaning, position).map(Selected::Info),
             Extended::ID => extended_of(meaning, position).map(Selected::Extended),
+            Identity::ID => identity_of(meaning, position).map(Selected::Identity),
             _ => None,
         };
         Ok((meaning, selected.ok_or(NO_SUCH_FIELD)?))
@@ -148,6 +151,11 @@ fn extended_of<'r, 'a>(meaning: &'r Meaning<'a>, position: u16) -> Option<&'r Ex
     entry(&meaning.subsystems, position)??.extended.as_ref()
 }
 
+fn identity_of<'r, 'a>(meaning: &'r Meaning<'a>, position: u16) -> Option<&'r Identity<'a>> {
+    let addition = info_of(meaning, position)?.addition.as_ref()?;
+    addition.identity.as_ref()
+}
+
 impl<'r, 'a> Selected<'r, 'a> {
     fn image(&self, meaning: &Meaning, position: u16) -> Image {
         match self {
@@ -160,6 +168,7 @@ impl<'r, 'a> Selected<'r, 'a> {
             Selected::Discovery(entry) => record_image(*entry, position),
             Selected::Info(info) => record_image(Some(*info), position),
             Selected::Extended(extended) => record_image(Some(*extended), position),
+            Selected::Identity(identity) => record_image(Some(*identity), position),
         }
     }
 
@@ -174,6 +183,7 @@ impl<'r, 'a> Selected<'r, 'a> {
             Selected::Discovery(_) => Discovery::field_length(offset),
             Selected::Info(_) => Info::field_length(offset),
             Selected::Extended(_) => Extended::field_length(offset),
+            Selected::Identity(_) => Identity::field_length(offset),
         }
     }
 
@@ -190,6 +200,7 @@ impl<'r, 'a> Selected<'r, 'a> {
             Selected::Discovery(entry) => Discovery::object(*entry, offset),
             Selected::Info(info) => Info::object(Some(*info), offset),
             Selected::Extended(extended) => Extended::object(Some(*extended), offset),
+            Selected::Identity(identity) => Identity::object(Some(*identity), offset),
         }
     }
 }

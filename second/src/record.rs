@@ -2,6 +2,7 @@
 
 use crate::answer::number;
 use crate::frame::Frame;
+use crate::identity::Identity;
 use crate::interface::Info;
 use crate::subsystem::Extended;
 use crate::wire::{u16_at, u32_at};
@@ -17,13 +18,20 @@ pub const TCP: u8 = 3;
 /// only the number is handed on.
 pub type Number = u8;
 
+/// A heap record's bytes, with the source of its own objects.
+pub type HeapRecord<'a> = (Bytes<'a>, Box<dyn Objects<'a> + 'a>);
+
 /// Where a record's objects come from: a table's heap, or a builder's caller.
 pub trait Objects<'a> {
     /// The object for the reference field at this offset, if present.
     fn optional(&self, field: usize) -> Result<Option<Bytes<'a>>, Number>;
 
-    /// The heap record for the field, with the source of its own objects.
-    fn heap_record(&self, field: usize) -> Result<(Bytes<'a>, Box<dyn Objects<'a> + 'a>), Number>;
+    /// The heap record for the field, if present.
+    fn optional_heap_record(&self, field: usize) -> Result<Option<HeapRecord<'a>>, Number>;
+
+    fn heap_record(&self, field: usize) -> Result<HeapRecord<'a>, Number> {
+        self.optional_heap_record(field)?.ok_or(number::REFERENCE)
+    }
 
     fn required(&self, field: usize) -> Result<Bytes<'a>, Number> {
         self.optional(field)?.ok_or(number::REFERENCE)
@@ -44,6 +52,7 @@ pub enum Target<'r, 'a> {
     Absent,
     Object(&'r Bytes<'a>),
     Info(&'r Info<'a>),
+    Identity(&'r Identity<'a>),
     Extended(&'r Extended<'a>),
 }
 
@@ -58,6 +67,7 @@ impl<'r, 'a> Target<'r, 'a> {
             Target::Absent => 0,
             Target::Object(object) => object.len(),
             Target::Info(info) => Info::SIZE + heap_length(*info),
+            Target::Identity(identity) => Identity::SIZE + heap_length(*identity),
             Target::Extended(extended) => Extended::SIZE + heap_length(*extended),
         }
     }
@@ -77,6 +87,11 @@ pub trait Record<'a>: Sized {
     /// Reads a valid record with its objects; indexes of others are not
     /// looked up.
     fn read(bytes: &[u8], position: u16, objects: &dyn Objects<'a>) -> Result<Self, Number>;
+
+    /// The least minor revision of a table with this record in it.
+    fn minor(&self) -> u8 {
+        0
+    }
 
     /// Whether every index in the record names a valid record.
     fn indexes_hold(&self, _frame: &Frame) -> bool {
@@ -134,12 +149,11 @@ impl<'a> Objects<'a> for InTable<'a> {
         Ok(self.part(field)?.map(Cow::Borrowed))
     }
 
-    fn heap_record(&self, field: usize) -> Result<(Bytes<'a>, Box<dyn Objects<'a> + 'a>), Number> {
-        let record = self.part(field)?.ok_or(number::REFERENCE)?;
-        let inner = InTable {
-            frame: self.frame,
-            record,
+    fn optional_heap_record(&self, field: usize) -> Result<Option<HeapRecord<'a>>, Number> {
+        let frame = self.frame;
+        let nested = |record| -> HeapRecord<'a> {
+            (Cow::Borrowed(record), Box::new(InTable { frame, record }))
         };
-        Ok((Cow::Borrowed(record), Box::new(inner)))
+        Ok(self.part(field)?.map(nested))
     }
 }

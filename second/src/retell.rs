@@ -1,10 +1,11 @@
 //! Tells a meaning to the builder, record by record.
 
 use crate::answer::Answer;
-use crate::builder::{self, ToldSubsystem};
+use crate::builder::{self, ToldInterface, ToldSubsystem};
 use crate::discovery::Discovery;
 use crate::host::Host;
-use crate::interface::Interface;
+use crate::identity::Identity;
+use crate::interface::{Addition, Interface};
 use crate::meaning::{Entry, Meaning, Origin};
 use crate::random::Random;
 use crate::record::{Bytes, Record};
@@ -18,7 +19,15 @@ use crate::wire::{array_at, set_bit};
 pub enum Call {
     Begin([u8; 26], [u8; 4], Vec<u8>),
     Host([u8; 32], Vec<u8>),
-    Hfi([u8; 32], Box<[u8; 128]>, Vec<u8>),
+    Hfi {
+        record: [u8; 32],
+        info: Box<[u8; 128]>,
+        /// As C has it: any value but 0 tells the extended info.
+        extended_told: u8,
+        extended: [u8; 20],
+        /// Host name, IAID and DUID.
+        objects: [Vec<u8>; 3],
+    },
     Ssns(Box<[u8; 128]>, [u8; 18], [Vec<u8>; 5]),
     Security([u8; 64], [Vec<u8>; 6]),
     Discovery([u8; 32], Vec<u8>, Vec<u8>),
@@ -33,7 +42,23 @@ impl Call {
                 builder::begin(buffer, state, header, *counts, signature)
             }
             Call::Host(record, name) => builder::host(buffer, state, record, name),
-            Call::Hfi(record, info, name) => builder::hfi(buffer, state, record, info, name),
+            Call::Hfi {
+                record,
+                info,
+                extended_told,
+                extended,
+                objects: [host_name, iaid, duid],
+            } => {
+                let told = ToldInterface {
+                    record: *record,
+                    info: **info,
+                    host_name,
+                    extended: (*extended_told != 0).then_some(*extended),
+                    iaid,
+                    duid,
+                };
+                builder::hfi(buffer, state, &told)
+            }
             Call::Ssns(record, extended, objects) => {
                 let told = told_subsystem(**record, *extended, objects);
                 builder::ssns(buffer, state, &told)
@@ -140,9 +165,33 @@ fn tell_host(random: &mut Random, host: &Host) -> Call {
 }
 
 fn tell_interface(random: &mut Random, interface: &Interface) -> Call {
-    let record = tell_record(random, interface);
-    let info = tell_record(random, &interface.info);
-    Call::Hfi(record, Box::new(info), told(&interface.info.host_name))
+    let info = &interface.info;
+    let identity = info.addition.as_ref().map(|addition| &addition.identity);
+    let [iaid, duid] = [8, 14].map(|field| {
+        let identity = identity.and_then(Option::as_ref);
+        told_or_noise(random, Identity::object(identity, field).flatten())
+    });
+    Call::Hfi {
+        record: tell_record(random, interface),
+        info: Box::new(tell_record(random, info)),
+        extended_told: tell_whether(random, &info.addition),
+        extended: match identity {
+            Some(Some(identity)) => tell_record(random, identity),
+            _ => random.array(),
+        },
+        objects: [told(&info.host_name), iaid, duid],
+    }
+}
+
+/// Whether there is an extended info. Where the info has no addition, that
+/// makes no difference.
+fn tell_whether(random: &mut Random, addition: &Option<Addition>) -> u8 {
+    let any = random.byte();
+    match addition {
+        Some(addition) if addition.identity.is_none() => 0,
+        Some(_) => *random.pick(&[1, 2, 128, 255, any | 1]),
+        None => *random.pick(&[0, 1, any]),
+    }
 }
 
 fn tell_subsystem(random: &mut Random, subsystem: &Subsystem) -> Call {

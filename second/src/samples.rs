@@ -3,14 +3,15 @@
 
 use crate::answer::{number, Answer};
 use crate::discovery::Discovery;
-use crate::form::{form, put_checksum};
+use crate::form::{form, lay_out_front, put_checksum, seal, HOST_START};
 use crate::host::Host;
-use crate::interface::{Info, Interface};
+use crate::identity::{Client, Identity, DHCP_ORIGIN};
+use crate::interface::{Addition, Info, Interface};
 use crate::meaning::{Entry, Meaning, Origin};
 use crate::record::Record;
 use crate::security::{Policy, Security};
 use crate::subsystem::{Extended, Subsystem};
-use crate::wire::{put, put_u32};
+use crate::wire::{put, put_reference, put_u32, u32_at};
 
 /// A table with the answer that it must get.
 #[derive(Clone, Debug)]
@@ -159,6 +160,7 @@ fn plain_interface() -> Interface<'static> {
             secondary_dns: [0; 16],
             dhcp_server: None,
             host_name: None,
+            addition: None,
         },
     }
 }
@@ -175,6 +177,103 @@ fn full_interface() -> Interface<'static> {
             ..plain_interface().info
         },
     }
+}
+
+/// What an info says of a DHCP client.
+fn client(iaid: &'static [u8], duid: &'static [u8]) -> Option<Addition<'static>> {
+    let (iaid, duid) = (iaid.into(), duid.into());
+    Some(Addition {
+        autoconfigured: false,
+        identity: Some(Identity {
+            client: Some(Client { iaid, duid }),
+        }),
+    })
+}
+
+/// What it says of an address that comes from a mechanism without state.
+const AUTOCONFIGURED: Option<Addition<'static>> = Some(Addition {
+    autoconfigured: true,
+    identity: None,
+});
+
+fn identified_interface() -> Interface<'static> {
+    Interface {
+        info: Info {
+            ip_origin: DHCP_ORIGIN,
+            addition: client(&FIGURED_IAIDS[0], FIGURED_DUIDS[0]),
+            ..full_interface().info
+        },
+    }
+}
+
+fn autoconfigured_interface() -> Interface<'static> {
+    Interface {
+        info: Info {
+            ip_origin: 0,
+            dhcp_server: None,
+            addition: AUTOCONFIGURED,
+            ..full_interface().info
+        },
+    }
+}
+
+/// Identifiers of the two examples in the document that has the extended
+/// info, in the order in which it gives their bytes.
+const FIGURED_IAIDS: [[u8; 4]; 2] = [*b"\x00\x06\x1A\xF0", *b"\xFF\x06\x1A\xF0"];
+const FIGURED_DUIDS: [&[u8]; 2] = [
+    b"\x01\x01\x04\x1F\xAA\x01\x07\x00\x01\x12\x31\x7A\xFE",
+    b"\x04\x2E\xC5\xB3\xE1\x0C\x74\x40\x13\x9D\xB5\xB7\x06\x7B\xA5\x72\xA7",
+];
+/// Their records, byte by byte. Both state 23 bytes for the DUID, of which
+/// they give fewer: those behind them are zero here.
+const FIGURED_RECORDS: [&[u8; 20]; 2] = [
+    b"\x0A\x01\x05\0\x03\0\0\0\0\x02\0\0\x04\0\0\x04\0\0\x17\0",
+    b"\x0A\x01\xBE\0\x03\0\0\0\0\x03\0\0\x04\0\0\x05\0\0\x17\0",
+];
+/// Where the examples' heap ends, and the list starts: behind the objects.
+const FIGURED_LIST: usize = 0x600;
+
+/// A table that has the record of an example and its objects at the places
+/// that it states, for the last interface of a list.
+fn figured(example: usize) -> Vec<u8> {
+    let record = FIGURED_RECORDS[example];
+    let position = record[2];
+    let (heap, info) = (HOST_START + Host::SIZE, HOST_START + Host::SIZE + 1);
+    let mut table = lay_out_front(&Origin::default(), [position, 0, 0, 0], (0, 0));
+    put_u32(&mut table, 36, heap as u32);
+    put_u32(&mut table, 80, FIGURED_LIST as u32);
+    table.resize(FIGURED_LIST + usize::from(position) * Interface::SIZE, 0);
+    plain_host().write_fields(0, &mut table[HOST_START..]);
+    put_reference(&mut table, HOST_START + 18, heap as u32, 1);
+    let owner = identified_interface();
+    owner.info.write_fields(position.into(), &mut table[info..]);
+    put_reference(&mut table, info + 110, (info + Info::SIZE) as u32, 20);
+    put(&mut table, info + Info::SIZE, record);
+    put(
+        &mut table,
+        u32_at(record, 8) as usize,
+        &FIGURED_IAIDS[example],
+    );
+    put(
+        &mut table,
+        u32_at(record, 14) as usize,
+        FIGURED_DUIDS[example],
+    );
+    let last = table.len() - Interface::SIZE;
+    owner.write_fields(position.into(), &mut table[last..]);
+    put_reference(&mut table, last + 16, info as u32, Info::SIZE as u16);
+    seal(&mut table, FIGURED_LIST - heap, 1);
+    table
+}
+
+/// Both examples, of DHCPv4 and of DHCPv6.
+pub fn examples() -> [Sample; 2] {
+    let sample = |(example, name): (usize, &str)| Sample {
+        name: name.to_string(),
+        table: figured(example),
+        answer: Answer::DONE,
+    };
+    [(0, "example-dhcpv4"), (1, "example-dhcpv6")].map(sample)
 }
 
 fn plain_subsystem() -> Subsystem<'static> {
@@ -278,14 +377,18 @@ fn with_unused<R>(position: u8, record: R) -> Vec<Entry<R>> {
 }
 
 /// A small meaning with one full record of this kind at this position, and
-/// an unused record in the lists that it has indexes into.
+/// an unused record in the lists that it has indexes into. The info's own is
+/// one of version 2 without an identity.
 pub fn small(kind: u8, position: u8) -> Meaning<'static> {
     let base = host_only();
+    let with_interface = |interface| Meaning {
+        interfaces: at_position(position, interface),
+        ..host_only()
+    };
     match kind {
-        Interface::ID => Meaning {
-            interfaces: at_position(position, full_interface()),
-            ..base
-        },
+        Interface::ID => with_interface(full_interface()),
+        Info::ID => with_interface(autoconfigured_interface()),
+        Identity::ID => with_interface(identified_interface()),
         Subsystem::ID => Meaning {
             interfaces: with_unused(position, plain_interface()),
             subsystems: at_position(position, full_subsystem(position)),
@@ -420,6 +523,34 @@ pub fn mixed() -> Meaning<'static> {
     whole
 }
 
+/// A machine of which one port has its address from DHCP, one has found it
+/// by itself, and one is described in version 1.
+pub fn dhcp() -> Meaning<'static> {
+    let mut by_dhcp = machine_interface(1);
+    let duid = b"\x00\x03\x00\x01\x52\x54\x00\xA1\xB2\x01";
+    by_dhcp.info.addition = client(b"\x00\xA1\xB2\x01", duid);
+    let mut by_itself = machine_interface(2);
+    by_itself.info.ip_origin = 0;
+    by_itself.info.ip_address = *b"\x20\x01\x0D\xB8\0\0\0\x02\x50\x54\0\xFF\xFE\xA1\xB2\x02";
+    by_itself.info.prefix_length = 64;
+    by_itself.info.gateway = *b"\xFE\x80\0\0\0\0\0\0\0\0\0\0\0\0\0\x01";
+    by_itself.info.primary_dns = [0; 16];
+    by_itself.info.host_name = None;
+    by_itself.info.addition = AUTOCONFIGURED;
+    Meaning {
+        interfaces: [by_dhcp, by_itself, machine_interface(3)]
+            .map(Entry::Used)
+            .into(),
+        subsystems: vec![Entry::Used(Subsystem {
+            discovery: 0,
+            ..machine_subsystem(2)
+        })],
+        securities: Vec::new(),
+        discoveries: Vec::new(),
+        ..machine()
+    }
+}
+
 /// An address of 16 bytes, as a subsystem's may be.
 fn interface_address() -> Vec<u8> {
     ipv4([192, 168, 101, 41]).to_vec()
@@ -441,6 +572,7 @@ fn machine_interface(port: u8) -> Interface<'static> {
             secondary_dns: [0; 16],
             dhcp_server: (port == 1).then_some(ipv4([192, 168, 101, 2])),
             host_name: Some(b"server-17.example.net".into()),
+            addition: None,
         },
     }
 }

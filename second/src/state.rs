@@ -6,7 +6,7 @@ use crate::frame::GREATEST_LENGTH;
 use crate::host::Host;
 use crate::interface::Interface;
 use crate::record::Record;
-use crate::wire::{array_at, put, put_u16, u16_at};
+use crate::wire::{array_at, put, put_u16, put_u32, u16_at, u32_at};
 
 /// Between two builder calls. A plain value, so that a caller can also hold
 /// one that no call ever handed out; such a state is refused.
@@ -17,12 +17,18 @@ pub struct State {
     /// The list position to come, 0 outside lists.
     pub position: u16,
     pub counts: [u8; 4],
-    pub used: usize,
+    /// How many bytes of the buffer are used.
+    pub used: u32,
+    /// The minor revision of the table as far as it is told.
+    pub minor: u32,
 }
 
 /// All positions are told, and only finish can come.
 pub const READY: u16 = 7;
 pub const FINISHED: u16 = 8;
+
+/// No record needs a later minor revision.
+const GREATEST_MINOR: u32 = 1;
 
 const HOST: u16 = Host::ID as u16;
 const FIRST_LIST: u16 = Interface::ID as u16;
@@ -34,15 +40,16 @@ impl State {
         position: 0,
         counts: [0; 4],
         used: 0,
+        minor: 0,
     };
 
     /// The state after begin.
     pub fn begun(counts: [u8; 4], used: usize) -> State {
         State {
             turn: HOST,
-            position: 0,
             counts,
-            used,
+            used: used as u32,
+            ..State::EMPTY
         }
     }
 
@@ -53,7 +60,8 @@ impl State {
         put_u16(&mut bytes, 0, self.turn);
         put_u16(&mut bytes, 2, self.position);
         put(&mut bytes, 4, &self.counts);
-        put(&mut bytes, 8, &(self.used as u64).to_le_bytes());
+        put_u32(&mut bytes, 8, self.used);
+        put_u32(&mut bytes, 12, self.minor);
         bytes
     }
 
@@ -62,7 +70,8 @@ impl State {
             turn: u16_at(&bytes, 0),
             position: u16_at(&bytes, 2),
             counts: array_at(&bytes, 4),
-            used: u64::from_le_bytes(array_at(&bytes, 8)) as usize,
+            used: u32_at(&bytes, 8),
+            minor: u32_at(&bytes, 12),
         }
     }
 
@@ -76,8 +85,14 @@ impl State {
     /// Whether this is a possible begun state.
     pub fn is_begun(self) -> bool {
         self.position_is_possible()
-            && records_end(self.counts) <= self.used
-            && self.used <= GREATEST_LENGTH
+            && records_end(self.counts) <= self.end()
+            && self.end() <= GREATEST_LENGTH
+            && self.minor <= GREATEST_MINOR
+    }
+
+    /// Where the bytes used end in the buffer.
+    pub fn end(self) -> usize {
+        self.used as usize
     }
 
     fn position_is_possible(self) -> bool {
@@ -98,12 +113,21 @@ impl State {
         self.counts[usize::from(list - FIRST_LIST)].into()
     }
 
+    /// The state after a record was written up to this end, which takes at
+    /// least this minor revision.
+    pub fn after(self, end: usize, minor: u8) -> State {
+        State {
+            used: end as u32,
+            minor: self.minor.max(minor.into()),
+            ..self.next()
+        }
+    }
+
     /// The state after the record whose turn it was.
-    pub fn next(self, used: usize) -> State {
+    pub fn next(self) -> State {
         if self.is_in_list() && self.position < self.count_of(self.turn) {
             return State {
                 position: self.position + 1,
-                used,
                 ..self
             };
         }
@@ -115,7 +139,6 @@ impl State {
         State {
             turn,
             position,
-            used,
             ..self
         }
     }

@@ -6,13 +6,14 @@ use crate::faults::damages;
 use crate::form::{form, form_length, rewrite};
 use crate::frame::GREATEST_LENGTH;
 use crate::generate::random_meaning;
-use crate::goods::goods;
-use crate::interface::Interface;
+use crate::goods::{bare_identity, goods};
+use crate::identity::{Identity, DHCP_ORIGIN};
+use crate::interface::{Info, Interface};
 use crate::layout::{lay_out_freely, with_tail, Style};
 use crate::meaning::{check, meaning};
 use crate::random::Random;
 use crate::record::Record;
-use crate::samples::{host_only, known, machine, small, smallest, Sample};
+use crate::samples::{dhcp, host_only, known, machine, small, smallest, Sample};
 use crate::security::Security;
 use crate::subsystem::Subsystem;
 use crate::Answer;
@@ -129,6 +130,34 @@ fn record_damage() -> Vec<Sample> {
     samples
 }
 
+/// Every damage to what version 2 of an info adds, without what is the same
+/// in version 1, and some to such an info behind an unused record.
+fn addition_damage() -> Vec<Sample> {
+    let added = [
+        "-transport-version-",
+        "-autoconfigured-",
+        "-origin-",
+        "-identity-",
+    ];
+    let client = ["-client-"];
+    let tables = [
+        ("autoconfigured", small(Info::ID, 1), &added[..], 1),
+        ("bare", bare_identity(1), &client, 1),
+        ("bare-by-dhcp", bare_identity(DHCP_ORIGIN), &client, 1),
+        ("identity", small(Identity::ID, 1), &added, 1),
+        ("identity-behind-unused", small(Identity::ID, 2), &added, 5),
+    ];
+    let mut samples = Vec::new();
+    for (name, meaning, words, every) in tables {
+        let good = form(&meaning);
+        let mut found = damages(&good);
+        found.retain(|damage| words.iter().any(|word| damage.name.contains(word)));
+        let found = found.into_iter().step_by(every);
+        samples.extend(apply_all(&good, found.map(|damage| damage.named(name))));
+    }
+    samples
+}
+
 /// Damage to header and host of a table without lists, and to the lists of
 /// one that has them all.
 fn front_damage() -> Vec<Sample> {
@@ -147,15 +176,35 @@ fn front_damage() -> Vec<Sample> {
 /// Two faults at once, of which the first counts.
 fn double_damage(random: &mut Random) -> Vec<Sample> {
     let good = form(&small(Subsystem::ID, 1));
-    let found = damages(&good);
+    let numbers = [2, 3, 6, 7, 8, 9, 10, 11, 12, 13];
+    doubly_damaged(random, &good, &damages(&good), &numbers)
+}
+
+/// Two faults of one interface at once, so that the order of its references
+/// and of what hangs on them shows.
+fn double_addition_damage(random: &mut Random) -> Vec<Sample> {
+    let good = form(&small(Identity::ID, 1));
+    let found = damages(&good).into_iter();
+    let of_kind = found.filter(|damage| damage.answer.kind == Interface::ID);
+    let found: Vec<Damage> = of_kind.map(|damage| damage.named("identity")).collect();
+    doubly_damaged(random, &good, &found, &[10, 11, 12])
+}
+
+/// Five samples for each number of the first fault.
+fn doubly_damaged(
+    random: &mut Random,
+    good: &[u8],
+    found: &[Damage],
+    numbers: &[u8],
+) -> Vec<Sample> {
     let mut samples = Vec::new();
-    for number in [2, 3, 6, 7, 8, 9, 10, 11, 12, 13] {
+    for &number in numbers {
         let first = |damage: &&Damage| damage.answer.number == number;
         let firsts: Vec<&Damage> = found.iter().filter(first).collect();
         let wanted = samples.len() + 5;
         while samples.len() < wanted {
-            let (first, second) = (random.pick(&firsts), random.pick(&found));
-            samples.extend(first.before(second, &good));
+            let (first, second) = (random.pick(&firsts), random.pick(found));
+            samples.extend(first.before(second, good));
         }
     }
     samples
@@ -195,11 +244,13 @@ fn pairs(random: &mut Random) -> Vec<Sample> {
 fn machines(random: &mut Random) -> Vec<Sample> {
     let layouts = [Style::SEPARATE, Style::SHARED, Style::WILD];
     let named = layouts.iter().enumerate();
-    let sample = |(number, style): (usize, &Style)| {
-        let table = lay_out_freely(random, &machine(), *style);
-        good(format!("machine-layout-{number}"), table)
+    let samples = |(number, style): (usize, &Style)| {
+        [("machine", machine()), ("dhcp", dhcp())].map(|(name, told)| {
+            let table = lay_out_freely(random, &told, *style);
+            good(format!("{name}-layout-{number}"), table)
+        })
     };
-    named.map(sample).collect()
+    named.flat_map(samples).collect()
 }
 
 fn good(name: String, table: Vec<u8>) -> Sample {
@@ -217,7 +268,9 @@ pub fn vectors() -> Vec<Vector> {
     samples.extend(goods());
     samples.extend(front_damage());
     samples.extend(record_damage());
+    samples.extend(addition_damage());
     samples.extend(double_damage(&mut random));
+    samples.extend(double_addition_damage(&mut random));
     samples.extend(random_goods(&mut random));
     samples.extend(pairs(&mut random));
     samples.extend(machines(&mut random));

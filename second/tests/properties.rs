@@ -52,7 +52,7 @@ fn reads_give_the_meaning() {
         let table = lay_out_freely(&mut random, &told, Style::SHARED);
         let formed = form(&told);
         let (first, second) = (Reading::of(&table), Reading::of(&formed));
-        for (kind, position) in (0..=10).flat_map(|kind| (0..=5).map(move |p| (kind, p))) {
+        for (kind, position) in (0..=11).flat_map(|kind| (0..=5).map(move |p| (kind, p))) {
             assert_eq!(first.record(kind, position), second.record(kind, position));
             for offset in 0..=128 {
                 let field = first.field(kind, position, offset);
@@ -139,7 +139,8 @@ fn a_builder_run_leaves_exactly_the_form() {
         let mut buffer = vec![0xEE; expected.len() + random.below(9)];
         let (answer, state) = make_all(&calls(&mut random, &told), &mut buffer);
         assert_eq!(answer, Answer::DONE);
-        assert_eq!((state.turn, state.used), (FINISHED, expected.len()));
+        assert_eq!((state.turn, state.end()), (FINISHED, expected.len()));
+        assert_eq!(state.minor, u32::from(expected[50]));
         assert_eq!(buffer[..expected.len()], expected);
         assert!(buffer[expected.len()..].iter().all(|byte| *byte == 0xEE));
     }
@@ -178,9 +179,10 @@ fn sixteen_bytes_and_states_say_the_same() {
         turn: 4,
         position: 0x0102,
         counts: [5, 6, 7, 8],
-        used: 0xFEDC,
+        used: 0x0A0B_FEDC,
+        minor: 0x0102_0304,
     };
-    let bytes = [4, 0, 2, 1, 5, 6, 7, 8, 0xDC, 0xFE, 0, 0, 0, 0, 0, 0];
+    let bytes = [4, 0, 2, 1, 5, 6, 7, 8, 0xDC, 0xFE, 11, 10, 4, 3, 2, 1];
     assert_eq!(state.to_bytes(), bytes);
     assert_eq!(State::from_bytes([0; 16]), State::EMPTY);
     let mut random = Random::seeded(11);
@@ -198,7 +200,7 @@ fn a_buffer_one_byte_short_is_refused_and_unchanged() {
     let mut state = State::EMPTY;
     let mut buffer = vec![0xEE; expected.len()];
     for call in calls(&mut random, &told) {
-        let needed = call.make(&mut buffer.clone(), state).1.used as usize;
+        let needed = call.make(&mut buffer.clone(), state).1.end();
         let before = buffer.clone();
         let refused = call.make(&mut buffer[..needed - 1], state);
         assert_eq!(refused, (Answer::plain(14), state));
@@ -250,7 +252,7 @@ fn damaged_tables_get_their_answers() {
 
 #[test]
 fn refused_rewrites_change_nothing() {
-    for kind in 2..=6 {
+    for kind in [2, 3, 4, 5, 6, 7, 10] {
         let good = form(&small(kind, 1));
         let all = damages(&good);
         let inner = all.iter().map(|damage| damage.apply(&good));
@@ -313,6 +315,14 @@ fn exactly_the_reserved_bits_of_other_records_count_for_nothing() {
     let info = offset_at(&table, hfi + 16);
     let expected = 5 + 8 + 18 * 8;
     assert_eq!(reserved_bits(&table, info..info + 128, &[104]), expected);
+    let table = form(&small(10, 1));
+    let info = offset_at(&table, hfi + 16);
+    let fields = [104, 110];
+    let expected = 4 + 8 + 12 * 8;
+    assert_eq!(reserved_bits(&table, info..info + 128, &fields), expected);
+    let identity = offset_at(&table, info + 110);
+    let fields = [8, 14];
+    assert_eq!(reserved_bits(&table, identity..identity + 20, &fields), 30);
     let table = form(&small(5, 1));
     let security = offset_at(&table, 96);
     let fields = [6, 12, 18, 24, 30, 36];
@@ -335,6 +345,7 @@ fn goods_that_differ_in_nothing_that_counts_have_one_form() {
     for sample in second::goods::goods() {
         let kind = match sample.name.split('-').next() {
             Some("interface" | "info") => 3,
+            Some("identity") => 10,
             Some("subsystem" | "extended") => 4,
             Some("security") => 5,
             Some("discovery") => 6,

@@ -1,7 +1,7 @@
 //! The known samples, and small cases of every call.
 
 use second::answer::number;
-use second::builder;
+use second::builder::{self, ToldInterface};
 use second::form::{put_checksum, records_end};
 use second::samples::{crowded, known, longest, machine, small, smallest};
 use second::state::{FINISHED, READY};
@@ -132,7 +132,7 @@ fn objects_are_parts_of_the_table() {
 type Place = (u32, usize);
 
 /// Every field of every kind, with a position to read it at.
-const FIELDS: [(u8, u16, &[Place]); 9] = [
+const FIELDS: [(u8, u16, &[Place]); 10] = [
     (0, 0, &[(10, 6), (16, 8), (24, 4), (28, 4), (32, 4)]),
     (1, 0, &[(87, 1), (95, 1), (103, 1), (111, 1)]),
     (2, 0, &[(0, 1), (1, 1), (2, 16)]),
@@ -181,10 +181,11 @@ const FIELDS: [(u8, u16, &[Place]); 9] = [
         ],
     ),
     (9, 2, &[(0, 1), (1, 1), (2, 2), (4, 4), (8, 2), (10, 2)]),
+    (10, 2, &[(0, 1), (1, 1), (2, 2), (4, 4)]),
 ];
 
 /// Every object of every kind.
-const OBJECTS: [(u8, u16, &[u32]); 7] = [
+const OBJECTS: [(u8, u16, &[u32]); 8] = [
     (0, 0, &[44]),
     (2, 0, &[18]),
     (4, 2, &[10, 16, 48, 54]),
@@ -192,23 +193,30 @@ const OBJECTS: [(u8, u16, &[u32]); 7] = [
     (6, 2, &[6, 12]),
     (7, 2, &[104]),
     (9, 2, &[12]),
+    (10, 2, &[8, 14]),
 ];
 
 #[test]
 fn exactly_these_fields_and_objects_exist() {
-    let table = form(&small(4, 2));
+    // No interface of the one has an identity, and the other has no lists
+    // but that of interfaces.
+    let (with_subsystem, with_identity) = (form(&small(4, 2)), form(&small(10, 2)));
     for kind in 0..=255 {
+        let table = match kind {
+            3 | 7 | 10 => &with_identity,
+            _ => &with_subsystem,
+        };
         let fields = FIELDS.iter().find(|known| known.0 == kind);
         let position = fields.map_or(0, |known| known.1);
         for offset in 0..200 {
-            let found = field(&table, kind, position, offset);
+            let found = field(table, kind, position, offset);
             let expected = fields.and_then(|known| known.2.iter().find(|f| f.0 == offset));
             assert_eq!(found.length, expected.map_or(0, |field| field.1));
             assert_eq!(found.answer.number, expected.map_or(16, |_| 0));
             assert_eq!(found.used, expected.is_some());
             let objects = OBJECTS.iter().find(|known| known.0 == kind);
             let exists = objects.is_some_and(|known| known.2.contains(&offset));
-            let (answer, place) = object(&table, kind, position, offset);
+            let (answer, place) = object(table, kind, position, offset);
             assert_eq!(answer.number, if exists { 0 } else { 16 });
             assert!(exists || place.is_none());
         }
@@ -229,7 +237,17 @@ fn positions_outside_lists_are_refused() {
         (4, 3),
         (4, 258),
     ];
-    for (kind, position) in kinds.into_iter().chain([(7, 1), (7, 0), (9, 1), (9, 3)]) {
+    let nested = [
+        (7, 1),
+        (7, 0),
+        (9, 1),
+        (9, 3),
+        (10, 0),
+        (10, 1),
+        (10, 2),
+        (10, 4),
+    ];
+    for (kind, position) in kinds.into_iter().chain(nested) {
         assert_eq!(record(&table, kind, position).answer, none);
         for offset in 0..200 {
             let found = field(&table, kind, position, offset);
@@ -262,6 +280,7 @@ fn ignored_objects_are_dropped_before_any_test() {
         position: 1,
         counts: [0, 0, 1, 0],
         used: 224,
+        minor: 0,
     };
     let told = |flags: [u8; 3]| {
         let mut record = [0; 64];
@@ -329,12 +348,25 @@ fn later_calls_refuse_in_order() {
     assert_eq!(early, (Answer::plain(number::OUT_OF_TURN), state));
 }
 
+fn told_interface() -> ToldInterface<'static> {
+    ToldInterface {
+        record: [0; 32],
+        info: [1; 128],
+        host_name: &[],
+        extended: None,
+        iaid: &[],
+        duid: &[],
+    }
+}
+
 /// Forged states, each one step away from one that is possible.
 fn impossible_states(good: State) -> Vec<State> {
     let turn = |turn| State { turn, ..good };
     let position = |position| State { position, ..good };
     let used = |used| State { used, ..good };
+    let minor = |minor| State { minor, ..good };
     let mut states = vec![position(0), position(2), used(191), used(65_537)];
+    states.extend([2, 256, 65_536, u32::MAX].map(minor));
     states.extend([0, 1, 2, 4, 7, 8, 9, 255, 259, 65535].map(turn));
     states
 }
@@ -346,15 +378,18 @@ fn impossible_states_are_refused() {
         position: 1,
         counts: [1, 0, 0, 0],
         used: 193,
+        minor: 1,
     };
     let mut buffer = vec![0; 70_000];
     assert_eq!(builder::leave(&mut buffer, good).0, Answer::DONE);
+    let (answer, next) = builder::hfi(&mut buffer, good, &told_interface());
+    assert_eq!((answer, next.minor), (Answer::DONE, 1));
     for state in impossible_states(good) {
         let refused = (Answer::plain(number::OUT_OF_TURN), state);
         assert_eq!(builder::leave(&mut buffer, state), refused);
         assert_eq!(builder::finish(&mut buffer, state), refused);
         assert_eq!(builder::host(&mut buffer, state, &[0; 32], &[1]), refused);
-        let hfi = builder::hfi(&mut buffer, state, &[0; 32], &[0; 128], &[]);
+        let hfi = builder::hfi(&mut buffer, state, &told_interface());
         assert_eq!(hfi, refused);
         let begun = builder::begin(&mut buffer, state, &[0; 26], [0; 4], &[]);
         assert_eq!(begun, refused);

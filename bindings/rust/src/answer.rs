@@ -29,7 +29,7 @@ pub enum Number {
     Record = 10,
     /// A reference is wrong, outside the heap, or required and absent.
     Reference = 11,
-    /// A heap record (HFI transport info, SSNS extended info) breaks its rule.
+    /// A heap record (transport info or extended info of an HFI, extended info of an SSNS) breaks its rule.
     HeapRecord = 12,
     /// An index names no valid record.
     Index = 13,
@@ -115,11 +115,15 @@ pub enum Kind {
     Discovery = 6,
     /// An HFI's transport info, by the HFI's position. Fields 0 ID, 1 version, 2 type, 3 its version, 4 HFI index (2),
     /// 6 flags, 7 PCI Express routing ID (4), 11 MAC (6), 17 VLAN (2), 19 origin, 20 IP address (16), 36 prefix,
-    /// 37 gateway (16), 54 metric (2), 56 and 72 DNS servers (16), 88 DHCP server (16); object 104 host name.
+    /// 37 gateway (16), 54 metric (2), 56 and 72 DNS servers (16), 88 DHCP server (16); object 104 host name. Where its
+    /// version (3) is 2 it may have an extended info, [`Kind::HfiExtended`].
     HfiInfo = 7,
     /// An SSNS's extended info, by the SSNS's position. Fields 0 ID, 1 version, 2 SSNS index (2), 4 flags (4),
     /// 8 controller ID (2), 10 admin queue size (2); object 12 root path.
     SsnsExtended = 9,
+    /// An HFI's extended info, by the HFI's position. Fields 0 ID, 1 version, 2 HFI index (2), 4 flags (4);
+    /// objects 8 IAID, 14 DUID.
+    HfiExtended = 10,
 }
 
 impl Kind {
@@ -137,6 +141,7 @@ impl Kind {
             Kind::Discovery => "discovery",
             Kind::HfiInfo => "HFI transport info",
             Kind::SsnsExtended => "SSNS extended info",
+            Kind::HfiExtended => "HFI extended info",
         }
     }
 }

@@ -30,10 +30,24 @@ pub struct Host<'a> {
 pub struct Hfi<'a> {
     /// In table layout. The builder sets all that counts in it.
     pub record: &'a [u8; 32],
-    /// The transport info. The DHCP server's address counts under its flag 2 alone.
+    /// The transport info. Its byte 3 is its version, 1 or 2; the DHCP server's address counts under its flag 2 alone.
+    /// Flag 3 (autoconfigured) counts under version 2, and goes with neither flag 2 nor an IP origin (19).
     pub info: &'a [u8; 128],
     /// The host name; optional.
     pub name: &'a [u8],
+    /// The extended info; optional under version 2, dropped under version 1.
+    pub extended: Option<HfiExtended<'a>>,
+}
+
+/// What is told of an HFI's extended info: what a DHCP server knows the interface by.
+#[derive(Clone, Copy, Debug)]
+pub struct HfiExtended<'a> {
+    /// In table layout. Flag 1 (client identifier) goes with IP origin 3 of the transport info alone.
+    pub record: &'a [u8; 20],
+    /// Required under flag 1, and dropped without it.
+    pub iaid: &'a [u8],
+    /// Required under flag 1, and dropped without it.
+    pub duid: &'a [u8],
 }
 
 /// What is told of an SSNS.
@@ -93,15 +107,17 @@ pub struct Discovery<'a> {
 /// [`discovery`](Builder::discovery), or [`leave`](Builder::leave) for a position that stays unused, and at last
 /// [`finish`](Builder::finish).
 ///
-/// Records are told in table layout. ID, version, type, own index and valid bit are set by the builder, whatever is told.
-/// Reserved bits, references in the told bytes, and fields and objects that other fields switch off are dropped before
-/// anything is tested. An object without bytes is absent.
+/// Records are told in table layout. ID, version, type, own index and valid bit are set by the builder, whatever is told;
+/// only the version in byte 3 of a transport info is the caller's. Reserved bits, references in the told bytes, and fields
+/// and objects that other fields switch off are dropped before anything is tested. An object without bytes is absent.
 ///
-/// Each call is refused, in this order, out of turn; for a two-bit field that is 3 ([`Number::Record`]); for a required
-/// object that is empty or one of more than 65,535 bytes ([`Number::Reference`]); where the table would pass 65,536 bytes;
-/// and where the buffer is too short. A refused call changes nothing: what was wrong can be mended and the call made again.
+/// Each call is refused, in this order, out of turn; for a two-bit field that is 3 ([`Number::Record`]); for a transport
+/// info's version, flags or origin, or an HFI extended info's flags ([`Number::HeapRecord`]); for a required object that is
+/// empty or one of more than 65,535 bytes ([`Number::Reference`]); where the table would pass 65,536 bytes; and where the
+/// buffer is too short. A refused call changes nothing: what was wrong can be mended and the call made again.
 ///
 /// [`Number::Record`]: crate::Number::Record
+/// [`Number::HeapRecord`]: crate::Number::HeapRecord
 /// [`Number::Reference`]: crate::Number::Reference
 pub struct Builder<'b> {
     state: [u8; 16],
@@ -127,8 +143,8 @@ impl<'b> Builder<'b> {
 
     /// How many bytes the table has so far.
     pub fn used(&self) -> u64 {
-        let [.., a, b, c, d, e, f, g, h] = self.state;
-        u64::from_le_bytes([a, b, c, d, e, f, g, h])
+        let [.., a, b, c, d, _, _, _, _] = self.state;
+        u64::from(u32::from_le_bytes([a, b, c, d]))
     }
 
     /// Starts a table. `header` is its bytes 10 to 35: OEM ID, OEM table ID, OEM revision, creator ID, creator revision.
@@ -150,10 +166,26 @@ impl<'b> Builder<'b> {
 
     /// Tells the next HFI.
     pub fn hfi(&mut self, told: &Hfi) -> Result<(), Refusal> {
+        let absent = HfiExtended { record: &[0; 20], iaid: &[], duid: &[] };
+        let extended = told.extended.unwrap_or(absent);
         let (state, out, room) = self.lent();
-        // SAFETY: as in `begin`.
+        // SAFETY: as in `begin`. The 20 bytes are lent also where they do not count.
         answered(unsafe {
-            library::nbft_hfi(state, out, room, told.record, told.info, told.name.as_ptr(), told.name.len())
+            library::nbft_hfi(
+                state,
+                out,
+                room,
+                told.record,
+                told.info,
+                told.name.as_ptr(),
+                told.name.len(),
+                u8::from(told.extended.is_some()),
+                extended.record,
+                extended.iaid.as_ptr(),
+                extended.iaid.len(),
+                extended.duid.as_ptr(),
+                extended.duid.len(),
+            )
         })
     }
 

@@ -34,7 +34,7 @@ mod builder;
 mod library;
 
 pub use answer::{Kind, Number, Refusal};
-pub use builder::{Builder, Counts, Discovery, Hfi, Host, Security, Ssns};
+pub use builder::{Builder, Counts, Discovery, Hfi, HfiExtended, Host, Security, Ssns};
 
 use answer::answered;
 

@@ -41,6 +41,12 @@ extern "C" {
         info: *const [u8; 128],
         name: Object,
         name_length: usize,
+        extended_told: u8,
+        extended: *const [u8; 20],
+        iaid: Object,
+        iaid_length: usize,
+        duid: Object,
+        duid_length: usize,
     ) -> u32;
     pub fn nbft_ssns(
         state: *mut [u8; 16],

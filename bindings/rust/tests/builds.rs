@@ -2,19 +2,29 @@
 
 mod common;
 
-use common::{bytes, counts, form, image, MACHINE, MIXED, SAMPLES};
-use nbft::{check, field, Builder, Counts, Discovery, Hfi, Host, Kind, Number, Refusal, Security, Ssns};
+use common::{bytes, counts, form, image, DHCP, MACHINE, MIXED, SAMPLES};
+use nbft::{
+    check, field, object, Builder, Counts, Discovery, Hfi, HfiExtended, Host, Kind, Number, Refusal, Security, Ssns,
+};
 
 /// The position is left unused where it is unused in the table.
 fn is_used(table: &[u8], kind: Kind, position: u16) -> bool {
     field(table, kind, position, 0).expect("every record has an ID").used()
 }
 
+/// An extended info that there is not cannot be read.
 fn retell_hfi(builder: &mut Builder, table: &[u8], position: u16) -> Result<(), Refusal> {
+    let kind = Kind::HfiExtended;
+    let extended: Option<[u8; 20]> = field(table, kind, position, 0).ok().map(|_| image(table, kind, position));
     builder.hfi(&Hfi {
         record: &image(table, Kind::Hfi, position),
         info: &image(table, Kind::HfiInfo, position),
         name: bytes(table, Kind::HfiInfo, position, 104),
+        extended: extended.as_ref().map(|record| HfiExtended {
+            record,
+            iaid: bytes(table, kind, position, 8),
+            duid: bytes(table, kind, position, 14),
+        }),
     })
 }
 
@@ -138,6 +148,94 @@ fn indexes_are_judged_at_the_end() {
     builder.discovery(&Discovery { record: &[0; 32], address: b"", nqn: b"" }).unwrap();
     let refusal = builder.finish().unwrap_err();
     assert_eq!(refusal, Refusal { number: Number::Index, kind: Kind::Discovery, position: 1 });
+}
+
+/// A transport info of a version, with flags and an IP origin.
+fn info(version: u8, flags: u8, origin: u8) -> [u8; 128] {
+    let mut info = [0; 128];
+    (info[3], info[6], info[19]) = (version, flags, origin);
+    info
+}
+
+/// An HFI extended info with flags.
+fn extended(flags: u8) -> [u8; 20] {
+    let mut record = [0; 20];
+    record[4] = flags;
+    record
+}
+
+/// A table with one HFI, or what the call for it answers.
+fn with_hfi(info: &[u8; 128], extended: Option<HfiExtended>) -> Result<Vec<u8>, Refusal> {
+    let mut buffer = vec![0; 1000];
+    let mut builder = Builder::new(&mut buffer);
+    builder.begin(&[0; 26], Counts { hfi: 1, ..Counts::default() }, b"").unwrap();
+    builder.host(&Host { record: &[0; 32], nqn: b"nqn.h" }).unwrap();
+    builder.hfi(&Hfi { record: &[0; 32], info, name: b"name", extended })?;
+    Ok(builder.finish().unwrap().to_vec())
+}
+
+#[test]
+fn an_interface_has_the_identity_that_is_told() {
+    let told = HfiExtended { record: &extended(2), iaid: b"iaid", duid: b"duid." };
+    let table = with_hfi(&info(2, 0, 3), Some(told)).unwrap();
+    assert_eq!(table[50], 1);
+    assert_eq!(field(&table, Kind::HfiInfo, 1, 3).unwrap().number(), Some(2));
+    assert_eq!(field(&table, Kind::HfiExtended, 1, 0).unwrap().number(), Some(10));
+    assert_eq!(field(&table, Kind::HfiExtended, 1, 4).unwrap().number(), Some(3));
+    assert_eq!(bytes(&table, Kind::HfiExtended, 1, 8), b"iaid");
+    assert_eq!(bytes(&table, Kind::HfiExtended, 1, 14), b"duid.");
+    assert_eq!(form(&table), table);
+}
+
+#[test]
+fn an_interface_of_version_2_needs_no_identity() {
+    let table = with_hfi(&info(2, 1 << 3, 0), None).unwrap();
+    assert_eq!(table[50], 1);
+    assert_eq!(field(&table, Kind::HfiInfo, 1, 6).unwrap().number(), Some(9));
+    assert_eq!(field(&table, Kind::HfiExtended, 1, 0).unwrap_err().number, Number::NoSuchField);
+    let empty = HfiExtended { record: &extended(0), iaid: b"dropped", duid: b"dropped" };
+    let table = with_hfi(&info(2, 0, 0), Some(empty)).unwrap();
+    assert_eq!(object(&table, Kind::HfiExtended, 1, 8), Ok(None));
+    assert_eq!(object(&table, Kind::HfiExtended, 1, 14), Ok(None));
+}
+
+#[test]
+fn version_1_drops_the_identity() {
+    let told = HfiExtended { record: &extended(2), iaid: b"", duid: &[1; 65_536] };
+    let table = with_hfi(&info(1, 1 << 3, 4), Some(told)).unwrap();
+    assert_eq!(table, with_hfi(&info(1, 0, 4), None).unwrap());
+    assert_eq!(table[50], 0);
+    assert_eq!(field(&table, Kind::HfiExtended, 1, 0).unwrap_err().number, Number::NoSuchField);
+}
+
+#[test]
+fn a_state_has_the_header_minor_behind_the_bytes_used() {
+    let mut buffer = vec![0; 2000];
+    let mut builder = Builder::new(&mut buffer);
+    retell(&mut builder, DHCP).unwrap();
+    let length = builder.finish().unwrap().len() as u64;
+    assert_eq!(builder.used(), length);
+    assert_eq!(builder.state()[12..], [1, 0, 0, 0]);
+}
+
+/// What is wrong here: versions 0 and 3, autoconfigured with DHCP and with an origin, a client identifier under another
+/// origin, and IAID or DUID left out.
+#[test]
+fn heap_records_of_an_interface_are_judged_before_its_objects() {
+    let (plain, known) = (extended(0), extended(2));
+    let told = |record, iaid, duid| Some(HfiExtended { record, iaid, duid });
+    let calls: [([u8; 128], Option<HfiExtended>, Number); 7] = [
+        (info(0, 0, 0), None, Number::HeapRecord),
+        (info(3, 0, 0), None, Number::HeapRecord),
+        (info(2, 0b1100, 0), None, Number::HeapRecord),
+        (info(2, 0b1000, 3), told(&plain, b"", b""), Number::HeapRecord),
+        (info(2, 0, 4), told(&known, b"", b""), Number::HeapRecord),
+        (info(2, 0, 3), told(&known, b"", b"duid"), Number::Reference),
+        (info(2, 0, 3), told(&known, b"iaid", b""), Number::Reference),
+    ];
+    for (info, extended, number) in calls {
+        assert_eq!(with_hfi(&info, extended), Err(Refusal { number, kind: Kind::Hfi, position: 1 }));
+    }
 }
 
 /// What is wrong here: the turn, the state, a two-bit field, an empty NQN and one that is too long, and the room.

@@ -2,7 +2,7 @@
 
 mod common;
 
-use common::{bytes, layout, number, summed, LAYOUTS, MACHINE, MIXED, SAMPLES, SMALLEST};
+use common::{bytes, layout, number, summed, DHCP, LAYOUTS, MACHINE, MIXED, SAMPLES, SMALLEST};
 use nbft::{check, field, object, Kind, Number, Refusal};
 
 fn plain(number: Number) -> Refusal {
@@ -62,11 +62,12 @@ fn fields_and_objects_are_those_of_the_layouts() {
     let asked = LAYOUTS.iter().flat_map(|layout| (0..300).map(move |offset| (layout.kind, offset)));
     for (kind, offset) in asked {
         let position = u16::from(kind as u8 > 2);
+        let table = if kind == Kind::HfiExtended { DHCP } else { MACHINE };
         let length = layout(kind).fields.iter().find(|(start, _)| *start == offset).map(|(_, length)| *length);
-        let read = field(MACHINE, kind, position, offset);
+        let read = field(table, kind, position, offset);
         assert_eq!(read.map(|field| field.bytes().len()), length.ok_or(plain(Number::NoSuchField)));
         let referred = layout(kind).objects.contains(&offset);
-        assert_eq!(object(MACHINE, kind, position, offset).is_ok(), referred, "{kind:?} {offset}");
+        assert_eq!(object(table, kind, position, offset).is_ok(), referred, "{kind:?} {offset}");
     }
 }
 
@@ -76,6 +77,20 @@ fn positions_are_those_of_the_lists() {
     assert_eq!(field(MACHINE, Kind::Ssns, 3, 24), Err(plain(Number::NoSuchField)));
     assert_eq!(field(MACHINE, Kind::Host, 1, 1), Err(plain(Number::NoSuchField)));
     assert_eq!(object(MACHINE, Kind::SsnsExtended, 2, 12), Err(plain(Number::NoSuchField)));
+}
+
+/// The first interface has an identity, the second none, and the third is as version 1 has it.
+#[test]
+fn an_identity_is_read_where_there_is_one() {
+    assert_eq!([1, 2, 3].map(|position| number(DHCP, Kind::HfiInfo, position, 3)), [2, 2, 1]);
+    assert_eq!([1, 2, 3].map(|position| number(DHCP, Kind::HfiInfo, position, 6)), [7, 9, 1]);
+    assert_eq!(number(DHCP, Kind::HfiExtended, 1, 4), 3);
+    assert_eq!(bytes(DHCP, Kind::HfiExtended, 1, 8), [0x00, 0xA1, 0xB2, 0x01]);
+    assert_eq!(bytes(DHCP, Kind::HfiExtended, 1, 14), [0x00, 0x03, 0x00, 0x01, 0x52, 0x54, 0x00, 0xA1, 0xB2, 0x01]);
+    for position in [0, 2, 3, 4] {
+        assert_eq!(field(DHCP, Kind::HfiExtended, position, 0), Err(plain(Number::NoSuchField)));
+    }
+    assert_eq!(object(DHCP, Kind::HfiInfo, 1, 110), Err(plain(Number::NoSuchField)));
 }
 
 #[test]

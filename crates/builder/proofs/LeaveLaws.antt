@@ -28,6 +28,6 @@ module _ (s : State) (b : List ℕ) where
     unfolding leave
     leave-short l = let q = lt-leb (s .used) (length b) l in (rw (e, from, q) refl, rw (e, from, q) refl)
 
-    pub leave-done : s .used ≤ length b → (record { answer = done; state = next s 0 } ≡ leave s b .step) × (b ≡ leave s b .buffer)
+    pub leave-done : s .used ≤ length b → (record { answer = done; state = next s 0 false } ≡ leave s b .step) × (b ≡ leave s b .buffer)
     unfolding leave
     leave-done l = let q = le-leb (s .used) (length b) l in (rw (e, from, q) refl, rw (e, from, q) refl)

@@ -18,7 +18,7 @@ pub fn leave(out: &mut [u8], state: State) -> Step
         return refused(table::refuse(14, 0, 0), state);
     }
     let answer = table::done();
-    let after = builder_state::next(state, 0);
+    let after = builder_state::next(state, 0, false);
     Step {
         answer: answer,
         state: after,

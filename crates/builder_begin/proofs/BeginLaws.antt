@@ -31,8 +31,8 @@ use Rattle.builder_begin.specs.Begins.{headerTold, beginWith, SmallCount
 
 -- ---- the empty state
 
-pub same-state : (s : State) → s .turn ≡ 0 → s .position ≡ 0 → s .hfi ≡ 0 → s .ssns ≡ 0 → s .security ≡ 0 → s .discovery ≡ 0 → eqb (s .used) 0 ≡ sameState s empty
-same-state s a b c d e f = rw (a, b, c, d, e, f) refl
+pub same-state : (s : State) → s .turn ≡ 0 → s .position ≡ 0 → s .hfi ≡ 0 → s .ssns ≡ 0 → s .security ≡ 0 → s .discovery ≡ 0 → s .used ≡ 0 → eqb (s .minor) 0 ≡ sameState s empty
+same-state s a b c d e f g = rw (a, b, c, d, e, f, g) refl
 
 -- ---- what is opened
 
@@ -68,9 +68,9 @@ module _ (oem : List ℕ) (c : Counts) (small : SmallCounts c) (signature : List
   unfolding formLength heapLen opened headerTold header sizeOf sizeEntry
   opened-length h e = omega (arith, heap-start, blank-size (allUnused listKinds cs) blank)
 
-  header-opened : headerFor 0 oem (heapAt m) 0 (length signature) ≡ headFront 0 ++ (0 ∷ headBack m 0)
+  header-opened : headerFor 0 oem (heapAt m) 0 (length signature) 0 ≡ headFront 0 ++ (0 ∷ headBack m 0 0)
   unfolding opened headerTold header slotAt
-  header-opened = header-is m 0 0
+  header-opened = header-is m 0 0 0
 
   control-opened : controlFor cs ≡ controlBytes m
   unfolding opened
@@ -91,11 +91,11 @@ module _ (oem : List ℕ) (c : Counts) (small : SmallCounts c) (signature : List
       ∙ ap (λ (x : List ℕ). replicate 32 0 ++ x) (ap₂ (λ (x y : List ℕ). x ++ y) recs tail))
 
   pub opened-laid : (h : ℕ) → h ≡ recordsEnd (begun cs 0)
-      → concat (headerFor 0 oem h 0 (length signature) ∷ controlFor cs ∷ replicate (h - 128) 0 ∷ signature ∷ []) ≡ laidOut m 0 0 0
+      → concat (headerFor 0 oem h 0 (length signature) 0 ∷ controlFor cs ∷ replicate (h - 128) 0 ∷ signature ∷ []) ≡ laidOut m 0 0 0 0
   unfolding laidOut
   opened-laid h e =
-      ap₂ (λ (x y : List ℕ). x ++ y) (ap (λ (i : ℕ). headerFor 0 oem i 0 (length signature)) (e ∙ sym heap-start) ∙ header-opened) (behind-opened h e)
-      ∙ append-assoc (headFront 0) (0 ∷ headBack m 0) (behind m)
+      ap₂ (λ (x y : List ℕ). x ++ y) (ap (λ (i : ℕ). headerFor 0 oem i 0 (length signature) 0) (e ∙ sym heap-start) ∙ header-opened) (behind-opened h e)
+      ∙ append-assoc (headFront 0) (0 ∷ headBack m 0 0) (behind m)
 
 -- ---- answers
 
@@ -126,15 +126,15 @@ module _ (s : State) (b oem cs signature : List ℕ) where
       begin-refused z = let q = ne-eqb (a .number) 0 z in (rw (e, none, sym f, sym g, q) refl, rw (e, none, sym f, sym g, q) refl)
 
       pub begin-done : a .number ≡ 0
-          → (record { answer = a; state = begun cs n } ≡ beginWith s b oem cs signature .step) × (splice b 0 (laidOut (opened oem cs (headerTold signature)) 0 0 0) ≡ beginWith s b oem cs
+          → (record { answer = a; state = begun cs n } ≡ beginWith s b oem cs signature .step) × (splice b 0 (laidOut (opened oem cs (headerTold signature)) 0 0 0 0) ≡ beginWith s b oem cs
           signature .buffer)
       unfolding beginWith begin
       begin-done z = let q = eq-eqb (a .number) 0 z in (rw (e, none, sym f, sym g, q) refl, rw (e, none, sym f, sym g, q) refl)
 
 -- ---- lengths
 
-pub header-length : (n : ℕ) (oem : List ℕ) (h k d : ℕ) → length oem ≡ 26 → length (headerFor n oem h k d) ≡ 64
-header-length n oem h k d e = sym (ap length (header-joined n oem h k d)) ∙ header-long n oem h k d e
+pub header-length : (n : ℕ) (oem : List ℕ) (h k d v : ℕ) → length oem ≡ 26 → length (headerFor n oem h k d v) ≡ 64
+header-length n oem h k d v e = sym (ap length (header-joined n oem h k d v)) ∙ header-long n oem h k d v e
 
 pub control-length : (h n s d : ℕ) → length (controlFor (h ∷ n ∷ s ∷ d ∷ [])) ≡ 64
 control-length h n s d = sym (ap length (control-joined h n s d)) ∙ control-long h n s d

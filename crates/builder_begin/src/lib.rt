@@ -42,15 +42,18 @@ fn is_empty(state: State) -> bool
     if state.discovery != 0 {
         return false;
     }
-    state.used == 0
+    if state.used != 0 {
+        return false;
+    }
+    state.minor == 0
 }
 
-// The table of which nothing but this is told; `heap` is where its heap starts.
+// The table of which nothing but this is told; `heap` is where its heap starts. The header minor is 0 until a record asks for more.
 fn lay_opened(out: &mut [u8], oem: [u8; 26], counts: Counts, heap: usize, signature: &[u8])
     requires { ⌜ (heap ≡ recordsEnd (begun (counts .hfi ∷ counts .ssns ∷ counts .security ∷ counts .discovery ∷ []) 0)) × (160 ≤ heap) × (heap + length (now signature) ≤ length (now out)) × SmallCounts counts ⌝ }
-    ensures { λ r. ⌜ now (out .exit) ≡ splice (now (out .entry)) 0 (laidOut (opened oem (counts .hfi ∷ counts .ssns ∷ counts .security ∷ counts .discovery ∷ []) (headerTold (now (signature .entry)))) 0 0 0) ⌝ }
+    ensures { λ r. ⌜ now (out .exit) ≡ splice (now (out .entry)) 0 (laidOut (opened oem (counts .hfi ∷ counts .ssns ∷ counts .security ∷ counts .discovery ∷ []) (headerTold (now (signature .entry)))) 0 0 0 0) ⌝ }
 {
-    write_front(out, &oem, counts, 0, heap, 0, signature.len());
+    write_front(out, &oem, counts, 0, heap, 0, signature.len(), 0);
     fill_zero(out, FRONT, heap - FRONT);
     copy_into(out, heap, signature);
 }
@@ -66,6 +69,7 @@ fn begun_state(counts: Counts, used: usize) -> State
         security: counts.security,
         discovery: counts.discovery,
         used: used,
+        minor: 0,
     }
 }
 

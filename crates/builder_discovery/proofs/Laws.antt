@@ -20,7 +20,7 @@ use Rattle.builder_told.specs.Marks.{marked}
 use Rattle.builder_record.specs.Steps.{laid, judgeTests}
 use Rattle.builder_record.proofs.JudgeLaws.{judge-passed}
 use Rattle.builder_record.specs.Calls.{discoveryTold, tellDiscovery}
-use Rattle.builder_record.proofs.FillLaws.{slotsFault, fill-refused, fill-done, fault-short, first-none}
+use Rattle.builder_record.proofs.FillLaws.{slotsFault, unruled, discovery-free, fill-refused, fill-done, fault-short, first-none}
 use Rattle.laws.specs.RefWalk.{first-zero}
 use Rattle.builder_told.specs.Faults.{objectFault}
 
@@ -46,7 +46,10 @@ module _ (s : State) (buf x b address nqn : List ℕ) (a : Answer) (eb : b ≡ m
 
   pub discovery-refused : (a .number ≡ 0 → ⊥) → (record { answer = a; state = s } ≡ tellDiscovery s buf x address nqn .step) × (buf ≡ tellDiscovery s buf x address nqn .buffer)
   unfolding tellDiscovery layoutOf
-  discovery-refused z = fill-refused discovery s buf x b (discoveryTold address nqn) (firstOf (objectFault Optional address) (objectFault Optional nqn)) a eb ea discovery-fault z
+  discovery-refused z =
+      fill-refused discovery s buf x b (discoveryTold address nqn) 0
+      (firstOf (objectFault Optional address) (objectFault Optional nqn)) a eb ea (unruled (discovery-free .0) _ _)
+      discovery-fault z
 
   pub discovery-passed : a .number ≡ 0 → (waits s 6 ≡ true) × (length address ≤ 65535) × (length nqn ≤ 65535)
   unfolding layoutOf discovery
@@ -57,4 +60,7 @@ module _ (s : State) (buf x b address nqn : List ℕ) (a : Answer) (eb : b ≡ m
 
   pub discovery-done : a .number ≡ 0 → laid discovery s buf b (discoveryTold address nqn) ≡ tellDiscovery s buf x address nqn
   unfolding tellDiscovery layoutOf discovery discoveryTold toldSlots
-  discovery-done z = fill-done discovery s buf x b (discoveryTold address nqn) (firstOf (objectFault Optional address) (objectFault Optional nqn)) a eb ea discovery-fault z
+  discovery-done z =
+      fill-done discovery s buf x b (discoveryTold address nqn) 0
+      (firstOf (objectFault Optional address) (objectFault Optional nqn)) a eb ea (unruled (discovery-free .0) _ _)
+      discovery-fault z

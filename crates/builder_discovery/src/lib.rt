@@ -39,7 +39,7 @@ fn lay_discovery(out: &mut [u8], state: State, marked: &[u8], address: &[u8], nq
     write_discovery(&mut out[at..end], marked, used, address.len(), nqn.len());
     copy_into(out, used, address);
     copy_into(out, used + address.len(), nqn);
-    stepped(room, state, written)
+    stepped(room, state, written, false)
 }
 
 // A discovery controller, its address and its NQN.

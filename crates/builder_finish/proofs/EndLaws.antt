@@ -35,7 +35,7 @@ module _ (s : State) (b : List ℕ) where
     unfolding finish
     finish-refused z = let q = le-leb (s .used) (length b) l in let n = ne-eqb (a .number) 0 z in (rw (e, q, sym c, n) refl, rw (e, q, sym c, n) refl)
 
-    pub finish-done : a .number ≡ 0 → (record { answer = a; state = moved s (turn finished 0) (s .used) } ≡ finish s b .step) × (sealed s b ≡ finish s b .buffer)
+    pub finish-done : a .number ≡ 0 → (record { answer = a; state = moved s (turn finished 0) (s .used) (s .minor) } ≡ finish s b .step) × (sealed s b ≡ finish s b .buffer)
     unfolding finish
     finish-done z = let q = le-leb (s .used) (length b) l in let n = eq-eqb (a .number) 0 z in (rw (e, q, sym c, n) refl, rw (e, q, sym c, n) refl)
 
@@ -77,21 +77,34 @@ le-part t a n b k =
 
 -- ---- the finished bytes
 
-module _ (s : State) (b t₁ t₂ t₃ t₄ : List ℕ) (n : ℕ) (en : n ≡ recordsEnd s) (e₁ : t₁ ≡ splice b 40 (le 4 (s .used - n))) (e₂ : t₂ ≡ splice t₁ 4 (le 4 (s .used)))
-    (e₃ : t₃ ≡ splice t₂ 9 (0 ∷ [])) (e₄ : t₄ ≡ splice t₃ 9 (checksum (take (s .used) t₃) ∷ [])) where
+one : (t : List ℕ) (a : ℕ) → a < length t → part t a 1 ≡ getD t a 0 ∷ []
+one t a k = ap (take 1) (drop-cons t a 0 k)
+
+-- a byte that is put back
+byte-back : (t : List ℕ) (a v x : ℕ) → x ≡ getD t a 0 → a < length t → splice (splice t a (v ∷ [])) a (x ∷ []) ≡ t
+byte-back t a v x e k = put-back t a (v ∷ []) (x ∷ []) (ap (λ (m : ℕ). m ∷ []) e ∙ sym (one t a k)) (omega arith)
+
+-- a number of four bytes that is put back
+number-back : (t : List ℕ) (a v x : ℕ) → ((i : ℕ) → getD t i 0 < 256) → x ≡ num t a 4 → a + 4 ≤ length t → splice (splice t a (le 4 v)) a (le 4 x) ≡ t
+number-back t a v x b e k = put-back t a (le 4 v) (le 4 x) (ap (le 4) e ∙ le-part t a 4 b k) (omega arith)
+
+module _ (s : State) (b t₀ t₁ t₂ t₃ t₄ : List ℕ) (n : ℕ) (en : n ≡ recordsEnd s) (e₀ : t₀ ≡ splice b 50 (s .minor ∷ [])) (e₁ : t₁ ≡ splice t₀ 40 (le 4 (s .used - n)))
+    (e₂ : t₂ ≡ splice t₁ 4 (le 4 (s .used))) (e₃ : t₃ ≡ splice t₂ 9 (0 ∷ [])) (e₄ : t₄ ≡ splice t₃ 9 (checksum (take (s .used) t₃) ∷ [])) where
   pub sealed-is : t₄ ≡ sealed s b
   unfolding sealed
   sealed-is =
-      let f₁ : t₁ ≡ splice b 40 (le 4 (s .used - recordsEnd s)) = e₁ ∙ ap (λ (m : ℕ). splice b 40 (le 4 (s .used - m))) en in
-      let f₃ : t₃ ≡ splice (splice (splice b 40 (le 4 (s .used - recordsEnd s))) 4 (le 4 (s .used))) 9 (0 ∷ []) =
+      let f₁ : t₁ ≡ splice (splice b 50 (s .minor ∷ [])) 40 (le 4 (s .used - recordsEnd s)) = e₁ ∙ ap₂ (λ (y : List ℕ) (m : ℕ). splice y 40 (le 4 (s .used - m))) e₀ en in
+      let f₃ : t₃ ≡ splice (splice (splice (splice b 50 (s .minor ∷ [])) 40 (le 4 (s .used - recordsEnd s))) 4 (le 4 (s .used))) 9 (0 ∷ []) =
       e₃ ∙ ap (λ (y : List ℕ). splice y 9 (0 ∷ [])) (e₂ ∙ ap (λ (y : List ℕ). splice y 4 (le 4 (s .used))) f₁) in
       e₄ ∙ ap (λ (y : List ℕ). splice y 9 (checksum (take (s .used) y) ∷ [])) f₃
 
   -- put back in the other order
-  pub all-back : 160 ≤ length b → ((i : ℕ) → getD b i 0 < 256) → ((i : ℕ) → getD t₁ i 0 < 256) → (t₅ t₆ t₇ : List ℕ) (x y z : ℕ) → x ≡ getD t₂ 9 0 → y ≡ num t₁ 4 4 → z ≡ num b 40 4
-      → t₅ ≡ splice t₄ 9 (x ∷ []) → t₆ ≡ splice t₅ 4 (le 4 y) → t₇ ≡ splice t₆ 40 (le 4 z) → t₇ ≡ b
-  all-back k bs bs₁ t₅ t₆ t₇ x y z ex ey ez e₅ e₆ e₇ =
-      let l₁ : length t₁ ≡ length b = ap length e₁ ∙ length-splice b 40 (le 4 (s .used - n)) (omega arith) in
+  pub all-back : 160 ≤ length b → ((i : ℕ) → getD t₀ i 0 < 256) → ((i : ℕ) → getD t₁ i 0 < 256) → (t₅ t₆ t₇ t₈ : List ℕ) (x y z w : ℕ)
+      → x ≡ getD t₂ 9 0 → y ≡ num t₁ 4 4 → z ≡ num t₀ 40 4 → w ≡ getD b 50 0
+      → t₅ ≡ splice t₄ 9 (x ∷ []) → t₆ ≡ splice t₅ 4 (le 4 y) → t₇ ≡ splice t₆ 40 (le 4 z) → t₈ ≡ splice t₇ 50 (w ∷ []) → t₈ ≡ b
+  all-back k bs bs₁ t₅ t₆ t₇ t₈ x y z w ex ey ez ew e₅ e₆ e₇ e₈ =
+      let l₀ : length t₀ ≡ length b = ap length e₀ ∙ length-splice b 50 (s .minor ∷ []) (omega arith) in
+      let l₁ : length t₁ ≡ length b = ap length e₁ ∙ length-splice t₀ 40 (le 4 (s .used - n)) (omega arith) ∙ l₀ in
       let l₂ : length t₂ ≡ length b = ap length e₂ ∙ length-splice t₁ 4 (le 4 (s .used)) (omega arith) ∙ l₁ in
       let l₃ : length t₃ ≡ length b = ap length e₃ ∙ length-splice t₂ 9 (0 ∷ []) (omega arith) ∙ l₂ in
       let c : ℕ = checksum (take (s .used) t₃) in
@@ -99,15 +112,10 @@ module _ (s : State) (b t₁ t₂ t₃ t₄ : List ℕ) (n : ℕ) (en : n ≡ re
       e₅ ∙ ap (λ (u : List ℕ). splice u 9 (x ∷ [])) e₄
       ∙ over t₃ 9 (c ∷ []) (x ∷ []) refl (omega arith)
       ∙ ap (λ (u : List ℕ). splice u 9 (x ∷ [])) e₃
-      ∙ put-back t₂ 9 (0 ∷ []) (x ∷ []) (ap (λ (m : ℕ). m ∷ []) ex ∙ sym (one t₂ 9 (omega arith))) (omega arith) in
-      let g₆ : t₆ ≡ t₁ =
-      e₆ ∙ ap (λ (u : List ℕ). splice u 4 (le 4 y)) (g₅ ∙ e₂)
-      ∙ put-back t₁ 4 (le 4 (s .used)) (le 4 y) (ap (le 4) ey ∙ le-part t₁ 4 4 bs₁ (omega arith)) (omega arith) in
-      e₇ ∙ ap (λ (u : List ℕ). splice u 40 (le 4 z)) (g₆ ∙ e₁)
-      ∙ put-back b 40 (le 4 (s .used - n)) (le 4 z) (ap (le 4) ez ∙ le-part b 40 4 bs (omega arith)) (omega arith)
-    where
-      one : (t : List ℕ) (a : ℕ) → a < length t → part t a 1 ≡ getD t a 0 ∷ []
-      one t a k = ap (take 1) (drop-cons t a 0 k)
+      ∙ byte-back t₂ 9 0 x ex (omega arith) in
+      let g₆ : t₆ ≡ t₁ = e₆ ∙ ap (λ (u : List ℕ). splice u 4 (le 4 y)) (g₅ ∙ e₂) ∙ number-back t₁ 4 (s .used) y bs₁ ey (omega arith) in
+      let g₇ : t₇ ≡ t₀ = e₇ ∙ ap (λ (u : List ℕ). splice u 40 (le 4 z)) (g₆ ∙ e₁) ∙ number-back t₀ 40 (s .used - n) z bs ez (omega arith) in
+      e₈ ∙ ap (λ (u : List ℕ). splice u 50 (w ∷ [])) (g₇ ∙ e₀) ∙ byte-back b 50 (s .minor) w ew (omega arith)
 
 -- where records end
 pub ends-from : (s : State) → 160 ≤ recordsEnd s

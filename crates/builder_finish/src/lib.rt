@@ -17,12 +17,17 @@ ghost use Rattle.table.specs.Numbers.{check};
 ghost use Rattle.table.specs.Builder.{waits, finishing, sealed, Gives};
 ghost use Rattle.table.specs.Builder as definition;
 
+// Where the header has its minor.
+const MINOR: usize = 50;
+
 // What the reader says of the finished bytes; they stay only where it accepts them.
 fn judge_finished(out: &mut [u8], state: State) -> Answer
     requires { ⌜ (waits state finishing ≡ true) × (state .used ≤ length (now out)) ⌝ }
     ensures { λ r. ⌜ (r ≡ check (take (state .used) (sealed state (now (out .entry))))) × (now (out .exit) ≡ pick (eqb (r .number) 0) (sealed state (now (out .entry))) (now (out .entry))) ⌝ }
 {
     let used = state.used;
+    let minor = out[MINOR];
+    put_u8(out, MINOR, state.minor as u8);
     let heap = bytes_wire::u32_at(&out[0..SHORTEST], 40);
     put_u32(out, 40, used - builder_state::records_end(state));
     let length = bytes_wire::u32_at(&out[0..SHORTEST], 4);
@@ -35,6 +40,7 @@ fn judge_finished(out: &mut [u8], state: State) -> Answer
         put_u8(out, 9, sum);
         put_u32(out, 4, length);
         put_u32(out, 40, heap);
+        put_u8(out, MINOR, minor);
     }
     judged
 }

@@ -19,7 +19,7 @@ use Rattle.builder_told.specs.Marks.{marked}
 use Rattle.builder_record.specs.Steps.{laid, judgeTests}
 use Rattle.builder_record.proofs.JudgeLaws.{judge-passed}
 use Rattle.builder_record.specs.Calls.{hostTold, tellHost}
-use Rattle.builder_record.proofs.FillLaws.{slotsFault, fill-refused, fill-done, fault-short}
+use Rattle.builder_record.proofs.FillLaws.{slotsFault, unruled, host-free, fill-refused, fill-done, fault-short}
 use Rattle.laws.specs.RefWalk.{first-zero}
 use Rattle.builder_told.specs.Faults.{objectFault}
 
@@ -43,7 +43,7 @@ module _ (s : State) (buf x b nqn : List ℕ) (a : Answer) (eb : b ≡ marked (l
 
   pub host-refused : (a .number ≡ 0 → ⊥) → (record { answer = a; state = s } ≡ tellHost s buf x nqn .step) × (buf ≡ tellHost s buf x nqn .buffer)
   unfolding tellHost layoutOf
-  host-refused z = fill-refused host s buf x b (hostTold nqn) (objectFault Required nqn) a eb ea host-fault z
+  host-refused z = fill-refused host s buf x b (hostTold nqn) 0 (objectFault Required nqn) a eb ea (unruled (host-free .0) _ _) host-fault z
 
   pub host-passed : a .number ≡ 0 → (waits s 2 ≡ true) × (length nqn ≤ 65535)
   unfolding layoutOf host
@@ -53,4 +53,4 @@ module _ (s : State) (buf x b nqn : List ℕ) (a : Answer) (eb : b ≡ marked (l
 
   pub host-done : a .number ≡ 0 → laid host s buf b (hostTold nqn) ≡ tellHost s buf x nqn
   unfolding tellHost layoutOf host hostTold toldSlots
-  host-done z = fill-done host s buf x b (hostTold nqn) (objectFault Required nqn) a eb ea host-fault z
+  host-done z = fill-done host s buf x b (hostTold nqn) 0 (objectFault Required nqn) a eb ea (unruled (host-free .0) _ _) host-fault z

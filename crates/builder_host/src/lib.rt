@@ -37,7 +37,7 @@ fn lay_host(out: &mut [u8], state: State, marked: &[u8], nqn: &[u8]) -> Step
     let end = at + Host::SIZE;
     write_host(&mut out[at..end], marked, used, written);
     copy_into(out, used, nqn);
-    stepped(room, state, written)
+    stepped(room, state, written, false)
 }
 
 // A host and its NQN.

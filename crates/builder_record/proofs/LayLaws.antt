@@ -1,6 +1,6 @@
 -- A told record and its objects into the buffer. Assumes nothing.
 use mathlib.Core.Path.{_≡_, refl, sym, ap, ap₂, _∙_}
-use mathlib.Core.Bool.{true}
+use mathlib.Core.Bool.{Bool, true}
 use mathlib.Core.List.{List, [], _∷_, _++_}
 use Prim.Native.Nat.{ℕ, _+_, _-_, _≤_}
 use native.Mathlib.Nat.{add-zero}
@@ -58,10 +58,19 @@ module _ (l : Layout) (s : State) (buf b : List ℕ) (ss : Slots (l .refs)) (n :
   laid-refused z es = (step-is r a s er es ∙ rw (room-is, ne-eqb (a .number) 0 z) refl, rw (room-is, ne-eqb (a .number) 0 z) refl)
 
   -- y is the buffer with the record, z with its objects behind the bytes used
-  pub laid-done : a .number ≡ 0 → r .state ≡ next s n → (at : ℕ) (x y z h : List ℕ) → at ≡ placeOf s l → x ≡ patched (s .used) (imageIn l b 0) ss → y ≡ splice buf at x
-      → h ≡ heapOf (s .used) ss → z ≡ splice y (s .used) h → (r ≡ laid l s buf b ss .step) × (z ≡ laid l s buf b ss .buffer)
+  pub laid-done : a .number ≡ 0
+      → (newer : Bool)
+      → newer ≡ l .newer ss
+      → r .state ≡ next s n newer
+      → (at : ℕ) (x y z h : List ℕ)
+      → at ≡ placeOf s l
+      → x ≡ patched (s .used) (imageIn l b 0) ss
+      → y ≡ splice buf at x
+      → h ≡ heapOf (s .used) ss
+      → z ≡ splice y (s .used) h
+      → (r ≡ laid l s buf b ss .step) × (z ≡ laid l s buf b ss .buffer)
   unfolding laid placed
-  laid-done z es at x y v h p q f g e = (
-    step-is r a (next s n) er es ∙ ap (λ (m : ℕ). record { answer = a; state = next s m }) en ∙ rw (room-is, eq-eqb (a .number) 0 z) refl,
+  laid-done z newer ev es at x y v h p q f g e = (
+    step-is r a (next s n newer) er es ∙ ap₂ (λ (m : ℕ) (b : Bool). record { answer = a; state = next s m b }) en ev ∙ rw (room-is, eq-eqb (a .number) 0 z) refl,
     e ∙ ap₂ (λ (t o : List ℕ). splice t (s .used) o) (f ∙ ap₂ (splice buf) p q) g ∙ rw (room-is, eq-eqb (a .number) 0 z) refl,
   )

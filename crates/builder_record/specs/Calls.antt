@@ -1,9 +1,11 @@
 -- The calls that are told a record, by what they are told: its bytes, and its objects in the order of its references. Definitions only.
+use mathlib.Core.Bool.{Bool}
 use mathlib.Core.List.{List}
 use Prim.Native.Nat.{ℕ}
 use Rattle.table.specs.declared.State.{State}
-use Rattle.table.specs.Layout.{Slots, nil, bytes, rec}
-use Rattle.table.specs.FixedLayouts.{host, hfi, ssns, security, discovery, info, extended}
+use Rattle.table.specs.Bytes.{pick}
+use Rattle.table.specs.Layout.{Slots, nil, bytes, gone, rec}
+use Rattle.table.specs.FixedLayouts.{host, hfi, ssns, security, discovery, info, extended, hfiExtended}
 use Rattle.table.specs.Builder.{Outcome, fill}
 
 unfoldable pub hostTold : List ℕ → Slots (host .refs)
@@ -13,13 +15,23 @@ hostTold nqn = bytes nqn nil
 unfoldable pub tellHost : State → (buffer told nqn : List ℕ) → Outcome
 tellHost s buffer told nqn = fill host s buffer told (hostTold nqn)
 
--- own is the transport info, whose object is the host name
-unfoldable pub hfiTold : (own name : List ℕ) → Slots (hfi .refs)
-unfolding hfi info
-hfiTold own name = rec own (bytes name nil) nil
+-- the objects of the HFI extended info
+unfoldable pub identityTold : (iaid duid : List ℕ) → Slots (hfiExtended .refs)
+unfolding hfiExtended
+identityTold iaid duid = bytes iaid (bytes duid nil)
 
-unfoldable pub tellHfi : State → (buffer told own name : List ℕ) → Outcome
-tellHfi s buffer told own name = fill hfi s buffer told (hfiTold own name)
+-- what the transport info names: the host name, and its HFI extended info where one is told
+unfoldable pub infoTold : (name : List ℕ) (told : Bool) (extended iaid duid : List ℕ) → Slots (info .refs)
+unfolding info
+infoTold name told extended iaid duid = bytes name (pick told (rec extended (identityTold iaid duid) nil) (gone nil))
+
+-- own is the transport info
+unfoldable pub hfiTold : (own name : List ℕ) (told : Bool) (extended iaid duid : List ℕ) → Slots (hfi .refs)
+unfolding hfi
+hfiTold own name told extended iaid duid = rec own (infoTold name told extended iaid duid) nil
+
+unfoldable pub tellHfi : State → (buffer x own name : List ℕ) (told : Bool) (extended iaid duid : List ℕ) → Outcome
+tellHfi s buffer x own name told extended iaid duid = fill hfi s buffer x (hfiTold own name told extended iaid duid)
 
 -- the object of the extended info
 unfoldable pub pathTold : List ℕ → Slots (extended .refs)

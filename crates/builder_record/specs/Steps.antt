@@ -10,7 +10,7 @@ use Rattle.table.specs.Objects.{sizeOf}
 use Rattle.table.specs.Builder.{Outcome, outcome, waits, next, placeOf, placed, roomTests}
 use Rattle.laws.specs.Fields.{imageIn}
 
--- 15 and 10, then the fault of a rule of the builder's own, then the first fault of the objects; 0 is none
+-- 15 and 10, then the fault of a rule of the builder's own (12: a further rule of the record's heap records), then the first fault of the objects; 0 is none
 abbrev pub judgeTests : (l : Layout) → State → List ℕ → (own objects : ℕ) → List Test
 judgeTests l s img own objects =
     test (waits s (l .kind)) 15 0 0
@@ -22,5 +22,5 @@ judgeTests l s img own objects =
 -- 17 and 14; where there is room, what is told of the record in its own part of the buffer, and what it names behind the bytes used
 unfoldable pub laid : (l : Layout) → State → (buffer told : List ℕ) → Slots (l .refs) → Outcome
 laid l s buffer told slots =
-    outcome (firstFail (roomTests (s .used + sizeOf slots) (length buffer))) s (next s (sizeOf slots)) buffer
+    outcome (firstFail (roomTests (s .used + sizeOf slots) (length buffer))) s (next s (sizeOf slots) (l .newer slots)) buffer
     (placed buffer (placeOf s l) (s .used) (imageIn l told 0) slots)

@@ -1,4 +1,4 @@
-// The tests before the room is looked at: turn, two-bit fields, objects.
+// The tests before the room is looked at: turn, two-bit fields, heap records, objects.
 use table::Answer;
 use table::State;
 use table::Step;

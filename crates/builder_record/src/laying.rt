@@ -38,12 +38,13 @@ pub fn lay_pieces(
     copy_into(out, at5 + fifth.len(), sixth);
 }
 
-// A done call hands back the next state: `written` bytes of objects and heap records were written.
-pub fn stepped(answer: Answer, state: State, written: usize) -> Step
+// A done call hands back the next state: `written` bytes of objects and heap records were written, and `newer` says that the record asks for the
+// newest header minor.
+pub fn stepped(answer: Answer, state: State, written: usize, newer: bool) -> Step
     requires { ⌜ state .used + written ≤ limit ⌝ }
-    ensures { λ r. ⌜ (r .answer ≡ answer) × (r .state ≡ definition.next state written) ⌝ }
+    ensures { λ r. ⌜ (r .answer ≡ answer) × (r .state ≡ definition.next state written newer) ⌝ }
 {
-    let after = builder_state::next(state, written);
+    let after = builder_state::next(state, written, newer);
     Step {
         answer: answer,
         state: after,

@@ -23,7 +23,7 @@ use Rattle.builder_record.specs.Steps.{laid, judgeTests}
 use Rattle.builder_record.proofs.JudgeLaws.{judge-passed}
 use Rattle.builder_security.specs.SecurityFaults.{securityFault}
 use Rattle.builder_record.specs.Calls.{securityTold, tellSecurity}
-use Rattle.builder_record.proofs.FillLaws.{slotsFault, fill-refused, fill-done, fault-short, first-none}
+use Rattle.builder_record.proofs.FillLaws.{slotsFault, unruled, security-free, fill-refused, fill-done, fault-short, first-none}
 use Rattle.laws.specs.RefWalk.{first-zero}
 use Rattle.builder_told.specs.Faults.{objectFault}
 
@@ -76,7 +76,10 @@ module _ (s : State) (buf x b o₁ o₂ o₃ o₄ o₅ o₆ : List ℕ) (a : Ans
 
     pub security-refused : (a .number ≡ 0 → ⊥) → (record { answer = a; state = s } ≡ tellSecurity s buf x o₁ o₂ o₃ o₄ o₅ o₆ .step) × (buf ≡ tellSecurity s buf x o₁ o₂ o₃ o₄ o₅ o₆ .buffer)
     unfolding tellSecurity layoutOf
-    security-refused z = fill-refused security s buf x b (securityTold o₁ o₂ o₃ o₄ o₅ o₆) (securityFault (imageIn security b 0) o₁ o₂ o₃ o₄ o₅ o₆) a eb ea security-fault z
+    security-refused z =
+        fill-refused security s buf x b (securityTold o₁ o₂ o₃ o₄ o₅ o₆) 0
+        (securityFault (imageIn security b 0) o₁ o₂ o₃ o₄ o₅ o₆) a eb ea (unruled (security-free .0) _ _) security-fault
+        z
 
     pub security-passed : a .number ≡ 0 → (waits s 5 ≡ true) × (length (under (needFor b 6) [] o₁) ≤ 65535) × (length (under (needFor b 12) [] o₂) ≤ 65535) × (length (under (needFor b 18) [] o₃)
         ≤ 65535) × (length (under (needFor b 24) [] o₄) ≤ 65535) × (length (under (needFor b 30) [] o₅) ≤ 65535) × (length (under (needFor b 36) [] o₆) ≤ 65535)
@@ -104,4 +107,4 @@ module _ (s : State) (buf x b o₁ o₂ o₃ o₄ o₅ o₆ : List ℕ) (a : Ans
         let kept : (p : ℕ) (o : List ℕ) → under (needFor b p) [] o ≡ under (needAt p (security .refs) img₅) [] o =
         λ p o. ap (λ (y : List ℕ). under (needAt p (security .refs) y) [] o) told₅ in
         rw (g₁ ∙ kept 6 o₁, g₂ ∙ kept 12 o₂, g₃ ∙ kept 18 o₃, g₄ ∙ kept 24 o₄, g₅ ∙ kept 30 o₅, g₆ ∙ kept 36 o₆)
-        (fill-done security s buf x b (securityTold o₁ o₂ o₃ o₄ o₅ o₆) (securityFault (imageIn security b 0) o₁ o₂ o₃ o₄ o₅ o₆) a eb ea security-fault z)
+        (fill-done security s buf x b (securityTold o₁ o₂ o₃ o₄ o₅ o₆) 0 (securityFault (imageIn security b 0) o₁ o₂ o₃ o₄ o₅ o₆) a eb ea (unruled (security-free .0) _ _) security-fault z)

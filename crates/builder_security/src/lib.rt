@@ -101,7 +101,7 @@ fn lay_security(
         hashes,
         keypath,
     );
-    stepped(room, state, written)
+    stepped(room, state, written, false)
 }
 
 // A security profile and its objects, in the order of their references: those at 6, 12, 18, 24, 30 and 36.

@@ -27,7 +27,7 @@ use Rattle.builder_record.specs.Steps.{laid, judgeTests}
 use Rattle.builder_record.proofs.JudgeLaws.{judge-passed}
 use Rattle.builder_record.specs.Calls.{pathTold, ssnsTold, tellSsns}
 use Rattle.builder_ssns.specs.SsnsParts.{ownNeed, ssnsFault, ssnsSlots, extendedSize, extendedPart, namedPart, laidSsns}
-use Rattle.builder_record.proofs.FillLaws.{nested-fault, slotsFault, fill-refused, fill-done, first-none, fault-short}
+use Rattle.builder_record.proofs.FillLaws.{nested-fault, slotsFault, unruled, ssns-free, fill-refused, fill-done, first-none, fault-short}
 use Rattle.builder_told.specs.Faults.{objectFault}
 
 -- ---- the extended info, in c, and its object
@@ -157,7 +157,7 @@ module _ (s : State) (buf x b address service others nqn e c path : List ℕ) (a
     pub ssns-refused : (a .number ≡ 0 → ⊥)
         → (record { answer = a; state = s } ≡ tellSsns s buf x address service others nqn e path .step) × (buf ≡ tellSsns s buf x address service others nqn e path .buffer)
     unfolding tellSsns layoutOf
-    ssns-refused z = fill-refused ssns s buf x b (ssnsTold address service others nqn e path) (fault₄ (imageIn ssns b 0)) a eb ea ssns-fault z
+    ssns-refused z = fill-refused ssns s buf x b (ssnsTold address service others nqn e path) 0 (fault₄ (imageIn ssns b 0)) a eb ea (unruled (ssns-free .0) _ _) ssns-fault z
 
     pub ssns-passed : a .number ≡ 0 → (waits s 4 ≡ true) × (length address ≤ 65535) × (length service ≤ 65535) × (length others ≤ 65535) × (length nqn ≤ 65535)
         × (length (under (ownNeed (imageIn ssns b 0)) [] path) ≤ 65535)
@@ -185,7 +185,7 @@ module _ (s : State) (buf x b address service others nqn e c path : List ℕ) (a
     unfolding laidSsns ssnsSlots tellSsns layoutOf ssns extended ssnsTold pathTold toldSlots
     ssns-done z =
         ap₂ (λ (img own : List ℕ). laid ssns s buf b (ssnsSlots img address service others nqn own path)) told₄ told₉
-        ∙ fill-done ssns s buf x b (ssnsTold address service others nqn e path) (fault₄ (imageIn ssns b 0)) a eb ea ssns-fault z
+        ∙ fill-done ssns s buf x b (ssnsTold address service others nqn e path) 0 (fault₄ (imageIn ssns b 0)) a eb ea (unruled (ssns-free .0) _ _) ssns-fault z
 
 pub not-own : (img : List ℕ) (f : ℕ) → f ≡ num img 3 2 → f / 16 % 2 ≡ 0 → Ignored ≡ ownNeed img
 unfolding ownNeed

@@ -162,7 +162,7 @@ fn lay_ssns(
         extended,
         own,
     );
-    stepped(room, state, written)
+    stepped(room, state, written, false)
 }
 
 // An SSNS record: address, service, secondary HFI indexes, NQN; its extended info, and the DHCP root path that this names.

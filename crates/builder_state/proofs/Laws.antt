@@ -5,7 +5,7 @@ use mathlib.Core.List.{List, [], _∷_}
 use Prim.Native.Nat.{ℕ, _+_, _-_, _*_, _≤_, _<_}
 use native.Mathlib.Omega.{arith}
 use lib.Ieee.Bits.{is-true}
-use lib.Dec.{T, leb, ltb, eqb, leb→le, eqb→eq}
+use lib.Dec.{T, lit≤, leb, ltb, eqb, leb→le, eqb→eq}
 use borrow.Author.Tests.{ne-eqb, eq-eqb, le-leb, lt-leb, lt-ltb, le-ltb, eqb-false, ltb-true, ltb-false}
 use mir.Facts.{and-yes}
 use Rattle.table.specs.declared.State.{State}
@@ -39,11 +39,15 @@ pub in-list-upto : (s : State) → inList s ≡ true → s .position ≤ countOf
 in-list-upto s e =
     leb→le (s .position) (countOf listKinds (counts s) (s .turn)) (and-yes (leb 1 (s .position)) (leb (s .position) (countOf listKinds (counts s) (s .turn))) (rw e tt) .1)
 
+-- the bytes used lie behind the records and within the limit, and the minor is one that a record can ask for
+abbrev bounded : State → Bool
+bounded s = leb (recordsEnd s) (s .used) && (leb (s .used) limit && leb (s .minor) 1)
+
 pub waits-in-place : (s : State) (k : ℕ) → waits s k ≡ true → inPlace s k ≡ true
 unfolding waits
 waits-in-place s k w =
-    let u = and-yes (eqb (s .turn) k) (inPlace s k && (leb (recordsEnd s) (s .used) && leb (s .used) limit)) (rw w tt) in
-    is-true (inPlace s k) (and-yes (inPlace s k) (leb (recordsEnd s) (s .used) && leb (s .used) limit) (u .1) .0)
+    let u = and-yes (eqb (s .turn) k) (inPlace s k && bounded s) (rw w tt) in
+    is-true (inPlace s k) (and-yes (inPlace s k) (bounded s) (u .1) .0)
 
 pub false-true {ℓ} : {X : Type ℓ} (b : Bool) → false ≡ b → b ≡ true → X
 false-true b e f = absurd (subst (λ (x : Bool). T (not x)) (e ∙ f) tt)
@@ -56,9 +60,13 @@ pub too-low : (s : State) (k n : ℕ) (p : Bool) → s .turn ≡ k → p ≡ inP
 unfolding waits
 too-low s k n p q e f g l = rw (eq-eqb (s .turn) k q, sym e, f, sym g, lt-leb n (s .used) l) refl
 
-pub waits-for : (s : State) (k n : ℕ) (p : Bool) → s .turn ≡ k → p ≡ inPlace s k → p ≡ true → n ≡ recordsEnd s → n ≤ s .used → leb (s .used) 65536 ≡ waits s k
+pub too-high : (s : State) (k n : ℕ) (p : Bool) → s .turn ≡ k → p ≡ inPlace s k → p ≡ true → n ≡ recordsEnd s → n ≤ s .used → 65536 < s .used → false ≡ waits s k
 unfolding waits limit
-waits-for s k n p q e f g l = rw (eq-eqb (s .turn) k q, sym e, f, sym g, le-leb n (s .used) l) refl
+too-high s k n p q e f g l h = rw (eq-eqb (s .turn) k q, sym e, f, sym g, le-leb n (s .used) l, lt-leb (s .used) 65536 h) refl
+
+pub waits-for : (s : State) (k n : ℕ) (p : Bool) → s .turn ≡ k → p ≡ inPlace s k → p ≡ true → n ≡ recordsEnd s → n ≤ s .used → s .used ≤ 65536 → leb (s .minor) 1 ≡ waits s k
+unfolding waits limit
+waits-for s k n p q e f g l h = rw (eq-eqb (s .turn) k q, sym e, f, sym g, le-leb n (s .used) l, le-leb (s .used) 65536 h) refl
 
 -- ---- the state behind
 
@@ -82,9 +90,10 @@ host-has-none : (s : State) → countOf listKinds (counts s) 2 ≡ 0
 unfolding hfi ssns security discovery
 host-has-none s = refl
 
-pub next-inside : (s : State) (n c : ℕ) → c ≡ countOf listKinds (counts s) (s .turn) → s .position < c → moved s (turn (s .turn) (s .position + 1)) (s .used + n) ≡ next s n
+pub next-inside : (s : State) (n c : ℕ) (newer : Bool) → c ≡ countOf listKinds (counts s) (s .turn) → s .position < c
+    → moved s (turn (s .turn) (s .position + 1)) (s .used + n) (pick newer 1 (s .minor)) ≡ next s n newer
 unfolding next
-next-inside s n c e l =
+next-inside s n c newer e l =
     let h : eqb (s .turn) 2 ≡ false = ne-eqb (s .turn) 2 (λ q. omega (arith, e ∙ ap (countOf listKinds (counts s)) q ∙ host-has-none s)) in
     rw (h, after-inside listKinds (counts s) (s .turn) (s .position) (omega arith)) refl
 
@@ -118,10 +127,11 @@ later-is k p h n c d l = two (eqb k 2) refl
     two true e = rw e refl
     two false e = three (eqb k 3) refl e
 
-pub next-later : (s : State) (n c : ℕ) → c ≡ countOf listKinds (counts s) (s .turn) → c ≤ s .position → moved s (laterTurn s) (s .used + n) ≡ next s n
+pub next-later : (s : State) (n c : ℕ) (newer : Bool) → c ≡ countOf listKinds (counts s) (s .turn) → c ≤ s .position
+    → moved s (laterTurn s) (s .used + n) (pick newer 1 (s .minor)) ≡ next s n newer
 unfolding next laterTurn
-next-later s n c e l =
-    ap (λ x. moved s x (s .used + n)) (sym (later-is (s .turn) (s .position) (s .hfi) (s .ssns) (s .security) (s .discovery) (omega arith)))
+next-later s n c newer e l =
+    ap (λ x. moved s x (s .used + n) (pick newer 1 (s .minor))) (sym (later-is (s .turn) (s .position) (s .hfi) (s .ssns) (s .security) (s .discovery) (omega arith)))
 
 -- ---- where records stand
 
@@ -129,9 +139,9 @@ next-later s n c e l =
 pub in-its-list : (s : State) (k : ℕ) → (eqb k 2 || eqb k finishing) ≡ false → waits s k ≡ true → (1 ≤ s .position) × (s .position ≤ countOf listKinds (counts s) k)
 unfolding waits
 in-its-list s k e w =
-    let u = and-yes (eqb (s .turn) k) (inPlace s k && (leb (recordsEnd s) (s .used) && leb (s .used) limit)) (rw w tt) in
+    let u = and-yes (eqb (s .turn) k) (inPlace s k && bounded s) (rw w tt) in
     let q : s .turn ≡ k = eqb→eq (s .turn) k (u .0) in
-    let v : T (inList s) = rw e at (and-yes (inPlace s k) (leb (recordsEnd s) (s .used) && leb (s .used) limit) (u .1) .0) in
+    let v : T (inList s) = rw e at (and-yes (inPlace s k) (bounded s) (u .1) .0) in
     let x = and-yes (leb 1 (s .position)) (leb (s .position) (countOf listKinds (counts s) (s .turn))) v in
     (leb→le 1 (s .position) (x .0), leb→le (s .position) (countOf listKinds (counts s) k) (rw q at (x .1)))
 
@@ -167,19 +177,25 @@ module _ (s : State) where
 pub list-kind : (k : ℕ) → k ≤ 6 → (k ≡ 2 → ⊥) → (eqb k 2 || eqb k finishing) ≡ false
 list-kind k l n = rw (ne-eqb k 2 n, ne-eqb k 7 (λ e. omega arith)) refl
 
--- the bytes used of a state that waits
 -- the limit's number
 pub in-limit : (n : ℕ) → n ≤ 65536 → n ≤ limit
 unfolding limit
 in-limit n h = h
 
-pub used-bounds : (s : State) (k : ℕ) → waits s k ≡ true → (recordsEnd s ≤ s .used) × (s .used ≤ 65536)
+-- the bytes used of a state that waits, and its minor
+state-bounds : (s : State) (k : ℕ) → waits s k ≡ true → (recordsEnd s ≤ s .used) × (s .used ≤ 65536) × (s .minor ≤ 1)
 unfolding waits limit
-used-bounds s k w =
-    let ends : Bool = leb (recordsEnd s) (s .used) && leb (s .used) 65536 in
-    let u = and-yes (inPlace s k) ends (and-yes (eqb (s .turn) k) (inPlace s k && ends) (rw w tt) .1) .1 in
-    let v = and-yes (leb (recordsEnd s) (s .used)) (leb (s .used) 65536) u in
-    (leb→le (recordsEnd s) (s .used) (v .0), leb→le (s .used) 65536 (v .1))
+state-bounds s k w =
+    let u = and-yes (inPlace s k) (bounded s) (and-yes (eqb (s .turn) k) (inPlace s k && bounded s) (rw w tt) .1) .1 in
+    let v = and-yes (leb (recordsEnd s) (s .used)) (leb (s .used) 65536 && leb (s .minor) 1) u in
+    let x = and-yes (leb (s .used) 65536) (leb (s .minor) 1) (v .1) in
+    (leb→le (recordsEnd s) (s .used) (v .0), leb→le (s .used) 65536 (x .0), leb→le (s .minor) 1 (x .1))
+
+pub used-bounds : (s : State) (k : ℕ) → waits s k ≡ true → (recordsEnd s ≤ s .used) × (s .used ≤ 65536)
+used-bounds s k w = let b = state-bounds s k w in (b .0, b .1)
+
+pub minor-bound : (s : State) (k : ℕ) → waits s k ≡ true → s .minor ≤ 1
+minor-bound s k w = state-bounds s k w .2
 
 -- ---- a state that a done call returns waits for its next call
 
@@ -216,28 +232,35 @@ later-ready k h n c d = go (eqb k 2) (eqb k 3) (eqb k 4) (eqb k 5)
     go false false false false = refl
 
 -- what waits is any state in place with bytes used between the records' end and the limit
-waits-by : (s : State) (x : Turn) (u : ℕ) → ready (counts s) (x .kind) (x .position) ≡ true → recordsEnd s ≤ u → u ≤ 65536 → waits (moved s x u) (x .kind) ≡ true
+waits-by : (s : State) (x : Turn) (u v : ℕ) → ready (counts s) (x .kind) (x .position) ≡ true → recordsEnd s ≤ u → u ≤ 65536 → v ≤ 1 → waits (moved s x u v) (x .kind) ≡ true
 unfolding waits limit recordsEnd
-waits-by s x u r l h = rw (eq-eqb (x .kind) (x .kind) refl, r, le-leb (recordsEnd s) u l, le-leb u 65536 h) refl
+waits-by s x u v r l h o = rw (eq-eqb (x .kind) (x .kind) refl, r, le-leb (recordsEnd s) u l, le-leb u 65536 h, le-leb v 1 o) refl
 
-pub next-waits : (s : State) (k n : ℕ) → waits s k ≡ true → s .used + n ≤ 65536 → waits (next s n) (next s n .turn) ≡ true
-next-waits s k n w l = go (ltb (s .position) c) refl
+pub next-waits : (s : State) (k n : ℕ) (newer : Bool) → waits s k ≡ true → s .used + n ≤ 65536 → waits (next s n newer) (next s n newer .turn) ≡ true
+next-waits s k n newer w l = go (ltb (s .position) c) refl
   where
+    v : ℕ
+    v = pick newer 1 (s .minor)
+
+    one : (b : Bool) → pick b 1 (s .minor) ≤ 1
+    one true = lit≤ tt
+    one false = minor-bound s k w
+
     c : ℕ
     c = countOf listKinds (counts s) (s .turn)
 
     low : recordsEnd s ≤ s .used + n
     low = omega (arith, used-bounds s k w .0)
 
-    go : (b : Bool) → ltb (s .position) c ≡ b → waits (next s n) (next s n .turn) ≡ true
+    go : (b : Bool) → ltb (s .position) c ≡ b → waits (next s n newer) (next s n newer .turn) ≡ true
     go true e =
         let p : s .position < c = ltb-true (s .position) c e in
         let x : Turn = turn (s .turn) (s .position + 1) in
         let two : eqb (s .turn) 2 ≡ false = ne-eqb (s .turn) 2 (λ q. omega (arith, p, ap (countOf listKinds (counts s)) q ∙ host-has-none s)) in
         let seven : eqb (s .turn) 7 ≡ false = ne-eqb (s .turn) 7 (λ q. omega (arith, p, ap (countOf listKinds (counts s)) q ∙ finish-has-none s)) in
         let r : ready (counts s) (s .turn) (s .position + 1) ≡ true = rw (two, seven, le-leb 1 (s .position + 1) (omega arith), le-leb (s .position + 1) c (omega arith)) refl in
-        subst (λ (y : State). waits y (y .turn) ≡ true) (next-inside s n c refl p) (waits-by s x (s .used + n) r low l)
+        subst (λ (y : State). waits y (y .turn) ≡ true) (next-inside s n c newer refl p) (waits-by s x (s .used + n) v r low l (one newer))
     go false e =
         let p : c ≤ s .position = ltb-false (s .position) c e in
-        subst (λ (y : State). waits y (y .turn) ≡ true) (next-later s n c refl p)
-        (waits-by s (laterTurn s) (s .used + n) (unfold laterTurn in (later-ready (s .turn) (s .hfi) (s .ssns) (s .security) (s .discovery))) low l)
+        subst (λ (y : State). waits y (y .turn) ≡ true) (next-later s n c newer refl p)
+        (waits-by s (laterTurn s) (s .used + n) v (unfold laterTurn in (later-ready (s .turn) (s .hfi) (s .ssns) (s .security) (s .discovery))) low l (one newer))

@@ -36,6 +36,9 @@ pub const FINISHING: u16 = 7;
 
 const FINISHED: u16 = 8;
 
+// The highest header minor that a record can ask for.
+const NEWEST_MINOR: usize = 1;
+
 // How many records there are to be of a kind.
 pub fn count_of(state: State, kind: u16) -> usize
     ensures { λ r. ⌜ (r ≡ countOf listKinds (counts state) kind) × (r ≤ 255) ⌝ }
@@ -97,7 +100,10 @@ pub fn waits(state: State, kind: u16) -> bool
     if state.used < records_end(state) {
         return false;
     }
-    state.used <= LIMIT
+    if LIMIT < state.used {
+        return false;
+    }
+    state.minor <= NEWEST_MINOR
 }
 
 // The kind of the first list that is not empty, or finish.
@@ -133,8 +139,8 @@ fn later_list(state: State) -> u16
     }
 }
 
-fn moved_to(state: State, kind: u16, position: u16, used: usize) -> State
-    ensures { λ r. ⌜ r ≡ moved state (turn kind position) used ⌝ }
+fn moved_to(state: State, kind: u16, position: u16, used: usize, minor: usize) -> State
+    ensures { λ r. ⌜ r ≡ moved state (turn kind position) used minor ⌝ }
 {
     State {
         turn: kind,
@@ -144,30 +150,42 @@ fn moved_to(state: State, kind: u16, position: u16, used: usize) -> State
         security: state.security,
         discovery: state.discovery,
         used: used,
+        minor: minor,
     }
 }
 
-// The state behind a done call that wrote `written` bytes of objects and heap records.
-pub fn next(state: State, written: usize) -> State
+// The header minor behind a call for a record that asks for the newest or for none: once asked for, it stays.
+fn minor_behind(state: State, newer: bool) -> usize
+    ensures { λ r. ⌜ r ≡ pick newer 1 (state .minor) ⌝ }
+{
+    if newer {
+        return NEWEST_MINOR;
+    }
+    state.minor
+}
+
+// The state behind a done call that wrote `written` bytes of objects and heap records; `newer` says that its record asks for the newest header minor.
+pub fn next(state: State, written: usize, newer: bool) -> State
     requires { ⌜ state .used + written ≤ limit ⌝ }
-    ensures { λ r. ⌜ r ≡ definition.next state written ⌝ }
+    ensures { λ r. ⌜ r ≡ definition.next state written newer ⌝ }
 {
     let used = state.used + written;
+    let minor = minor_behind(state, newer);
     if (state.position as usize) < count_of(state, state.turn) {
-        return moved_to(state, state.turn, state.position + 1, used);
+        return moved_to(state, state.turn, state.position + 1, used, minor);
     }
     let kind = later_list(state);
     if kind == FINISHING {
-        return moved_to(state, FINISHING, 0, used);
+        return moved_to(state, FINISHING, 0, used, minor);
     }
-    moved_to(state, kind, 1, used)
+    moved_to(state, kind, 1, used, minor)
 }
 
 // The finished state.
 pub fn finished(state: State) -> State
-    ensures { λ r. ⌜ r ≡ moved state (turn definition.finished 0) (state .used) ⌝ }
+    ensures { λ r. ⌜ r ≡ moved state (turn definition.finished 0) (state .used) (state .minor) ⌝ }
 {
-    moved_to(state, FINISHED, 0, state.used)
+    moved_to(state, FINISHED, 0, state.used, state.minor)
 }
 
 // Where the first record of a list stands.

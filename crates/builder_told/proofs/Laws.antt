@@ -2,16 +2,16 @@
 use mathlib.Core.Path.{_≡_, refl, sym, ap, ap₂, _∙_, subst}
 use mathlib.Core.Bool.{Bool, true, false}
 use mathlib.Core.List.{List, [], _∷_, _++_, append-nil}
-use Prim.Native.Nat.{ℕ, _+_, _*_, _/_, _<_}
+use Prim.Native.Nat.{ℕ, _+_, _*_, _/_, _≤_, _<_}
 use native.Mathlib.Omega.{arith}
 use lib.ListN.{length, getD, take, drop}
 use lib.Seq.{take-length, drop-length}
-use lib.Dec.{leb, eqb, lit<}
+use lib.Dec.{leb, eqb, lit<, lit≤}
 use borrow.Author.Tests.{ne-eqb, eqb-true}
 use Rattle.table.specs.declared.Need.the-variants.{Required}
-use Rattle.table.specs.Bytes.{pick, splice}
+use Rattle.table.specs.Bytes.{pick, le, splice}
 use Rattle.table.specs.Layout.{Layout, Shape, baseOf}
-use Rattle.table.specs.FixedLayouts.{layoutOf, host, hfi, ssns, security, discovery, info, extended}
+use Rattle.table.specs.FixedLayouts.{layoutOf, host, hfi, ssns, security, discovery, info, extended, hfiExtended}
 use Rattle.table.specs.Builder.{toldImage}
 use Rattle.laws.specs.Fields.{imageIn}
 use Rattle.builder_told.specs.Faults.{objectFault}
@@ -21,9 +21,22 @@ use Rattle.builder_told.specs.Marks.{Tellable, stamped, marked}
 pub further : (t t′ u : List ℕ) (a : ℕ) (bs : List ℕ) → u ≡ splice t a bs → t ≡ t′ → u ≡ splice t′ a bs
 further t t′ u a bs e f = e ∙ ap (λ (x : List ℕ). splice x a bs) f
 
+-- the extended infos, of SSNS and HFI, begin alike
+abbrev Alike : ℕ → Type 0
+Alike k = (18 ≤ baseOf (layoutOf k)) × ((n : ℕ) (x : List ℕ) → stamped (layoutOf k .shape) n x ≡ splice (splice x 0 (k ∷ 1 ∷ [])) 2 (le 2 n))
+
+alike : (Alike 9) × (Alike 10)
+unfolding stamped layoutOf extended hfiExtended
+alike = ((lit≤ tt, λ n x. refl), (lit≤ tt, λ n x. refl))
+
 -- what is left when all other kinds are gone
-pub last-kind : (k : ℕ) → Tellable k → (k ≡ 2 → ⊥) → (k ≡ 3 → ⊥) → (k ≡ 4 → ⊥) → (k ≡ 5 → ⊥) → (k ≡ 6 → ⊥) → (k ≡ 7 → ⊥) → k ≡ 9
-last-kind k t a b c d e f = eqb-true k 9 (rw (ne-eqb k 2 a, ne-eqb k 3 b, ne-eqb k 4 c, ne-eqb k 5 d, ne-eqb k 6 e, ne-eqb k 7 f) at t)
+pub last-kinds : (k : ℕ) → Tellable k → (k ≡ 2 → ⊥) → (k ≡ 3 → ⊥) → (k ≡ 4 → ⊥) → (k ≡ 5 → ⊥) → (k ≡ 6 → ⊥) → (k ≡ 7 → ⊥) → Alike k
+last-kinds k t a b c d e f = go (eqb k 9) refl
+  where
+    go : (z : Bool) → eqb k 9 ≡ z → Alike k
+    go true q = subst Alike (sym (eqb-true k 9 q)) (alike .0)
+    go false q =
+        subst Alike (sym (eqb-true k 10 (rw (ne-eqb k 2 a, ne-eqb k 3 b, ne-eqb k 4 c, ne-eqb k 5 d, ne-eqb k 6 e, ne-eqb k 7 f, q) at t))) (alike .1)
 
 -- ---- objects
 
@@ -37,15 +50,19 @@ required-some (x ∷ o) e = refl
 
 -- ---- any kind that is told
 
-pub by-kind : (P : ℕ → Type 0) → P 2 → P 3 → P 4 → P 5 → P 6 → P 7 → P 9 → (k : ℕ) → Tellable k → P k
-by-kind P a b c d e f g k t = two (eqb k 2) refl
+pub by-kind : (P : ℕ → Type 0) → P 2 → P 3 → P 4 → P 5 → P 6 → P 7 → P 9 → P 10 → (k : ℕ) → Tellable k → P k
+by-kind P a b c d e f g h k t = two (eqb k 2) refl
   where
     at : (n : ℕ) → eqb k n ≡ true → P n → P k
     at n q x = subst P (sym (eqb-true k n q)) x
 
+    nine : (z : Bool) → eqb k 9 ≡ z → eqb k 2 ≡ false → eqb k 3 ≡ false → eqb k 4 ≡ false → eqb k 5 ≡ false → eqb k 6 ≡ false → eqb k 7 ≡ false → P k
+    nine true q q₂ q₃ q₄ q₅ q₆ q₇ = at 9 q g
+    nine false q q₂ q₃ q₄ q₅ q₆ q₇ = at 10 (rw (q₂, q₃, q₄, q₅, q₆, q₇, q) at t) h
+
     seven : (z : Bool) → eqb k 7 ≡ z → eqb k 2 ≡ false → eqb k 3 ≡ false → eqb k 4 ≡ false → eqb k 5 ≡ false → eqb k 6 ≡ false → P k
     seven true q q₂ q₃ q₄ q₅ q₆ = at 7 q f
-    seven false q q₂ q₃ q₄ q₅ q₆ = at 9 (rw (q₂, q₃, q₄, q₅, q₆, q) at t) g
+    seven false q q₂ q₃ q₄ q₅ q₆ = nine (eqb k 9) refl q₂ q₃ q₄ q₅ q₆ q
 
     six : (z : Bool) → eqb k 6 ≡ z → eqb k 2 ≡ false → eqb k 3 ≡ false → eqb k 4 ≡ false → eqb k 5 ≡ false → P k
     six true q q₂ q₃ q₄ q₅ = at 6 q e
@@ -68,8 +85,8 @@ by-kind P a b c d e f g k t = two (eqb k 2) refl
     two false q = three (eqb k 3) refl q
 
 pub flags-inside : (k : ℕ) → Tellable k → layoutOf k .shape .flags .at < baseOf (layoutOf k)
-unfolding layoutOf host hfi ssns security discovery info extended
-flags-inside k t = by-kind (λ n. layoutOf n .shape .flags .at < baseOf (layoutOf n)) (lit< tt) (lit< tt) (lit< tt) (lit< tt) (lit< tt) (lit< tt) (lit< tt) k t
+unfolding layoutOf host hfi ssns security discovery info extended hfiExtended
+flags-inside k t = by-kind (λ n. layoutOf n .shape .flags .at < baseOf (layoutOf n)) (lit< tt) (lit< tt) (lit< tt) (lit< tt) (lit< tt) (lit< tt) (lit< tt) (lit< tt) k t
 
 pub valid-of : (u y y′ : List ℕ) (f f′ : ℕ) → u ≡ splice y f ((getD y f 0 / 2 * 2 + 1) ∷ []) → y ≡ y′ → f ≡ f′ → u ≡ splice y′ f′ ((getD y′ f′ 0 / 2 * 2 + 1) ∷ [])
 valid-of u y y′ f f′ e p q = e ∙ ap₂ (λ (x : List ℕ) (n : ℕ). splice x n ((getD x n 0 / 2 * 2 + 1) ∷ [])) p q

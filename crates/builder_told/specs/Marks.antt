@@ -10,7 +10,7 @@ use Rattle.table.specs.Layout.{Shape}
 
 -- the kinds of records that a caller tells
 abbrev pub Tellable : ℕ → Type 0
-Tellable k = (eqb k 2 || (eqb k 3 || (eqb k 4 || (eqb k 5 || (eqb k 6 || (eqb k 7 || eqb k 9)))))) ≡ true
+Tellable k = (eqb k 2 || (eqb k 3 || (eqb k 4 || (eqb k 5 || (eqb k 6 || (eqb k 7 || (eqb k 9 || eqb k 10))))))) ≡ true
 
 -- x with what is fixed in a record of this shape and, where it has one, the index n
 unfoldable pub stamped : Shape → ℕ → List ℕ → List ℕ

@@ -6,6 +6,7 @@ use bytes_writer::stores::put_u16;
 use table::Discovery;
 use table::Extended;
 use table::Hfi;
+use table::HfiExtended;
 use table::Host;
 use table::Info;
 use table::Security;
@@ -46,13 +47,15 @@ fn stamp(bytes: &mut [u8], kind: u8, position: usize)
             put_u8(bytes, 0, Discovery::ID);
             put_u8(bytes, 2, low(position));
         }
+        // Byte 3, the version of its transport info, stays as told: both versions can be.
         Info::ID => {
-            let lead = [Info::ID, 1, 3, 1];
+            let lead = [Info::ID, 1, 3];
             copy_into(bytes, 0, &lead);
             put_u16(bytes, 4, position);
         }
+        // The extended infos of SSNS and HFI begin alike.
         _ => {
-            let lead = [Extended::ID, 1];
+            let lead = [kind, 1];
             copy_into(bytes, 0, &lead);
             put_u16(bytes, 2, position);
         }
@@ -113,5 +116,15 @@ pub fn mark_18(told: [u8; Extended::SIZE], kind: u8, position: usize) -> [u8; Ex
 {
     let mut bytes = told;
     mark(&mut bytes[0..Extended::SIZE], kind, position);
+    bytes
+}
+
+// HFI extended info by value.
+pub fn mark_20(told: [u8; HfiExtended::SIZE], kind: u8, position: usize) -> [u8; HfiExtended::SIZE]
+    requires { ⌜ Tellable kind × (baseOf (layoutOf kind) ≡ 20) ⌝ }
+    ensures { λ r. ⌜ (r ≡ marked (layoutOf kind .shape) position told) × (length told ≡ 20) × (length r ≡ 20) ⌝ }
+{
+    let mut bytes = told;
+    mark(&mut bytes[0..HfiExtended::SIZE], kind, position);
     bytes
 }

@@ -1,6 +1,7 @@
 // A writer for each kind of record, lent the record's own part of the output. What is told of a record stands in `told`, as long as a record of that kind;
 // the objects that it names stand from `heap` on, one behind the other, and a writer is told how long they are.
 use crate::sizes::nested_sizes;
+use crate::sizes::object_then_nested;
 use crate::sizes::only_nested;
 use crate::sizes::plain_sizes;
 use bytes_writer::records::Sizes;
@@ -8,6 +9,7 @@ use bytes_writer::records::put_refs;
 use table::Discovery;
 use table::Extended;
 use table::Hfi;
+use table::HfiExtended;
 use table::Host;
 use table::Info;
 use table::Security;
@@ -17,7 +19,7 @@ ghost use mathlib.Core.List.{[], _∷_};
 ghost use Prim.Native.Nat.{_+_, _≤_};
 ghost use lib.ListN.{length};
 ghost use Rattle.table.specs.Layout.{baseOf};
-ghost use Rattle.table.specs.FixedLayouts.{layoutOf, host, hfi, ssns, security, discovery, info, extended};
+ghost use Rattle.table.specs.FixedLayouts.{layoutOf, host, hfi, ssns, security, discovery, info, extended, hfiExtended};
 ghost use Rattle.builder_writers.specs.Written.{Lent, Narrow, recordWith};
 
 pub mod sizes; // what the references of a record take
@@ -38,12 +40,12 @@ pub fn write_host(part: &mut [u8], told: &[u8], heap: usize, nqn: usize)
     write_record(part, Host::ID, told, heap, plain_sizes(nqn, 0, 0, 0, 0, 0));
 }
 
-// The transport info stands first in the heap, with its host name behind it.
-pub fn write_hfi(part: &mut [u8], told: &[u8], heap: usize, name: usize)
-    requires { ⌜ Lent hfi (now part) (now told) heap × (name ≤ 65535) ⌝ }
-    ensures { λ r. ⌜ now (part .exit) ≡ recordWith hfi (now (told .entry)) heap (baseOf info ∷ []) ((baseOf info + name) ∷ []) ⌝ }
+// The transport info stands first in the heap, with what it names behind it.
+pub fn write_hfi(part: &mut [u8], told: &[u8], heap: usize, named: usize)
+    requires { ⌜ Lent hfi (now part) (now told) heap × (named ≤ 65535) ⌝ }
+    ensures { λ r. ⌜ now (part .exit) ≡ recordWith hfi (now (told .entry)) heap (baseOf info ∷ []) ((baseOf info + named) ∷ []) ⌝ }
 {
-    write_record(part, Hfi::ID, told, heap, only_nested(Info::SIZE, name));
+    write_record(part, Hfi::ID, told, heap, only_nested(Info::SIZE, named));
 }
 
 // Behind four objects the extended info, which may have no bytes, with its root path.
@@ -97,12 +99,40 @@ pub fn write_discovery(part: &mut [u8], told: &[u8], heap: usize, address: usize
     );
 }
 
-// Transport info, in the heap.
-pub fn write_info(part: &mut [u8], told: &[u8], heap: usize, name: usize)
-    requires { ⌜ Lent info (now part) (now told) heap × (name ≤ 65535) ⌝ }
-    ensures { λ r. ⌜ now (part .exit) ≡ recordWith info (now (told .entry)) heap (name ∷ []) (name ∷ []) ⌝ }
+// Transport info, in the heap: its host name, then an HFI extended info of `extended` bytes, none where it is not told, which takes `span` with its own
+// objects.
+pub fn write_info(
+    part: &mut [u8],
+    told: &[u8],
+    heap: usize,
+    name: usize,
+    extended: usize,
+    span: usize,
+)
+    requires { ⌜ Lent info (now part) (now told) heap × (name ≤ 65535) × (span ≤ 131072) ⌝ }
+    ensures { λ r. ⌜ now (part .exit) ≡ recordWith info (now (told .entry)) heap (name ∷ extended ∷ []) (name ∷ span ∷ []) ⌝ }
 {
-    write_record(part, Info::ID, told, heap, plain_sizes(name, 0, 0, 0, 0, 0));
+    write_record(
+        part,
+        Info::ID,
+        told,
+        heap,
+        object_then_nested(name, extended, span),
+    );
+}
+
+// HFI extended info, in the heap.
+pub fn write_hfi_extended(part: &mut [u8], told: &[u8], heap: usize, iaid: usize, duid: usize)
+    requires { ⌜ Lent hfiExtended (now part) (now told) heap × (iaid ≤ 65535) × (duid ≤ 65535) ⌝ }
+    ensures { λ r. ⌜ now (part .exit) ≡ recordWith hfiExtended (now (told .entry)) heap (iaid ∷ duid ∷ []) (iaid ∷ duid ∷ []) ⌝ }
+{
+    write_record(
+        part,
+        HfiExtended::ID,
+        told,
+        heap,
+        plain_sizes(iaid, duid, 0, 0, 0, 0),
+    );
 }
 
 // Extended info, in the heap.

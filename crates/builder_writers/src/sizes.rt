@@ -54,7 +54,7 @@ pub fn nested_sizes(
     }
 }
 
-// A heap record of `inner` bytes alone, with its own object of `object` bytes.
+// A heap record of `inner` bytes alone, with what it names, `object` bytes.
 pub fn only_nested(inner: usize, object: usize) -> Sizes
     requires { ⌜ (inner ≤ 128) × (object ≤ 65535) ⌝ }
     ensures { λ r. ⌜ (r .len ≡ inner ∷ 0 ∷ 0 ∷ 0 ∷ 0 ∷ 0 ∷ []) × (r .span ≡ (inner + object) ∷ 0 ∷ 0 ∷ 0 ∷ 0 ∷ 0 ∷ []) ⌝ }
@@ -62,5 +62,16 @@ pub fn only_nested(inner: usize, object: usize) -> Sizes
     Sizes {
         len: [inner, 0, 0, 0, 0, 0],
         span: [(inner + object) as u32, 0, 0, 0, 0, 0],
+    }
+}
+
+// An object, then a heap record of `inner` bytes that takes `span` with its own objects.
+pub fn object_then_nested(first: usize, inner: usize, span: usize) -> Sizes
+    requires { ⌜ (first ≤ 65535) × (span ≤ 131072) ⌝ }
+    ensures { λ r. ⌜ (r .len ≡ first ∷ inner ∷ 0 ∷ 0 ∷ 0 ∷ 0 ∷ []) × (r .span ≡ first ∷ span ∷ 0 ∷ 0 ∷ 0 ∷ 0 ∷ []) ⌝ }
+{
+    Sizes {
+        len: [first, inner, 0, 0, 0, 0],
+        span: [first as u32, span as u32, 0, 0, 0, 0],
     }
 }

@@ -20,16 +20,16 @@ use Rattle.bytes_writer.proofs.RecordLaws.{length-ref, ref-for}
 
 -- ---- the header's stores
 
-abbrev pub headerPieces : ℕ → List ℕ → ℕ → ℕ → ℕ → List (List ℕ)
-headerPieces n oem h k d =
-    (0x4E ∷ 0x42 ∷ 0x46 ∷ 0x54 ∷ []) ∷ le 4 n ∷ (1 ∷ []) ∷ (0 ∷ []) ∷ oem ∷ le 4 h ∷ le 4 k ∷ refNum h d ∷ replicate 14 0 ∷ []
+abbrev pub headerPieces : ℕ → List ℕ → ℕ → ℕ → ℕ → ℕ → List (List ℕ)
+headerPieces n oem h k d v =
+    (0x4E ∷ 0x42 ∷ 0x46 ∷ 0x54 ∷ []) ∷ le 4 n ∷ (1 ∷ []) ∷ (0 ∷ []) ∷ oem ∷ le 4 h ∷ le 4 k ∷ refNum h d ∷ (v ∷ []) ∷ replicate 13 0 ∷ []
 
-pub header-long : (n : ℕ) (oem : List ℕ) (h k d : ℕ) → length oem ≡ 26 → length (concat (headerPieces n oem h k d)) ≡ 64
-header-long n oem h k d e = simp (length-append, length-ref, e)
+pub header-long : (n : ℕ) (oem : List ℕ) (h k d v : ℕ) → length oem ≡ 26 → length (concat (headerPieces n oem h k d v)) ≡ 64
+header-long n oem h k d v e = simp (length-append, length-ref, e)
 
-pub header-joined : (n : ℕ) (oem : List ℕ) (h k d : ℕ) → concat (headerPieces n oem h k d) ≡ headerFor n oem h k d
+pub header-joined : (n : ℕ) (oem : List ℕ) (h k d v : ℕ) → concat (headerPieces n oem h k d v) ≡ headerFor n oem h k d v
 unfolding headerFor headFront
-header-joined n oem h k d = refl
+header-joined n oem h k d v = refl
 
 -- ---- the control record's stores
 
@@ -65,10 +65,10 @@ control-joined h n s d =
 
 -- ---- what a meaning's form has there
 
-pub header-is : (m : Meaning) (n k : ℕ) → headerFor n (m .oem) (heapAt m) k (length (slotAt 44 (m .driver))) ≡ headFront n ++ (0 ∷ headBack m k)
+pub header-is : (m : Meaning) (n k v : ℕ) → headerFor n (m .oem) (heapAt m) k (length (slotAt 44 (m .driver))) v ≡ headFront n ++ (0 ∷ headBack m k v)
 unfolding headerFor headBack driverRef
-header-is m n k =
-    ap (λ (r : List ℕ). headFront n ++ (0 ∷ (m .oem ++ (le 4 (heapAt m) ++ (le 4 k ++ (r ++ replicate 14 0))))))
+header-is m n k v =
+    ap (λ (r : List ℕ). headFront n ++ (0 ∷ (m .oem ++ (le 4 (heapAt m) ++ (le 4 k ++ (r ++ (v ∷ replicate 13 0)))))))
     (ref-for (heapAt m) (slotAt 44 (m .driver)))
 
 entry-is : (l : Layout) (a : ℕ) (es : List (Entry l)) → entryFor a (baseOf l) (length es) ≡ entry8 {l = l} a es

@@ -10,8 +10,9 @@ use Rattle.table.specs.Meaning.{headFront}
 use Rattle.bytes_writer.specs.Stores.{refNum}
 
 -- the header of a table of so many bytes, its checksum 0: its heap stands at heap, and first in it a driver signature of signature bytes
-unfoldable pub headerFor : (size : ℕ) (oem : List ℕ) (heap heapsize signature : ℕ) → List ℕ
-headerFor size oem heap heapsize signature = headFront size ++ (0 ∷ (oem ++ (le 4 heap ++ (le 4 heapsize ++ (refNum heap signature ++ replicate 14 0)))))
+unfoldable pub headerFor : (size : ℕ) (oem : List ℕ) (heap heapsize signature minor : ℕ) → List ℕ
+headerFor size oem heap heapsize signature minor =
+    headFront size ++ (0 ∷ (oem ++ (le 4 heap ++ (le 4 heapsize ++ (refNum heap signature ++ (minor ∷ replicate 13 0))))))
 
 -- the entry of a list of so many records of a size
 abbrev pub entryFor : (place size count : ℕ) → List ℕ

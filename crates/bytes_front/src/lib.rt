@@ -14,8 +14,10 @@ ghost use lib.ListN.{length};
 ghost use Rattle.table.specs.Bytes.{le, splice};
 ghost use Rattle.bytes_front.specs.Front.{headerFor, entryFor, controlFor};
 
-// The header's bytes behind the reference to the driver signature are reserved.
-const HEADER_REST: usize = 50;
+// The header's minor stands right behind the reference to the driver signature, and behind it the bytes are reserved.
+const MINOR: usize = 50;
+
+const HEADER_REST: usize = MINOR + 1;
 
 const HEADER_RESERVED: usize = Header::SIZE - HEADER_REST;
 
@@ -46,7 +48,7 @@ pub struct Counts {
     pub discovery: u8,
 }
 
-// The header of a table of `size` bytes, with a heap of `heapsize` bytes at `heap`, and first in it a driver signature of `signature` bytes.
+// The header of a table of `size` bytes, with a heap of `heapsize` bytes at `heap`, first in it a driver signature of `signature` bytes, and a minor.
 // The checksum is 0, so that it can be counted over the finished table and stored then.
 pub fn write_header(
     part: &mut [u8],
@@ -55,10 +57,11 @@ pub fn write_header(
     heap: usize,
     heapsize: usize,
     signature: usize,
+    minor: u8,
 )
     requires { ⌜ length (now part) ≡ 64 ⌝ }
     requires { ⌜ length (now oem) ≡ 26 ⌝ }
-    ensures { λ r. ⌜ now (part .exit) ≡ headerFor size (now (oem .entry)) heap heapsize signature ⌝ }
+    ensures { λ r. ⌜ now (part .exit) ≡ headerFor size (now (oem .entry)) heap heapsize signature minor ⌝ }
 {
     put_u32(part, 0, table::SIGNATURE);
     put_u32(part, 4, size);
@@ -68,6 +71,7 @@ pub fn write_header(
     put_u32(part, 36, heap);
     put_u32(part, 40, heapsize);
     put_slot(part, 44, heap, signature);
+    put_u8(part, MINOR, minor);
     fill_zero(part, HEADER_REST, HEADER_RESERVED);
 }
 
@@ -136,9 +140,10 @@ pub fn write_front(
     heap: usize,
     heapsize: usize,
     signature: usize,
+    minor: u8,
 )
     requires { ⌜ (128 ≤ length (now out)) × (length (now oem) ≡ 26) ⌝ }
-    ensures { λ r. ⌜ now (out .exit) ≡ splice (splice (now (out .entry)) 0 (headerFor size (now (oem .entry)) heap heapsize signature)) 64 (controlFor (counts .hfi ∷ counts .ssns ∷ counts .security ∷ counts .discovery ∷ [])) ⌝ }
+    ensures { λ r. ⌜ now (out .exit) ≡ splice (splice (now (out .entry)) 0 (headerFor size (now (oem .entry)) heap heapsize signature minor)) 64 (controlFor (counts .hfi ∷ counts .ssns ∷ counts .security ∷ counts .discovery ∷ [])) ⌝ }
 {
     write_header(
         &mut out[0..Header::SIZE],
@@ -147,6 +152,7 @@ pub fn write_front(
         heap,
         heapsize,
         signature,
+        minor,
     );
     write_control(&mut out[Header::SIZE..table::FRONT], counts);
 }

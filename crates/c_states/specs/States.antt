@@ -10,7 +10,7 @@ use Rattle.table.specs.Bytes.{pick, num, le}
 use Rattle.table.specs.Builder.{Outcome}
 use Rattle.c_answers.specs.Packed.{packed}
 
--- turn, position, counts, bytes used
+-- turn, position, counts, bytes used, header minor
 unfoldable pub stateOf : List ℕ → State
 stateOf b = record {
   turn = num b 0 2;
@@ -19,11 +19,12 @@ stateOf b = record {
   ssns = getD b 5 0;
   security = getD b 6 0;
   discovery = getD b 7 0;
-  used = num b 8 8;
+  used = num b 8 4;
+  minor = num b 12 4;
 }
 
 unfoldable pub stateBytes : State → List ℕ
-stateBytes s = le 2 (s .turn) ++ (le 2 (s .position) ++ (s .hfi ∷ s .ssns ∷ s .security ∷ s .discovery ∷ le 8 (s .used)))
+stateBytes s = le 2 (s .turn) ++ (le 2 (s .position) ++ (s .hfi ∷ s .ssns ∷ s .security ∷ s .discovery ∷ (le 4 (s .used) ++ le 4 (s .minor))))
 
 -- a refused call leaves the caller's 16 bytes as they were
 unfoldable pub stateAfter : List ℕ → Step → List ℕ

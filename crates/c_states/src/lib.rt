@@ -19,7 +19,8 @@ fn state_in(b: &[u8]) -> State
 {
     let turn = bytes_wire::u16_at(b, 0);
     let position = bytes_wire::u16_at(b, 2);
-    let used = bytes_wire::u32_at(b, 8) + 4294967296 * bytes_wire::u32_at(b, 12);
+    let used = bytes_wire::u32_at(b, 8);
+    let minor = bytes_wire::u32_at(b, 12);
     State {
         turn: turn as u16,
         position: position as u16,
@@ -28,6 +29,7 @@ fn state_in(b: &[u8]) -> State
         security: b[6],
         discovery: b[7],
         used: used,
+        minor: minor,
     }
 }
 
@@ -48,10 +50,10 @@ fn state_bytes(s: State) -> [u8; 16]
     let u1 = u0 / 256;
     let u2 = u1 / 256;
     let u3 = u2 / 256;
-    let u4 = u3 / 256;
-    let u5 = u4 / 256;
-    let u6 = u5 / 256;
-    let u7 = u6 / 256;
+    let m0 = s.minor;
+    let m1 = m0 / 256;
+    let m2 = m1 / 256;
+    let m3 = m2 / 256;
     [
         low(turn),
         low(turn / 256),
@@ -65,10 +67,10 @@ fn state_bytes(s: State) -> [u8; 16]
         low(u1),
         low(u2),
         low(u3),
-        low(u4),
-        low(u5),
-        low(u6),
-        low(u7),
+        low(m0),
+        low(m1),
+        low(m2),
+        low(m3),
     ]
 }
 

@@ -18,13 +18,15 @@ use description_values::numbers::function_into;
 use description_values::numbers::number_into;
 use description_values::strings::string_into;
 use description_words::Form;
+use description_words::INNER;
 use description_words::Place;
+use table::Hfi;
 ghost use Prim.Native.Nat.{_+_, _≤_};
 ghost use lib.ListN.{length};
 ghost use Rattle.description_words.specs.Placed.{Placed};
 
-// Its first line; the bytes of its record and, from 128 on, of the heap record that this names; the line that told each field or object, or 0;
-// where each object begins and ends in the room lent for them, and how much of that is taken.
+// Its first line; the bytes of its record and, from 128 on, of the heap record that this names, and from 32 on of the HFI extended info; the line that
+// told each field or object, or 0; where each object begins and ends in the room lent for them, and how much of that is taken.
 pub struct Draft {
     pub kind: u8,
     pub used: bool,
@@ -42,12 +44,22 @@ pub struct Drafted {
     pub draft: Draft,
 }
 
+// What fields say that are not told: the version of an HFI's transport info is 1, all else zero.
+fn untold(kind: u8) -> [u8; 256] {
+    let mut fields = [0u8; 256];
+    if kind == Hfi::ID {
+        fields[INNER + 3] = 1;
+    }
+    fields
+}
+
 pub fn opened(s: Section, line: usize) -> Draft {
+    let fields = untold(s.kind);
     Draft {
         kind: s.kind,
         used: s.used,
         line: line,
-        fields: [0; 256],
+        fields: fields,
         lines: [0; 256],
         starts: [0; 6],
         ends: [0; 6],

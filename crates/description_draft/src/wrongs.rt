@@ -83,7 +83,10 @@ pub fn write_words(fd: i32, wrong: u8) -> bool {
         11 => io::write_all(fd, b"a field before the first section"),
         12 => io::write_all(fd, b"told before in this section"),
         13 => io::write_all(fd, b"an unused position has no fields"),
-        14 => io::write_all(fd, b"does not count with the flags of this section"),
+        14 => io::write_all(
+            fd,
+            b"does not count with the flags or the version in this section",
+        ),
         15 => io::write_all(
             fd,
             b"out of turn: header and host, one each, then hfi, subsystem, security and discovery",

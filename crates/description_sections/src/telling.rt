@@ -7,6 +7,7 @@ use table::Discovery;
 use table::Extended;
 use table::Header;
 use table::Hfi;
+use table::HfiExtended;
 use table::Host;
 use table::Info;
 use table::Need;
@@ -26,23 +27,41 @@ fn is_ignored(need: Need) -> bool {
     }
 }
 
-// Whether the builder would drop what is told at a place: the flags say that it does not count.
+// Whether the builder would drop what is told at a place: the flags, or the version of a transport info, say that it does not count.
 fn is_dropped(kind: u8, at: usize, b: &[u8]) -> bool
     requires { ⌜ length (now b) ≡ 256 ⌝ }
 {
     match kind {
-        Hfi::ID => is_server_dropped(at, b[134]),
+        Hfi::ID => is_client_dropped(at, b),
         Ssns::ID => is_index_dropped(at, b[3]),
         Security::ID => is_object_dropped(at, b),
         _ => false,
     }
 }
 
-fn is_server_dropped(at: usize, flags: u8) -> bool {
+// Of an HFI: the DHCP server's address, and what the HFI extended info says.
+fn is_client_dropped(at: usize, b: &[u8]) -> bool
+    requires { ⌜ length (now b) ≡ 256 ⌝ }
+{
+    if at < 128 {
+        return is_identity_dropped(at, b[131], b[36]);
+    }
     if at == 216 {
-        return flags / 4 % 2 == 0;
+        return b[134] / 4 % 2 == 0;
     }
     false
+}
+
+// A transport info of version 1 names no HFI extended info, and any but 1 and 2 the builder refuses. IAID and DUID count under flag 1 of that record,
+// so they do not where its flags are not told.
+fn is_identity_dropped(at: usize, version: u8, flags: u8) -> bool {
+    if version == 1 {
+        return true;
+    }
+    if at == 36 {
+        return false;
+    }
+    flags / 2 % 2 == 0
 }
 
 fn is_index_dropped(at: usize, flags: u8) -> bool {
@@ -126,6 +145,12 @@ fn info_bytes(fields: [u8; 256]) -> [u8; 128] {
     b
 }
 
+fn identity_bytes(fields: [u8; 256]) -> [u8; 20] {
+    let mut b = [0u8; 20];
+    copy_into(&mut b, 0, &fields[32..52]);
+    b
+}
+
 fn extended_bytes(fields: [u8; 256]) -> [u8; 18] {
     let mut b = [0u8; 18];
     copy_into(&mut b, 0, &fields[128..146]);
@@ -143,12 +168,24 @@ fn tell_host(out: &mut [u8], s: State, d: Draft, room: &[u8]) -> Step {
     builder::host(out, s, Host { bytes: told }, object(d, 0, room))
 }
 
+// The flags of an HFI extended info, where they are told, tell that there is one.
 fn tell_hfi(out: &mut [u8], s: State, d: Draft, room: &[u8]) -> Step {
     let fields = d.fields;
+    let lines = d.lines;
     let told = bytes_32(fields);
     let inner = info_bytes(fields);
-    let name = object(d, 0, room);
-    builder::hfi(out, s, Hfi { bytes: told }, Info { bytes: inner }, name)
+    let identity = identity_bytes(fields);
+    builder::hfi(
+        out,
+        s,
+        Hfi { bytes: told },
+        Info { bytes: inner },
+        object(d, 0, room),
+        lines[36] != 0,
+        HfiExtended { bytes: identity },
+        object(d, 1, room),
+        object(d, 2, room),
+    )
 }
 
 fn tell_subsystem(out: &mut [u8], s: State, d: Draft, room: &[u8]) -> Step {

@@ -40,6 +40,7 @@ fn start() -> Walk {
         security: 0,
         discovery: 0,
         used: 0,
+        minor: 0,
     };
     let draft = none();
     Walk {

@@ -1,5 +1,6 @@
-// The words of an HFI's section: its transport info, and the host name that this names.
+// The words of an HFI's section: its transport info, the host name and the HFI extended info that this names.
 use crate::Form;
+use crate::IDENTITY;
 use crate::INNER;
 use crate::Place;
 use crate::field;
@@ -16,7 +17,23 @@ fn told(form: Form, at: usize, width: usize) -> Place
     field(form, INNER + at, width)
 }
 
-// What else there is: addresses.
+// The HFI extended info, by which a DHCP server knows the interface.
+fn identity_place(word: &[u8]) -> Place
+    ensures { λ r. ⌜ Placed r ⌝ }
+{
+    if same(word, b"identity_flags") {
+        return field(Form::Number, IDENTITY + 4, 4);
+    }
+    if same(word, b"iaid") {
+        return object(Form::Digits, IDENTITY + 8, 1);
+    }
+    if same(word, b"duid") {
+        return object(Form::Digits, IDENTITY + 14, 2);
+    }
+    nowhere()
+}
+
+// What else there is: addresses, and the HFI extended info.
 fn address_place(word: &[u8]) -> Place
     ensures { λ r. ⌜ Placed r ⌝ }
 {
@@ -35,12 +52,15 @@ fn address_place(word: &[u8]) -> Place
     if same(word, b"dhcp_server") {
         return told(Form::Address, 88, 16);
     }
-    nowhere()
+    identity_place(word)
 }
 
 pub fn hfi_place(word: &[u8]) -> Place
     ensures { λ r. ⌜ Placed r ⌝ }
 {
+    if same(word, b"info_version") {
+        return told(Form::Number, 3, 1);
+    }
     if same(word, b"flags") {
         return told(Form::Number, 6, 1);
     }

@@ -6,7 +6,7 @@ use table::Host;
 use table::Security;
 use table::Ssns;
 
-pub mod hfi; // transport info
+pub mod hfi; // transport info and HFI extended info
 pub mod subsystem; // an SSNS record and its extended info
 
 use check::same;
@@ -29,6 +29,9 @@ pub enum Form {
 
 // Fields and references of a heap record are counted from here on, behind those of the record that names it.
 pub const INNER: usize = 128;
+
+// Those of an HFI extended info, which a heap record names, from here on: behind the HFI's own bytes.
+pub const IDENTITY: usize = 32;
 
 // Where a field stands and how many bytes it has; of an object, which has none there, where its reference stands, and which of the record's objects it is.
 pub struct Place {

@@ -1,6 +1,6 @@
 -- Lists of which nothing is told yet from some position on, and what one more told record changes in them. Assumes nothing.
 use mathlib.Core.Path.{_≡_, refl, sym, ap, ap₂, _∙_, subst}
-use mathlib.Core.Bool.{false}
+use mathlib.Core.Bool.{Bool, true, false, _||_}
 use mathlib.Core.List.{List, [], _∷_, _++_, append-assoc, append-nil}
 use Prim.Native.Nat.{ℕ, zero, suc, _+_, _-_, _*_, _<_}
 use native.Mathlib.Nat.{add-zero, zero-mul}
@@ -10,7 +10,7 @@ use lib.Dec.{T, eqb, eqb-refl}
 use mir.Facts.{and-yes}
 use Rattle.table.specs.Bytes.{le, pick}
 use Rattle.table.specs.Layout.{Body, Entry, Layout, baseOf, env, more, stop, unused}
-use Rattle.table.specs.Objects.{entry8, heapBody, heapEntry, heapList, placesBody, recEntry, recsBody, recsList, sizeBody, sizeEntry, sizeList, spanBody}
+use Rattle.table.specs.Objects.{entry8, heapBody, heapEntry, heapList, newerBody, newerEntry, newerList, placesBody, recEntry, recsBody, recsList, sizeBody, sizeEntry, sizeList, spanBody}
 use Rattle.table.specs.Builder.{allUnused, startOf}
 use Rattle.laws.specs.Lawful.{FitBody, FitEntry, FitList, allOk, okLayout}
 use Rattle.laws.specs.ByteLaws.{pick-yes}
@@ -77,6 +77,16 @@ unfolding sizeBody
 blank-size stop k = refl
 blank-size (more {l = l} es rest) k = ap₂ _+_ (ap sizeList (k .0) ∙ size-blank l (length es)) (blank-size rest (k .1))
 
+new-blank : (l : Layout) (n : ℕ) → newerList {l = l} (replicate n unused) ≡ false
+unfolding newerList newerEntry
+new-blank l zero = refl
+new-blank l (suc n) = new-blank l n
+
+pub blank-newer : {ls : List Layout} (b : Body ls) → AllBlank b → newerBody b ≡ false
+unfolding newerBody
+blank-newer stop k = refl
+blank-newer (more {l = l} es rest) k = ap₂ _||_ (ap newerList (k .0) ∙ new-blank l (length es)) (blank-newer rest (k .1))
+
 fit-blank : (l : Layout) (count : ℕ → ℕ) (pos n : ℕ) → FitList {l = l} count pos (replicate n unused)
 fit-blank l count pos zero = tt
 fit-blank l count pos (suc n) = (tt, fit-blank l count (suc pos) n)
@@ -104,6 +114,15 @@ module _ {l : Layout} where
       ap (λ (r : List ℕ). heapEntry h e ++ r) (heap-split (h + sizeEntry e) es xs)
       ∙ sym (append-assoc (heapEntry h e) (heapList (h + sizeEntry e) es) (heapList (h + sizeEntry e + sizeList es) xs))
       ∙ ap (λ (n : ℕ). (heapEntry h e ++ heapList (h + sizeEntry e) es) ++ heapList n xs) (omega arith)
+
+  new-split : (es xs : List (Entry l)) → newerList (es ++ xs) ≡ (newerList es || newerList xs)
+  unfolding newerList
+  new-split [] xs = refl
+  new-split (e ∷ es) xs = ap (λ (c : Bool). newerEntry e || c) (new-split es xs) ∙ or-assoc (newerEntry e) (newerList es) (newerList xs)
+    where
+      or-assoc : (a b c : Bool) → (a || (b || c)) ≡ ((a || b) || c)
+      or-assoc true b c = refl
+      or-assoc false b c = refl
 
   pub fit-left : (count : ℕ → ℕ) (pos : ℕ) (es xs : List (Entry l)) → FitList count pos (es ++ xs) → FitList count pos es
   fit-left count pos [] xs f = tt
@@ -144,16 +163,28 @@ pub record Effect {l : Layout} (p : ℕ) (x : Entry l) {ls : List Layout} (b b�
   pub span : spanBody b′ ≡ spanBody b
   pub lengths : lengthsOf b′ ≡ lengthsOf b
   pub places : placesBody a b′ ≡ placesBody a b
+  pub newer : newerBody b′ ≡ (newerEntry x || newerBody b)
 
 entry8-same : {l : Layout} (a : ℕ) (es xs : List (Entry l)) (x y : Entry l) → entry8 a (es ++ (x ∷ xs)) ≡ entry8 a (es ++ (y ∷ xs))
 entry8-same a [] xs x y = refl
 entry8-same {l} a (e ∷ es) xs x y =
     ap (λ (n : ℕ). le 4 a ++ (le 2 (baseOf l) ++ (1 ∷ suc n ∷ []))) (length-append es (x ∷ xs) ∙ sym (length-append es (y ∷ xs)))
 
+or-move : (a c u r : Bool) → ((a || (c || u)) || r) ≡ (c || ((a || u) || r))
+or-move true true u r = refl
+or-move true false u r = refl
+or-move false true u r = refl
+or-move false false u r = refl
+
+or-swap : (a c r : Bool) → (a || (c || r)) ≡ (c || (a || r))
+or-swap true true r = refl
+or-swap true false r = refl
+or-swap false c r = refl
+
 -- the first untold position of this list: what stands before it stays, so that record, place and heap grow by the entry told
 here-effect : {l : Layout} {ls : List Layout} (count : ℕ → ℕ) (x : Entry l) (es : List (Entry l)) (n : ℕ) (rest : Body ls) (a h : ℕ) → OkLayout l → FitList count 1 es → AllBlank rest
     → Effect (suc (length es)) x (more (es ++ (unused ∷ replicate n unused)) rest) (more (es ++ (x ∷ replicate n unused)) rest) a h
-unfolding recsBody heapBody sizeBody spanBody placesBody recsList heapList sizeList recEntry sizeEntry heapEntry
+unfolding recsBody heapBody sizeBody spanBody placesBody recsList heapList sizeList recEntry sizeEntry heapEntry newerBody newerList newerEntry
 here-effect {l} {ls} count x es n rest a h o f k =
     let us : List (Entry l) = replicate n unused in
     let z : List ℕ = replicate (n * baseOf l) 0 ++ replicate (spanBody rest) 0 in
@@ -200,11 +231,12 @@ here-effect {l} {ls} count x es n rest a h o f k =
       span = ap (λ (i : ℕ). i * baseOf l + spanBody rest) ln;
       lengths = ap (λ (i : ℕ). i ∷ lengthsOf rest) ln;
       places = ap₂ (λ (u : List ℕ) (i : ℕ). u ++ placesBody (a + i * baseOf l) rest) (entry8-same a es us x unused) ln;
+      newer = rw (new-split es (x ∷ us), new-split es (unused ∷ us)) (or-move (newerList es) (newerEntry x) (newerList us) (newerBody rest));
     }
 
 there-effect : {l l′ : Layout} {ls : List Layout} (count : ℕ → ℕ) (p : ℕ) (x : Entry l) (es : List (Entry l′)) (b b′ : Body ls) (a h : ℕ) → OkLayout l′ → FitList count 1 es
     → eqb (l .kind) (l′ .kind) ≡ false → Effect p x b b′ (a + length es * baseOf l′) (h + sizeList es) → Effect p x (more es b) (more es b′) a h
-unfolding recsBody heapBody sizeBody spanBody placesBody
+unfolding recsBody heapBody sizeBody spanBody placesBody newerBody
 there-effect {l} {l′} {ls} count p x es b b′ a h o f d c =
     let h₁ : ℕ = h + sizeList es in
     let a₁ : ℕ = a + length es * baseOf l′ in
@@ -223,6 +255,7 @@ there-effect {l} {l′} {ls} count p x es b b′ a h o f d c =
       span = ap (λ (i : ℕ). length es * baseOf l′ + i) (c .span);
       lengths = ap (λ (r : List ℕ). length es ∷ r) (c .lengths);
       places = ap (λ (r : List ℕ). entry8 a es ++ r) (c .places);
+      newer = ap (λ (r : Bool). newerList es || r) (c .newer) ∙ or-swap (newerList es) (newerEntry x) (newerBody b);
     }
 
 pub effect : {l : Layout} {ls : List Layout} (count : ℕ → ℕ) (p : ℕ) (x : Entry l) (b b′ : Body ls) (a h : ℕ) → OkLayout l → T (allOk ls) → FitBody count b → Put p x ls b b′ → Effect p x b b′ a h

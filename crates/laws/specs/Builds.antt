@@ -13,7 +13,7 @@ use Rattle.table.specs.declared.Region.{Region}
 use Rattle.table.specs.declared.State.{State}
 use Rattle.table.specs.Bytes.{num, pick, splice}
 use Rattle.table.specs.Layout.{Body, Entry, Layout, Slots, env, more, shaped, stop}
-use Rattle.table.specs.FixedLayouts.{discovery, extended, header, hfi, host, info, listKinds, security, ssns}
+use Rattle.table.specs.FixedLayouts.{discovery, extended, header, hfi, host, info, listKinds, security, ssns, hfiExtended}
 use Rattle.table.specs.Objects.{countIn, sizeOf, spanBody, usedIn}
 use Rattle.table.specs.Rules.{Test, answer, bodyRule, done, first, firstFail, listRule, test}
 use Rattle.table.specs.Meaning.{Meaning, form, formLength, heapAt, laidOut, limit, meaning}
@@ -124,11 +124,11 @@ unfolding host
 host-kind = ok-kind host (λ n. tt)
 
 hfi-kind : ListKind hfi
-unfolding hfi info
+unfolding hfi info hfiExtended
 hfi-kind = list-kind hfi (λ n. tt)
 
 ssns-kind : ListKind ssns
-unfolding ssns extended
+unfolding ssns extended hfiExtended
 ssns-kind = list-kind ssns (λ n. tt)
 
 security-kind : ListKind security
@@ -201,7 +201,7 @@ module _ (buf : List ℕ) (s : State) (b : List ℕ) (m : Meaning) (o : Open buf
       record { inside = i; blank = bl; counted = omega arith; small = omega arith }
 
   -- a position left unused
-  leave-open : T (waits s (s .turn)) → 1 ≤ s .position → Open buf (next s 0) b m
+  leave-open : T (waits s (s .turn)) → 1 ≤ s .position → Open buf (next s 0 false) b m
   unfolding hfi ssns security discovery
   leave-open t f =
       let k : ℕ = s .turn in
@@ -220,11 +220,11 @@ module _ (buf : List ℕ) (s : State) (b : List ℕ) (m : Meaning) (o : Open buf
         other 2 e₂ tt,
         blank-leave k (s .position) (m .lists) tt f up (r .blank),
       ) in
-      let nx = next-after s k refl e₂ 0 in
+      let nx = next-after s k refl e₂ 0 false in
       record {
         shaped = o .shaped;
-        counted = o .counted ∙ sym (next-counts s 0 .0);
-        size = next-counts s 0 .1 ∙ omega (arith, o .size);
+        counted = o .counted ∙ sym (next-counts s 0 false .0);
+        size = next-counts s 0 false .1 ∙ omega (arith, o .size);
         short = o .short;
         room = o .room;
         laid = o .laid;
@@ -232,6 +232,7 @@ module _ (buf : List ℕ) (s : State) (b : List ℕ) (m : Meaning) (o : Open buf
         started = rw nx (a .0);
         unfinished = rw nx (a .1);
         untold = rw nx (rw (a .2) (a .3));
+        minorIs = next-counts s 0 false .2 ∙ o .minorIs;
       }
 
   ends : recordsEnd s ≡ heapAt m
@@ -292,12 +293,12 @@ pub data Progress (buf : List ℕ) (x : Build) : Type 0 where
 finish-closed : (buf : List ℕ) (s : State) (b : List ℕ) (m : Meaning)
     → Open buf s b m
     → check (take (s .used) (sealed s b)) .number ≡ 0
-    → Closed buf (moved s (turn finished 0) (s .used)) (sealed s b) m
+    → Closed buf (moved s (turn finished 0) (s .used) (s .minor)) (sealed s b) m
 finish-closed buf s b m o e =
     let w : Shaped m = o .shaped in
-    let f : take (s .used) (sealed s b) ≡ form m = ap (λ (n : ℕ). take n (sealed s b)) (o .size) ∙ sealed-form m w s b (o .size) (ends buf s b m o) (o .room) (o .laid) in
+    let f : take (s .used) (sealed s b) ≡ form m = ap (λ (n : ℕ). take n (sealed s b)) (o .size) ∙ sealed-form m w s b (o .size) (ends buf s b m o) (o .minorIs) (o .room) (o .laid) in
     let d : drop (s .used) (sealed s b) ≡ drop (s .used) buf =
-    ap (λ (n : ℕ). drop n (sealed s b)) (o .size) ∙ sealed-tail m w s b (o .size) (ends buf s b m o) (o .room) ∙ o .tail ∙ ap (λ (n : ℕ). drop n buf) (sym (o .size)) in
+    ap (λ (n : ℕ). drop n (sealed s b)) (o .size) ∙ sealed-tail m w s b (o .size) (ends buf s b m o) (o .minorIs) (o .room) ∙ o .tail ∙ ap (λ (n : ℕ). drop n buf) (sym (o .size)) in
     record {
       turnIs = refl;
       positionIs = refl;
@@ -345,7 +346,7 @@ list-step : (buf : List ℕ) (x : Build) (c : Call) (l : Layout) → ListKind l 
     → Progress buf x → Progress buf (after x c)
 unfolding fill
 list-step buf x c l k y told b′ z d t put p =
-    settle buf x c (fillAnswer l s (length b) img ss) (next s (sizeOf ss)) (placed b (placeOf s l) (s .used) img ss) d p
+    settle buf x c (fillAnswer l s (length b) img ss) (next s (sizeOf ss) (l .newer ss)) (placed b (placeOf s l) (s .used) img ss) d p
     (λ e. rw t (go p (fill-passed l s (length b) img ss e)))
   where
     s : State
@@ -360,7 +361,7 @@ list-step buf x c l k y told b′ z d t put p =
     ss : Slots (l .refs)
     ss = toldSlots (s .position) img told
 
-    go : Progress buf x → Passed l s (length b) img ss → Progress buf (record { state = next s (sizeOf ss); buffer = placed b (placeOf s l) (s .used) img ss; told = withLists (x .told) b′ })
+    go : Progress buf x → Passed l s (length b) img ss → Progress buf (record { state = next s (sizeOf ss) (l .newer ss); buffer = placed b (placeOf s l) (s .used) img ss; told = withLists (x .told) b′ })
     go (fresh q r) P = absurd (clash (l .kind) 0 (sym (turn-is s (l .kind) (P .turnIs)) ∙ turn-of q) (k .notEmpty))
     go (over q) P = absurd (clash (l .kind) finished (sym (turn-is s (l .kind) (P .turnIs)) ∙ q .turnIs) (k .notFinished))
     go (going o) P =
@@ -370,7 +371,7 @@ list-step buf x c l k y told b′ z d t put p =
 host-step : (buf : List ℕ) (x : Build) (y : List ℕ) (told : Slots (host .refs)) → Sized host y told → Progress buf x → Progress buf (after x (tellsHost y told))
 unfolding fill
 host-step buf x y told z p =
-    settle buf x (tellsHost y told) (fillAnswer host s (length b) img ss) (next s (sizeOf ss)) (placed b (placeOf s host) (s .used) img ss) refl p
+    settle buf x (tellsHost y told) (fillAnswer host s (length b) img ss) (next s (sizeOf ss) (host .newer ss)) (placed b (placeOf s host) (s .used) img ss) refl p
     (λ e. go p (fill-passed host s (length b) img ss e))
   where
     s : State
@@ -388,7 +389,7 @@ host-step buf x y told z p =
     go : Progress buf x
         → Passed host s (length b) img ss
         → Progress buf (record {
-          state = next s (sizeOf ss);
+          state = next s (sizeOf ss) (host .newer ss);
           buffer = placed b (placeOf s host) (s .used) img ss;
           told = withOwner (x .told) (entryOf host s y told);
         })
@@ -399,7 +400,7 @@ host-step buf x y told z p =
 begin-step : (buf : List ℕ) (x : Build) (oem : List ℕ) (h n c d : ℕ) (sig : Slots (header .refs)) → Proper (opens oem h n c d sig) → Progress buf x → Progress buf (after x (opens oem h n c d sig))
 unfolding begin
 begin-step buf x oem h n c d sig z p =
-    settle buf x (opens oem h n c d sig) (firstFail ts) (begun cs (formLength m)) (splice (x .buffer) 0 (laidOut m 0 0 0)) refl p
+    settle buf x (opens oem h n c d sig) (firstFail ts) (begun cs (formLength m)) (splice (x .buffer) 0 (laidOut m 0 0 0 0)) refl p
     (λ e. go p (all-pass ts (yes-and (not (eqb r 0) || eqb r 0) true (self-numbered r) tt) e))
   where
     cs : List ℕ
@@ -414,7 +415,7 @@ begin-step buf x oem h n c d sig z p =
     ts : List Test
     ts = test (sameState (x .state) empty) 15 0 0 ∷ test (eqb r 0) r 0 0 ∷ roomTests (formLength m) (length (x .buffer))
 
-    go : Progress buf x → AllPass ts → Progress buf (record { state = begun cs (formLength m); buffer = splice (x .buffer) 0 (laidOut m 0 0 0); told = m })
+    go : Progress buf x → AllPass ts → Progress buf (record { state = begun cs (formLength m); buffer = splice (x .buffer) 0 (laidOut m 0 0 0 0); told = m })
     go (fresh q w) P =
         let room : formLength m ≤ length buf = rw w at (leb→le (formLength m) (length (x .buffer)) (P .1 .1 .1 .0)) in
         rw w (going (begin-open buf oem h n c d sig (z .0) (z .1) (z .2) (z .3) (z .4) (eqb→eq r 0 (P .1 .0)) (leb→le (formLength m) limit (P .1 .1 .0)) room))
@@ -424,7 +425,7 @@ begin-step buf x oem h n c d sig z p =
 leave-step : (buf : List ℕ) (x : Build) → Progress buf x → Progress buf (after x leaves)
 unfolding leave
 leave-step buf x p =
-    settle buf x leaves (firstFail ts) (next s 0) (x .buffer) refl p (λ e. go p (all-pass ts tt e))
+    settle buf x leaves (firstFail ts) (next s 0 false) (x .buffer) refl p (λ e. go p (all-pass ts tt e))
   where
     s : State
     s = x .state
@@ -435,7 +436,7 @@ leave-step buf x p =
     from : AllPass ts → 1 ≤ s .position
     from P = leb→le 1 (s .position) (and-yes (waits s (s .turn)) (leb 1 (s .position)) (P .0) .1)
 
-    go : Progress buf x → AllPass ts → Progress buf (record { state = next s 0; buffer = x .buffer; told = x .told })
+    go : Progress buf x → AllPass ts → Progress buf (record { state = next s 0 false; buffer = x .buffer; told = x .told })
     go (fresh q w) P = absurd (omega (arith, from P, ap (λ (z : State). z .position) q))
     go (over q) P = absurd (omega (arith, from P, q .positionIs))
     go (going o) P = going (leave-open buf s (x .buffer) (x .told) o (and-yes (waits s (s .turn)) (leb 1 (s .position)) (P .0) .0) (from P))
@@ -443,7 +444,7 @@ leave-step buf x p =
 finish-step : (buf : List ℕ) (x : Build) → Progress buf x → Progress buf (after x finishes)
 unfolding finish
 finish-step buf x p =
-    settle buf x finishes (first (firstFail ts) (check t)) (moved s (turn finished 0) (s .used)) (sealed s (x .buffer)) refl p
+    settle buf x finishes (first (firstFail ts) (check t)) (moved s (turn finished 0) (s .used) (s .minor)) (sealed s (x .buffer)) refl p
     (λ e. let u = first-right (firstFail ts) (check t) e in go p (all-pass ts tt (u .0)) (ap (λ (a : Answer). a .number) (sym (u .1)) ∙ e))
   where
     s : State
@@ -455,7 +456,7 @@ finish-step buf x p =
     ts : List Test
     ts = test (waits s finishing) 15 0 0 ∷ test (leb (s .used) (length (x .buffer))) 14 0 0 ∷ []
 
-    go : Progress buf x → AllPass ts → check t .number ≡ 0 → Progress buf (record { state = moved s (turn finished 0) (s .used); buffer = sealed s (x .buffer); told = x .told })
+    go : Progress buf x → AllPass ts → check t .number ≡ 0 → Progress buf (record { state = moved s (turn finished 0) (s .used) (s .minor); buffer = sealed s (x .buffer); told = x .told })
     go (fresh q w) P e = absurd (clash finishing 0 (sym (turn-is s finishing (P .0)) ∙ turn-of q) refl)
     go (over q) P e = absurd (clash finishing finished (sym (turn-is s finishing (P .0)) ∙ q .turnIs) refl)
     go (going o) P e = over (finish-closed buf s (x .buffer) (x .told) o e)

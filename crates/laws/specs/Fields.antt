@@ -2,15 +2,15 @@
 use mathlib.Core.Path.{_≡_, refl, sym, ap, ap₂, _∙_}
 use mathlib.Core.Bool.{Bool, true, _&&_}
 use mathlib.Core.List.{List, [], _∷_}
-use Prim.Native.Nat.{ℕ, zero, suc, _+_, _*_, _%_, _≤_, _<_}
+use Prim.Native.Nat.{ℕ, zero, suc, _+_, _*_, _/_, _%_, _≤_, _<_}
 use native.Mathlib.Nat.{mod-eq-of-lt, lt-of-lt-of-le}
 use native.Mathlib.Numerals.{add-one}
 use native.Mathlib.Omega.{arith}
 use lib.ListN.{length, getD, drop, length-take, length-drop}
 use lib.Seq.{ext-getD, getD-drop, getD-take, drop-cons}
 use lib.Dec.{T, ltb, eqb, ltb→lt}
-use Rattle.table.specs.Bytes.{num, part, same}
-use Rattle.table.specs.Layout.{Keep, Layout, baseOf, image, low, modOf}
+use Rattle.table.specs.Bytes.{num, part, pick, same}
+use Rattle.table.specs.Layout.{Keep, Layout, baseOf, image, low, modOf, sel}
 use Rattle.laws.specs.Lawful.{allKeep, okKeep}
 use Rattle.laws.specs.ByteLaws.{num-suc}
 use Rattle.laws.specs.ImageLaws.{image-at, length-image}
@@ -34,6 +34,14 @@ pub masked : (ks : List Keep) (t : List ℕ) (a j n : ℕ) → T (ltb j (length 
 masked ks t a j n h e =
     image-at ks (drop a t) j (ltb→lt j (length ks) h)
     ∙ ap₂ (λ (x : ℕ) (k : Keep). x % modOf k (drop a t)) (getD-drop a t j 0) e
+
+-- a byte of which other bits count as a bit of byte f is 0 or 1
+pub masked-if : (ks : List Keep) (t : List ℕ) (a j f d m₀ m₁ : ℕ) → T (ltb j (length ks)) → getD ks j (low 1) ≡ sel f d m₀ m₁
+    → getD (image ks (drop a t)) j 0 ≡ getD t (a + j) 0 % pick (eqb (getD t (a + f) 0 % (2 * d) / d) 0) m₀ m₁
+masked-if ks t a j f d m₀ m₁ h e =
+    image-at ks (drop a t) j (ltb→lt j (length ks) h)
+    ∙ ap₂ (λ (x : ℕ) (k : Keep). x % modOf k (drop a t)) (getD-drop a t j 0) e
+    ∙ ap (λ (y : ℕ). getD t (a + j) 0 % pick (eqb (y % (2 * d) / d) 0) m₀ m₁) (getD-drop a t f 0)
 
 pub whole : (ks : List Keep) (t : List ℕ) (a j : ℕ) → T (ltb j (length ks)) → getD ks j (low 1) ≡ low 256 → getD t (a + j) 0 < 256
     → getD (image ks (drop a t)) j 0 ≡ getD t (a + j) 0

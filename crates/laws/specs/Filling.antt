@@ -1,6 +1,6 @@
 -- A build in progress: the buffer holds the table of what was told so far, the rest unused; every done call keeps that. Assumes nothing.
 use mathlib.Core.Path.{_≡_, refl, sym, ap, _∙_, subst}
-use mathlib.Core.Bool.{true, false, not, _||_}
+use mathlib.Core.Bool.{Bool, true, false, not, _||_}
 use mathlib.Core.List.{List, [], _∷_, _++_, append-assoc, append-nil}
 use Prim.Native.Nat.{ℕ, zero, suc, _+_, _-_, _*_, _^_, _≤_, _<_}
 use native.Mathlib.Omega.{arith}
@@ -12,9 +12,9 @@ use Rattle.table.specs.declared.State.{State}
 use Rattle.table.specs.Bytes.{pick, same, splice}
 use Rattle.table.specs.Layout.{Body, Entry, Env, Layout, Refs, Slots, anything, baseOf, bytes, env, nil, pairsRight, unused}
 use Rattle.table.specs.FixedLayouts.{discovery, header, hfi, host, listKinds, security, ssns}
-use Rattle.table.specs.Objects.{countIn, heapBody, heapEntry, heapOf, patched, recEntry, sizeBody, sizeEntry, sizeOf, spanBody}
+use Rattle.table.specs.Objects.{countIn, heapBody, heapEntry, heapOf, newerBody, newerEntry, patched, recEntry, sizeBody, sizeEntry, sizeOf, spanBody}
 use Rattle.table.specs.Rules.{firstOf, ruled, test}
-use Rattle.table.specs.Meaning.{Meaning, behind, controlBytes, driverRef, formLength, headBack, headFront, heapAt, heapLen, laidOut, limit}
+use Rattle.table.specs.Meaning.{Meaning, behind, controlBytes, driverRef, formLength, headBack, headFront, heapAt, heapLen, laidOut, limit, minorOf}
 use Rattle.table.specs.Builder.{
   begun,
   countOf,
@@ -27,6 +27,7 @@ use Rattle.table.specs.Builder.{
   inList,
   isShort,
   moved,
+  nestsRight,
   next,
   opened,
   placeOf,
@@ -47,7 +48,7 @@ use Rattle.laws.specs.FormLaws.{back-part, control-part, front-part, h�
 use Rattle.laws.specs.Sound.{first-of, pick-of}
 use Rattle.laws.specs.AcceptedMeaning.{lawful}
 use Rattle.laws.specs.ToldLaws.{byte-pow, okMarks, okTold, told-fit, told-fixed, told-right, told-valid}
-use Rattle.laws.specs.Blank.{AllBlank, BlankFrom, Effect, Put, blank-heap, blank-recs, blank-size, effect, fit-unused, lengthsOf}
+use Rattle.laws.specs.Blank.{AllBlank, BlankFrom, Effect, Put, blank-heap, blank-newer, blank-recs, blank-size, effect, fit-unused, lengthsOf}
 use Rattle.laws.specs.Turns.{after-other, blank-next, count-is, first-blank, first-other, fit-body-put, missing}
 use Rattle.laws.specs.Runs.{Sized, entryOf, withLists, withOwner}
 
@@ -95,11 +96,12 @@ pub record Open (buf : List ℕ) (s : State) (b : List ℕ) (m : Meaning) : Type
   pub size : s .used ≡ formLength m
   pub short : formLength m ≤ limit
   pub room : formLength m ≤ length b
-  pub laid : Holds b 0 (laidOut m 0 0 0)
+  pub laid : Holds b 0 (laidOut m 0 0 0 0)
   pub tail : drop (formLength m) b ≡ drop (formLength m) buf
   pub started : eqb (s .turn) 0 ≡ false
   pub unfinished : eqb (s .turn) finished ≡ false
   pub untold : Untold s m
+  pub minorIs : s .minor ≡ minorOf m
 
 -- ---- begin
 
@@ -118,10 +120,19 @@ four-small h n c d p q r s (suc (suc zero)) = r
 four-small h n c d p q r s (suc (suc (suc zero))) = s
 four-small h n c d p q r s (suc (suc (suc (suc i)))) = lit< tt
 
+-- the header minor of lists of which nothing is told, and of lists with one more record
+minor-blank : (m : Meaning) → AllBlank (m .lists) → minorOf m ≡ 0
+unfolding minorOf
+minor-blank m k = ap (λ (c : Bool). pick {X = ℕ} c 1 0) (blank-newer (m .lists) k)
+
+pick-or : (c d : Bool) → pick {X = ℕ} c 1 (pick d 1 0) ≡ pick (c || d) 1 0
+pick-or true d = refl
+pick-or false d = refl
+
 pub begin-open : (buf oem : List ℕ) (h n c d : ℕ) (sig : Slots (header .refs)) → length oem ≡ 26 → h < 256 → n < 256 → c < 256 → d < 256
     → let cs = h ∷ n ∷ c ∷ d ∷ [] in let m = opened oem cs sig in
     slotsRule (env (countOf listKinds cs) 0) [] sig ≡ 0 → formLength m ≤ limit → formLength m ≤ length buf
-    → Open buf (begun cs (formLength m)) (splice buf 0 (laidOut m 0 0 0)) m
+    → Open buf (begun cs (formLength m)) (splice buf 0 (laidOut m 0 0 0 0)) m
 unfolding opened
 begin-open buf oem h n c d sig lo ph pn pc pd r short room =
     let cs : List ℕ = h ∷ n ∷ c ∷ d ∷ [] in
@@ -130,19 +141,20 @@ begin-open buf oem h n c d sig lo ph pn pc pd r short room =
     let same : (k : ℕ) → countOf listKinds cs k ≡ countIn (m .lists) k = λ k. ap (λ (x : List ℕ). countOf listKinds x k) (sym (f .1)) ∙ count-is (m .lists) k in
     let g : countOf listKinds cs ≡ countIn (m .lists) = λ i k. same k i in
     let w : Shaped m = record { sized = lo; signed = header-fit (env (countIn (m .lists)) 0) sig (subst (λ (count : ℕ → ℕ). slotsRule (env count 0) [] sig ≡ 0) g r); owned = tt; listed = f .0 } in
-    let len : length (laidOut m 0 0 0) ≡ formLength m = length-laidOut m w 0 0 0 in
-    let fits : 0 + length (laidOut m 0 0 0) ≤ length buf = omega arith in
+    let len : length (laidOut m 0 0 0 0) ≡ formLength m = length-laidOut m w 0 0 0 0 in
+    let fits : 0 + length (laidOut m 0 0 0 0) ≤ length buf = omega arith in
     record {
       shaped = w;
       counted = f .1;
       size = refl;
       short = short;
-      room = omega (arith, length-splice buf 0 (laidOut m 0 0 0) fits);
-      laid = splice-here buf 0 (laidOut m 0 0 0) fits;
-      tail = drop-splice buf 0 (laidOut m 0 0 0) fits (formLength m) (omega arith);
+      room = omega (arith, length-splice buf 0 (laidOut m 0 0 0 0) fits);
+      laid = splice-here buf 0 (laidOut m 0 0 0 0) fits;
+      tail = drop-splice buf 0 (laidOut m 0 0 0 0) fits (formLength m) (omega arith);
       started = refl;
       unfinished = refl;
       untold = (refl, f .2);
+      minorIs = sym (minor-blank m (f .2));
     }
 
 -- ---- a record of a list
@@ -155,13 +167,18 @@ module _ (m : Meaning) (w : Shaped m) (b′ : Body listKinds) (l : Layout) (p : 
   unfolding heapAt
   heap-same = ap (λ (i : ℕ). 160 + i) (f .span)
 
-  back-same : headBack (withLists m b′) 0 ≡ headBack m 0
+  back-same : headBack (withLists m b′) 0 0 ≡ headBack m 0 0
   unfolding headBack driverRef
   back-same = rw heap-same
 
   control-same : controlBytes (withLists m b′) ≡ controlBytes m
   unfolding controlBytes
   control-same = rw (f .places)
+
+  -- the header minor with x told
+  minor-put : (n : ℕ) → n ≡ minorOf m → pick (newerEntry x) 1 n ≡ minorOf (withLists m b′)
+  unfolding minorOf
+  minor-put n e = ap (λ (j : ℕ). pick (newerEntry x) 1 j) e ∙ pick-or (newerEntry x) (newerBody (m .lists)) ∙ ap (λ (c : Bool). pick {X = ℕ} c 1 0) (sym (f .newer))
 
   lists-length : formLength (withLists m b′) ≡ formLength m + sizeEntry x
   unfolding formLength heapLen
@@ -173,16 +190,16 @@ module _ (m : Meaning) (w : Shaped m) (b′ : Body listKinds) (l : Layout) (p : 
   top = omega arith
 
   before : List ℕ
-  before = headFront 0 ++ (0 ∷ (headBack m 0 ++ (controlBytes m ++ (recEntry (h₁ m w) (m .owner) ++ f .front))))
+  before = headFront 0 ++ (0 ∷ (headBack m 0 0 ++ (controlBytes m ++ (recEntry (h₁ m w) (m .owner) ++ f .front))))
 
   beyond : List ℕ
   beyond = f .back ++ (heapOf (h₀ m w) (m .driver) ++ (heapEntry (h₁ m w) (m .owner) ++ heapBody (h₂ m w) (m .lists)))
 
-  was-laid : laidOut m 0 0 0 ≡ before ++ (replicate (baseOf l) 0 ++ beyond)
+  was-laid : laidOut m 0 0 0 0 ≡ before ++ (replicate (baseOf l) 0 ++ beyond)
   unfolding laidOut behind before beyond h₀ h₁ h₂
   was-laid = rw (f .was) (simp append-assoc)
 
-  is-laid : laidOut (withLists m b′) 0 0 0 ≡ before ++ (recEntry (formLength m) x ++ (beyond ++ heapEntry (formLength m) x))
+  is-laid : laidOut (withLists m b′) 0 0 0 0 ≡ before ++ (recEntry (formLength m) x ++ (beyond ++ heapEntry (formLength m) x))
   unfolding laidOut behind before beyond h₀ h₁ h₂
   is-laid = rw (back-same, control-same, heap-same, f .becomes, f .heap, top) (simp append-assoc)
 
@@ -195,6 +212,7 @@ module _ (m : Meaning) (w : Shaped m) (b′ : Body listKinds) (l : Layout) (p : 
 pub record Passed (l : Layout) (s : State) (space : ℕ) (img : List ℕ) (ss : Slots (l .refs)) : Type 0 where
   pub turnIs : T (waits s (l .kind))
   pub pairsAre : T (pairsRight (l .shape) img)
+  pub nestsAre : T (nestsRight img ss)
   pub slotsAre : slotsRule (envOf s) img ss ≡ 0
   pub fits : s .used + sizeOf ss ≤ limit
   pub lent : s .used + sizeOf ss ≤ space
@@ -204,14 +222,15 @@ unfolding fillAnswer
 fill-passed l s space img ss e =
     let n : ℕ = slotsRule (envOf s) img ss in
     let p = all-pass
-    (test (waits s (l .kind)) 15 0 0 ∷ test (pairsRight (l .shape) img) 10 (l .kind) (s .position) ∷ test (eqb n 0) n (l .kind) (s .position) ∷ roomTests (s .used + sizeOf ss) space)
+    (test (waits s (l .kind)) 15 0 0 ∷ test (pairsRight (l .shape) img) 10 (l .kind) (s .position) ∷ test (nestsRight img ss) 12 (l .kind) (s .position) ∷ test (eqb n 0) n (l .kind) (s .position) ∷ roomTests (s .used + sizeOf ss) space)
     (yes-and (not (eqb n 0) || eqb n 0) true (self-numbered n) tt) e in
     record {
       turnIs = p .0;
       pairsAre = p .1 .0;
-      slotsAre = eqb→eq n 0 (p .1 .1 .0);
-      fits = leb→le (s .used + sizeOf ss) limit (p .1 .1 .1 .0);
-      lent = leb→le (s .used + sizeOf ss) space (p .1 .1 .1 .1 .0);
+      nestsAre = p .1 .1 .0;
+      slotsAre = eqb→eq n 0 (p .1 .1 .1 .0);
+      fits = leb→le (s .used + sizeOf ss) limit (p .1 .1 .1 .1 .0);
+      lent = leb→le (s .used + sizeOf ss) space (p .1 .1 .1 .1 .1 .0);
     }
 
 -- a kind whose records can be told
@@ -230,7 +249,7 @@ entry-fits l k s space x told z small fits p =
       fixed = told-fixed (l .shape) n x (k .marksOf n) (z .0);
       valid = told-valid (l .shape) n x (k .marksOf n) (z .0);
       right = told-right (l .shape) n x (k .marksOf n) (z .0) (envOf s) refl fits (p .pairsAre);
-      objects = told-fit (envOf s) small img told (k .toldOf n) (z .1) (p .slotsAre);
+      objects = told-fit (envOf s) small img told (k .toldOf n) (z .1) (p .nestsAre) (p .slotsAre);
     }
 
 -- ---- a done call for a list's record
@@ -252,9 +271,9 @@ in-list s k e t =
 
 -- after a list's record the turn is another list's, or finish
 module _ (s : State) (k : ℕ) (q : s .turn ≡ k) (notHost : eqb k 2 ≡ false) where
-  pub next-after : (n : ℕ) → next s n ≡ moved s (turnAfter k (s .position) listKinds (counts s)) (s .used + n)
+  pub next-after : (n : ℕ) (c : Bool) → next s n c ≡ moved s (turnAfter k (s .position) listKinds (counts s)) (s .used + n) (pick c 1 (s .minor))
   unfolding next
-  next-after n = rw (q, notHost)
+  next-after n c = rw (q, notHost)
 
 -- the turn behind position p of kind k is a later one, from which on nothing is told
 abbrev pub AfterOk : ℕ → ℕ → Body listKinds → List ℕ → Type 0
@@ -291,11 +310,11 @@ module _ (buf : List ℕ) (s : State) (b : List ℕ) (m : Meaning) (o : Open buf
       λ j d h. after-other j (s .position) (l .kind) listKinds cs d h in
       (other 0 e₀ tt, other finished e₈ tt, other 2 e₂ tt, blank-next (s .position) x (m .lists) b′ tt put)
 
-  later : (n : ℕ) → eqb (l .kind) 2 ≡ false → eqb (l .kind) 0 ≡ false → eqb (l .kind) finished ≡ false
-      → (eqb (next s n .turn) 0 ≡ false) × (eqb (next s n .turn) finished ≡ false) × Untold (next s n) (withLists m b′)
-  later n e₂ e₀ e₈ =
+  later : (n : ℕ) (c : Bool) → eqb (l .kind) 2 ≡ false → eqb (l .kind) 0 ≡ false → eqb (l .kind) finished ≡ false
+      → (eqb (next s n c .turn) 0 ≡ false) × (eqb (next s n c .turn) finished ≡ false) × Untold (next s n c) (withLists m b′)
+  later n c e₂ e₀ e₈ =
       let a = subst (AfterOk (l .kind) (s .position) b′) (o .counted) (after-ok e₂ e₀ e₈) in
-      rw (next-after s (l .kind) (i .turnIs) e₂ n) (a .0, a .1, rw (a .2) (a .3))
+      rw (next-after s (l .kind) (i .turnIs) e₂ n c) (a .0, a .1, rw (a .2) (a .3))
 
 -- the kinds of the lists: no turn of another sort
 pub record ListKind (l : Layout) : Type 0 where
@@ -314,16 +333,16 @@ place-open : {rs : Refs} (buf b : List ℕ) (s : State) (m : Meaning) (img : Lis
     → Open buf s (placed b a u img ss) m
 place-open buf b s m img ss a a′ u u′ p q h = rw (p, q) h
 
-pub next-counts : (s : State) (n : ℕ) → (counts (next s n) ≡ counts s) × (next s n .used ≡ s .used + n)
+pub next-counts : (s : State) (n : ℕ) (c : Bool) → (counts (next s n c) ≡ counts s) × (next s n c .used ≡ s .used + n) × (next s n c .minor ≡ pick c 1 (s .minor))
 unfolding next
-next-counts s n = (refl, refl)
+next-counts s n c = (refl, refl, refl)
 
 -- a told record of a list
 pub list-open : (buf : List ℕ) (s : State) (b : List ℕ) (m : Meaning) (o : Open buf s b m) (l : Layout) (k : ListKind l) (x : List ℕ) (told : Slots (l .refs)) (b′ : Body listKinds)
     → Sized l x told → let img = toldImage (l .shape) (s .position) x in let ss = toldSlots (s .position) img told in
     Passed l s (length b) img ss → s .position < 256 → Put (s .position) (entryOf l s x told) listKinds (m .lists) b′
-    → Open buf (next s (sizeOf ss)) (placed b (placeOf s l) (s .used) img ss) (withLists m b′)
-unfolding placed sizeEntry recEntry heapEntry
+    → Open buf (next s (sizeOf ss) (l .newer ss)) (placed b (placeOf s l) (s .used) img ss) (withLists m b′)
+unfolding placed sizeEntry recEntry heapEntry newerEntry
 list-open buf s b m o l k x told b′ z p byte put =
     let img : List ℕ = toldImage (l .shape) (s .position) x in
     let ss : Slots (l .refs) = toldSlots (s .position) img told in
@@ -342,23 +361,23 @@ list-open buf s b m o l k x told b′ z p byte put =
     let Y : List ℕ = beyond m w b′ l (s .position) (entryOf l s x told) f in
     let zs : List ℕ = replicate (baseOf l) 0 in
     let lz : length {A = ℕ} (replicate (baseOf l) 0) ≡ baseOf l = length-replicate (baseOf l) 0 in
-    let e₁ : laidOut m 0 0 0 ≡ X ++ (zs ++ Y) = was-laid m w b′ l (s .position) (entryOf l s x told) f in
-    let e₂ : laidOut (withLists m b′) 0 0 0 ≡ X ++ (R ++ (Y ++ H)) = is-laid m w b′ l (s .position) (entryOf l s x told) f in
+    let e₁ : laidOut m 0 0 0 0 ≡ X ++ (zs ++ Y) = was-laid m w b′ l (s .position) (entryOf l s x told) f in
+    let e₂ : laidOut (withLists m b′) 0 0 0 0 ≡ X ++ (R ++ (Y ++ H)) = is-laid m w b′ l (s .position) (entryOf l s x told) f in
     let a : placeOf s l ≡ length X = list-place buf s b m o l ok (entryOf l s x told) b′ i put (k .notHost) ∙ sym (before-length m w b′ l (s .position) (entryOf l s x told) f) in
-    let n : length (X ++ (zs ++ Y)) ≡ u = ap length (sym e₁) ∙ length-laidOut m w 0 0 0 in
+    let n : length (X ++ (zs ++ Y)) ≡ u = ap length (sym e₁) ∙ length-laidOut m w 0 0 0 0 in
     let n′ : length (X ++ (zs ++ Y)) ≡ length X + (length zs + length Y) = length-append X (zs ++ Y) ∙ ap (λ (j : ℕ). length X + j) (length-append zs Y) in
     let q : s .used ≡ u = o .size in
     let t : formLength (withLists m b′) ≡ u + sizeOf ss = lists-length m w b′ l (s .position) (entryOf l s x told) f in
     let fit = p .fits in
     let lent = p .lent in
-    let lt = later buf s b m o l ok (entryOf l s x told) b′ i put (sizeOf ss) (k .notHost) (k .notEmpty) (k .notFinished) in
+    let lt = later buf s b m o l ok (entryOf l s x told) b′ i put (sizeOf ss) (l .newer ss) (k .notHost) (k .notEmpty) (k .notFinished) in
     let l₁ : length (splice b (length X) R) ≡ length b = length-splice b (length X) R (omega arith) in
     let l₂ : length (splice (splice b (length X) R) u H) ≡ length (splice b (length X) R) = length-splice (splice b (length X) R) u H (omega arith) in
-    place-open buf b (next s (sizeOf ss)) (withLists m b′) img ss (placeOf s l) (length X) (s .used) u a q (
+    place-open buf b (next s (sizeOf ss) (l .newer ss)) (withLists m b′) img ss (placeOf s l) (length X) (s .used) u a q (
     record {
       shaped = list-shaped buf s b m o l ok (entryOf l s x told) b′ i put g′;
-      counted = f .lengths ∙ o .counted ∙ sym (next-counts s (sizeOf ss) .0);
-      size = next-counts s (sizeOf ss) .1 ∙ omega arith;
+      counted = f .lengths ∙ o .counted ∙ sym (next-counts s (sizeOf ss) (l .newer ss) .0);
+      size = next-counts s (sizeOf ss) (l .newer ss) .1 ∙ omega arith;
       short = omega arith;
       room = omega arith;
       laid = rw e₂ (placed-holds b X zs Y R H (length X) u refl (sym n) (lR ∙ sym lz) (omega arith) (rw e₁ at (o .laid)));
@@ -366,6 +385,7 @@ list-open buf s b m o l k x told b′ z p byte put =
       started = lt .0;
       unfinished = lt .1;
       untold = lt .2;
+      minorIs = next-counts s (sizeOf ss) (l .newer ss) .2 ∙ minor-put m w b′ l (s .position) (entryOf l s x told) f (s .minor) (o .minorIs);
     })
 
 -- ---- the host's record
@@ -373,7 +393,7 @@ list-open buf s b m o l k x told b′ z p byte put =
 -- a meaning of whose lists nothing is told
 module _ (m : Meaning) (w : Shaped m) (blank : AllBlank (m .lists)) where
   hostBefore : List ℕ
-  hostBefore = headFront 0 ++ (0 ∷ (headBack m 0 ++ controlBytes m))
+  hostBefore = headFront 0 ++ (0 ∷ (headBack m 0 0 ++ controlBytes m))
 
   hostBeyond : List ℕ
   hostBeyond = replicate (spanBody (m .lists)) 0 ++ heapOf (heapAt m) (m .driver)
@@ -382,7 +402,7 @@ module _ (m : Meaning) (w : Shaped m) (blank : AllBlank (m .lists)) where
   hostHeap : ℕ
   hostHeap = heapAt m + sizeOf (m .driver)
 
-  host-back : (e : Entry host) → headBack (withOwner m e) 0 ≡ headBack m 0
+  host-back : (e : Entry host) → headBack (withOwner m e) 0 0 ≡ headBack m 0 0
   unfolding headBack driverRef heapAt
   host-back e = refl
 
@@ -394,7 +414,7 @@ module _ (m : Meaning) (w : Shaped m) (blank : AllBlank (m .lists)) where
   unfolding heapAt
   host-from e = refl
 
-  host-laid : (e : Entry host) → laidOut (withOwner m e) 0 0 0 ≡ hostBefore ++ (recEntry hostHeap e ++ (hostBeyond ++ heapEntry hostHeap e))
+  host-laid : (e : Entry host) → laidOut (withOwner m e) 0 0 0 0 ≡ hostBefore ++ (recEntry hostHeap e ++ (hostBeyond ++ heapEntry hostHeap e))
   unfolding laidOut behind hostBefore hostBeyond hostHeap
   host-laid e =
       let h : ℕ = heapAt m + sizeOf (m .driver) + sizeEntry e in
@@ -429,13 +449,17 @@ first-ok b k = (
   first-blank b tt k,
 )
 
-next-first : (s : State) (n : ℕ) → s .turn ≡ 2 → next s n ≡ moved s (firstTurn listKinds (counts s)) (s .used + n)
+next-first : (s : State) (n : ℕ) (c : Bool) → s .turn ≡ 2 → next s n c ≡ moved s (firstTurn listKinds (counts s)) (s .used + n) (pick c 1 (s .minor))
 unfolding next
-next-first s n q = rw q
+next-first s n c q = rw q
 
 host-place : (s : State) → placeOf s host ≡ 128
 unfolding placeOf host
 host-place s = refl
+
+host-minor : (m : Meaning) (e : Entry host) (ss : Slots (host .refs)) (n : ℕ) → n ≡ minorOf m → pick (host .newer ss) 1 n ≡ minorOf (withOwner m e)
+unfolding host minorOf
+host-minor m e ss n q = q
 
 host-index : (n : ℕ) → n ≡ 0 → n < 256 ^ (host .shape .index .len)
 unfolding host
@@ -444,7 +468,7 @@ host-index n e = rw e (lit< tt)
 -- the host told: before it the host is unused and the lists are blank, so that the form grows by the host's record and objects alone
 pub host-open : (buf : List ℕ) (s : State) (b : List ℕ) (m : Meaning) (o : Open buf s b m) (k : OkKind host) (x : List ℕ) (told : Slots (host .refs)) → Sized host x told → T (waits s 2)
     → let img = toldImage (host .shape) (s .position) x in let ss = toldSlots (s .position) img told in
-    Passed host s (length b) img ss → Open buf (next s (sizeOf ss)) (placed b (placeOf s host) (s .used) img ss) (withOwner m (entryOf host s x told))
+    Passed host s (length b) img ss → Open buf (next s (sizeOf ss) (host .newer ss)) (placed b (placeOf s host) (s .used) img ss) (withOwner m (entryOf host s x told))
 unfolding placed sizeEntry recEntry heapEntry
 host-open buf s b m o k x told z t p =
     let img : List ℕ = toldImage (host .shape) (s .position) x in
@@ -473,12 +497,12 @@ host-open buf s b m o k x told z t p =
     let Y : List ℕ = hostBeyond m w bl in
     let zs : List ℕ = replicate (baseOf host) 0 in
     let lz : length {A = ℕ} (replicate (baseOf host) 0) ≡ baseOf host = length-replicate (baseOf host) 0 in
-    let e₁ : laidOut m 0 0 0 ≡ X ++ (zs ++ Y) = ap (λ (v : Meaning). laidOut v 0 0 0) same ∙ host-laid m w bl unused
+    let e₁ : laidOut m 0 0 0 0 ≡ X ++ (zs ++ Y) = ap (λ (v : Meaning). laidOut v 0 0 0 0) same ∙ host-laid m w bl unused
     ∙ ap (λ (v : List ℕ). X ++ (zs ++ v)) (append-nil Y) in
-    let e₂ : laidOut (withOwner m (entryOf host s x told)) 0 0 0 ≡ X ++ (R ++ (Y ++ H)) = host-laid m w bl
+    let e₂ : laidOut (withOwner m (entryOf host s x told)) 0 0 0 0 ≡ X ++ (R ++ (Y ++ H)) = host-laid m w bl
     (entryOf host s x told) in
     let a : placeOf s host ≡ length X = host-place s ∙ sym (host-before m w bl) in
-    let n : length (X ++ (zs ++ Y)) ≡ u = ap length (sym e₁) ∙ length-laidOut m w 0 0 0 in
+    let n : length (X ++ (zs ++ Y)) ≡ u = ap length (sym e₁) ∙ length-laidOut m w 0 0 0 0 in
     let n′ : length (X ++ (zs ++ Y)) ≡ length X + (length zs + length Y) = length-append X (zs ++ Y) ∙ ap
     (λ (j : ℕ). length X + j) (length-append zs Y) in
     let len : formLength (withOwner m (entryOf host s x told)) ≡ h + sizeOf ss = host-length m w bl
@@ -486,15 +510,15 @@ host-open buf s b m o k x told z t p =
     let fit = p .fits in
     let lent = p .lent in
     let f = subst (FirstOk (m .lists)) (o .counted) (first-ok (m .lists) bl) in
-    let nx = next-first s (sizeOf ss) (at .0) in
+    let nx = next-first s (sizeOf ss) (host .newer ss) (at .0) in
     let l₁ : length (splice b (length X) R) ≡ length b = length-splice b (length X) R (omega arith) in
     let l₂ : length (splice (splice b (length X) R) h H) ≡ length (splice b (length X) R) = length-splice
     (splice b (length X) R) h H (omega arith) in
-    place-open buf b (next s (sizeOf ss)) (withOwner m (entryOf host s x told)) img ss (placeOf s host) (length X)
+    place-open buf b (next s (sizeOf ss) (host .newer ss)) (withOwner m (entryOf host s x told)) img ss (placeOf s host) (length X)
     (s .used) h a q (record {
       shaped = record { sized = w .sized; signed = w .signed; owned = g′; listed = w .listed };
-      counted = o .counted ∙ sym (next-counts s (sizeOf ss) .0);
-      size = next-counts s (sizeOf ss) .1 ∙ omega arith;
+      counted = o .counted ∙ sym (next-counts s (sizeOf ss) (host .newer ss) .0);
+      size = next-counts s (sizeOf ss) (host .newer ss) .1 ∙ omega arith;
       short = omega arith;
       room = omega arith;
       laid = rw e₂
@@ -504,4 +528,5 @@ host-open buf s b m o k x told z t p =
       started = rw nx (f .0);
       unfinished = rw nx (f .1);
       untold = rw nx (rw (f .2) (f .3));
+      minorIs = next-counts s (sizeOf ss) (host .newer ss) .2 ∙ host-minor m (entryOf host s x told) ss (s .minor) (o .minorIs);
     })

@@ -14,7 +14,7 @@ use Rattle.table.specs.Layout.{region}
 use Rattle.table.specs.FixedLayouts.{host, listKinds}
 use Rattle.table.specs.Objects.{countIn, spanBody}
 use Rattle.table.specs.Rules.{consIf, done, inside, longEnough, versioned}
-use Rattle.table.specs.Meaning.{Meaning, behind, form, formLength, headBack, headFront, heapAt, heapLen, laidOut, limit}
+use Rattle.table.specs.Meaning.{Meaning, behind, form, formLength, headBack, headFront, heapAt, heapLen, laidOut, limit, minorOf}
 use Rattle.table.specs.Numbers.{check, regions, tests}
 use Rattle.laws.specs.Lawful.{Lawful}
 use Rattle.laws.specs.TestLaws.{AllPass}
@@ -28,16 +28,16 @@ pub total-append : (xs ys : List ℕ) → total (xs ++ ys) ≡ total xs + total 
 total-append [] ys = omega arith
 total-append (x ∷ xs) ys = ap (λ (n : ℕ). x + n) (total-append xs ys) ∙ omega arith
 
-total-laidOut : (m : Meaning) (n c k : ℕ) → total (laidOut m n c k) ≡ total (laidOut m n 0 k) + c
+total-laidOut : (m : Meaning) (n c k r : ℕ) → total (laidOut m n c k r) ≡ total (laidOut m n 0 k r) + c
 unfolding laidOut
-total-laidOut m n c k =
+total-laidOut m n c k r =
     let a : List ℕ = headFront n in
-    let b : List ℕ = headBack m k ++ behind m in
+    let b : List ℕ = headBack m k r ++ behind m in
     omega (arith, total-append a (c ∷ b), total-append a (0 ∷ b))
 
 summed : (m : Meaning) → total (form m) % 256 ≡ 0
 unfolding form
-summed m = let t : List ℕ = laidOut m (formLength m) 0 (heapLen m) in omega (arith, total-laidOut m (formLength m) (checksum t) (heapLen m))
+summed m = let t : List ℕ = laidOut m (formLength m) 0 (heapLen m) (minorOf m) in omega (arith, total-laidOut m (formLength m) (checksum t) (heapLen m) (minorOf m))
 
 module _ (m : Meaning) (w : Lawful m) (short : formLength m ≤ limit) where
   size-back : num (form m) 4 4 ≡ formLength m

@@ -8,9 +8,9 @@ use lib.Dec.{T, lit<}
 use Rattle.table.specs.declared.Region.{Region}
 use Rattle.table.specs.Bytes.{checksum, le, num, part, val}
 use Rattle.table.specs.Layout.{Slots, bytes, env, nil, region, slotAt}
-use Rattle.table.specs.FixedLayouts.{discovery, extended, header, hfi, host, info, listKinds, security, ssns}
+use Rattle.table.specs.FixedLayouts.{discovery, extended, header, hfi, host, info, listKinds, security, ssns, hfiExtended}
 use Rattle.table.specs.Objects.{countIn, heapBody, heapEntry, heapOf, placesBody, recEntry, recsBody, refFor, sizeBody, sizeEntry, sizeOf, spanBody, stores}
-use Rattle.table.specs.Meaning.{Meaning, behind, controlBytes, driverRef, form, formLength, headBack, headFront, heapAt, heapLen, laidOut, limit, meaning}
+use Rattle.table.specs.Meaning.{Meaning, behind, controlBytes, driverRef, form, formLength, headBack, headFront, heapAt, heapLen, laidOut, limit, meaning, minorOf}
 use Rattle.table.specs.Numbers.{heapIn}
 use Rattle.laws.specs.Lawful.{Shaped, allOk}
 use Rattle.laws.specs.ByteLaws.{Holds, held, holds-getD, holds-left, holds-num, holds-part, holds-right}
@@ -31,10 +31,10 @@ unfolding host
 ok-host = ok-layout host tt
 
 pub ok-lists : T (allOk listKinds)
-unfolding hfi ssns security discovery info extended
+unfolding hfi ssns security discovery info extended hfiExtended
 ok-lists = tt
 
-length-driverRef : (m : Meaning) → length (driverRef m) ≡ 6
+pub length-driverRef : (m : Meaning) → length (driverRef m) ≡ 6
 unfolding driverRef
 length-driverRef m = length-refFor (heapAt m) (slotAt 44 (m .driver))
 
@@ -45,9 +45,9 @@ module _ (m : Meaning) (w : Shaped m) where
   unfolding headFront
   front-part n = refl
 
-  pub back-part : (k : ℕ) → length (headBack m k) ≡ 54
+  pub back-part : (k r : ℕ) → length (headBack m k r) ≡ 54
   unfolding headBack
-  back-part k = simp (length-append, w .sized, length-driverRef m)
+  back-part k r = simp (length-append, w .sized, length-driverRef m)
 
   pub control-part : length (controlBytes m) ≡ 64
   unfolding controlBytes
@@ -80,21 +80,21 @@ module _ (m : Meaning) (w : Shaped m) where
   listHeap-part : length (heapBody h₂ (m .lists)) ≡ sizeBody (m .lists)
   listHeap-part = length-heapBody (countIn (m .lists)) h₂ (m .lists) ok-lists (w .listed)
 
-  pub length-laidOut : (n c k : ℕ) → length (laidOut m n c k) ≡ formLength m
+  pub length-laidOut : (n c k r : ℕ) → length (laidOut m n c k r) ≡ formLength m
   unfolding laidOut behind formLength heapAt heapLen h₀ h₁ h₂
-  length-laidOut n c k =
+  length-laidOut n c k r =
       simp (length-append, front-part, back-part, control-part, owner-part, recs-part, driver-part, ownerHeap-part, listHeap-part) (omega arith)
 
   -- the length formula
   pub length-form : length (form m) ≡ formLength m
   unfolding form
-  length-form = length-laidOut (formLength m) (checksum (laidOut m (formLength m) 0 (heapLen m))) (heapLen m)
+  length-form = length-laidOut (formLength m) (checksum (laidOut m (formLength m) 0 (heapLen m) (minorOf m))) (heapLen m) (minorOf m)
 
   -- what stands where
-  pub record Parts (t : List ℕ) (n c k : ℕ) : Type 0 where
+  pub record Parts (t : List ℕ) (n c k r : ℕ) : Type 0 where
     pub front : Holds t 0 (headFront n)
     pub sum : Holds t 9 (c ∷ [])
-    pub back : Holds t 10 (headBack m k)
+    pub back : Holds t 10 (headBack m k r)
     pub ctl : Holds t 64 (controlBytes m)
     pub owner : Holds t 128 (recEntry h₁ (m .owner))
     pub recs : Holds t 160 (recsBody h₂ (m .lists))
@@ -105,11 +105,11 @@ module _ (m : Meaning) (w : Shaped m) where
   whole : (t : List ℕ) → Holds t 0 t
   whole t = held [] (sym (append-nil t))
 
-  laid-parts : (t : List ℕ) (n c k : ℕ) → Holds t 0 (laidOut m n c k) → Parts t n c k
+  laid-parts : (t : List ℕ) (n c k r : ℕ) → Holds t 0 (laidOut m n c k r) → Parts t n c k r
   unfolding laidOut behind h₀ h₁ h₂ heapAt
-  laid-parts t n c k p₀ =
+  laid-parts t n c k r p₀ =
       let a : List ℕ = headFront n in
-      let b : List ℕ = headBack m k in
+      let b : List ℕ = headBack m k r in
       let o : List ℕ = recEntry h₁ (m .owner) in
       let d : List ℕ = recsBody h₂ (m .lists) in
       let e : List ℕ = heapOf h₀ (m .driver) in
@@ -117,7 +117,7 @@ module _ (m : Meaning) (w : Shaped m) where
       let g : List ℕ = heapBody h₂ (m .lists) in
       let p₁ : Holds t 9 ((c ∷ []) ++ (b ++ (controlBytes m ++ (o ++ (d ++ (e ++ (f ++ g))))))) = rw (front-part n) at (holds-right t 0 a _ p₀) in
       let p₂ : Holds t 10 (b ++ (controlBytes m ++ (o ++ (d ++ (e ++ (f ++ g)))))) = holds-right t 9 (c ∷ []) _ p₁ in
-      let p₃ : Holds t 64 (controlBytes m ++ (o ++ (d ++ (e ++ (f ++ g))))) = rw (back-part k) at (holds-right t 10 b _ p₂) in
+      let p₃ : Holds t 64 (controlBytes m ++ (o ++ (d ++ (e ++ (f ++ g))))) = rw (back-part k r) at (holds-right t 10 b _ p₂) in
       let p₄ : Holds t 128 (o ++ (d ++ (e ++ (f ++ g)))) = rw control-part at (holds-right t 64 (controlBytes m) _ p₃) in
       let p₅ : Holds t 160 (d ++ (e ++ (f ++ g))) = rw owner-part at (holds-right t 128 o _ p₄) in
       let p₆ : Holds t h₀ (e ++ (f ++ g)) = rw recs-part at (holds-right t 160 d _ p₅) in
@@ -136,9 +136,9 @@ module _ (m : Meaning) (w : Shaped m) where
       }
 
   module _ (short : formLength m ≤ limit) where
-    form-parts : Parts (form m) (formLength m) (checksum (laidOut m (formLength m) 0 (heapLen m))) (heapLen m)
+    form-parts : Parts (form m) (formLength m) (checksum (laidOut m (formLength m) 0 (heapLen m) (minorOf m))) (heapLen m) (minorOf m)
     unfolding form
-    form-parts = laid-parts (form m) _ _ _ (whole (form m))
+    form-parts = laid-parts (form m) _ _ _ _ (whole (form m))
 
     -- ---- the header's fields
 
@@ -150,22 +150,24 @@ module _ (m : Meaning) (w : Shaped m) where
       pub heapFrom : num t 36 4 ≡ heapAt m
       pub heapSize : num t 40 4 ≡ heapLen m
       pub signature : Holds t 44 (driverRef m)
+      pub minor : getD t 50 0 ≡ minorOf m
 
     pub small : formLength m < 256 ^ 4
     unfolding limit
     small = omega arith
 
-    head-back : (t : List ℕ) (c : ℕ) → Parts t (formLength m) c (heapLen m) → Head t
+    head-back : (t : List ℕ) (c : ℕ) → Parts t (formLength m) c (heapLen m) (minorOf m) → Head t
     unfolding headFront headBack formLength
     head-back t c p =
         let k = small in
         let s : List ℕ = 0x4E ∷ 0x42 ∷ 0x46 ∷ 0x54 ∷ [] in
         let r : List ℕ = driverRef m in
-        let z : List ℕ = replicate 14 0 in
+        let z : List ℕ = minorOf m ∷ replicate 13 0 in
         let q₁ = holds-right t 0 s (le 4 (formLength m) ++ (1 ∷ [])) (p .front) in
         let q₂ : Holds t 36 (le 4 (heapAt m) ++ (le 4 (heapLen m) ++ (r ++ z))) = rw (w .sized) at (holds-right t 10 (m .oem) _ (p .back)) in
         let q₃ : Holds t 40 (le 4 (heapLen m) ++ (r ++ z)) = holds-right t 36 (le 4 (heapAt m)) _ q₂ in
         let q₄ : Holds t 44 (r ++ z) = holds-right t 40 (le 4 (heapLen m)) _ q₃ in
+        let q₅ : Holds t 50 z = rw (length-driverRef m) at (holds-right t 44 r z q₄) in
         record {
           sig = ap val (holds-part t 0 s (holds-left t 0 s _ (p .front)));
           size = holds-num t 4 4 (formLength m) k (holds-left t 4 (le 4 (formLength m)) _ q₁);
@@ -174,6 +176,7 @@ module _ (m : Meaning) (w : Shaped m) where
           heapFrom = holds-num t 36 4 (heapAt m) (omega arith) (holds-left t 36 (le 4 (heapAt m)) _ q₂);
           heapSize = holds-num t 40 4 (heapLen m) (omega arith) (holds-left t 40 (le 4 (heapLen m)) _ q₃);
           signature = holds-left t 44 r z q₄;
+          minor = holds-getD t 50 z q₅ 0 (lit< tt);
         }
 
     pub form-head : Head (form m)

@@ -215,7 +215,7 @@ module _ (t : List ℕ) (b : (i : ℕ) → getD t i 0 < 256) where
       (omega (arith, ok-inside q p ks rest o′)) (w .0)
       (λ z i g.
       let x = first-of _ _ (inner-zero (need img) (eqb len 0) _ (w .1) z i) in
-      let y = and-yes (leb (length (shape .keep)) len) _ (pick-of (leb (length (shape .keep)) len && isSound shape v (image (shape .keep) (drop off t))) 12 (lit< tt) (x .0)) in
+      let y = and-yes (leb (length (shape .keep)) len) _ (pick-of (leb (length (shape .keep)) len && isSound shape v img (image (shape .keep) (drop off t))) 12 (lit< tt) (x .0)) in
       let base : length (shape .keep) ≤ len = leb→le (length (shape .keep)) len (y .0) in
       (base, refs-found heap k (shape .keep) 0 off v (image (shape .keep) (drop off t)) own (on .refs) (omega (arith, reached-room heap off len k g)) (x .1)))
       (refs-found heap k ks (p + 6) a v img rest o′ l (u .1))

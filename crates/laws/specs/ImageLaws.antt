@@ -1,6 +1,6 @@
 -- Laws of a record's image. Assumes nothing.
 use mathlib.Core.Path.{_≡_, refl, sym, ap, ap₂, _∙_}
-use mathlib.Core.Bool.{Bool, true, false}
+use mathlib.Core.Bool.{Bool, true, false, _&&_}
 use mathlib.Core.List.{List, [], _∷_}
 use Prim.Native.Nat.{ℕ, zero, suc, _*_, _/_, _%_, _<_}
 use native.Mathlib.Nat.{le-of-suc-le-suc, not-suc-le-zero, zero-mod, mod-mod, mod-mod-of-dvd, dvd-of-mod-eq-zero}
@@ -113,3 +113,19 @@ image-idem ks x t =
     ∙ ap₂ (λ (a m : ℕ). a % m) (image-at ks x j h′) (mod-image ks x k (all-at (okKeep ks) ks t j h′))
     ∙ mod-mod (getD x j 0) (modOf k x)
     ∙ sym (image-at ks x j h′)
+
+-- a byte whose lowest bit counts in any case
+abbrev pub isEven : Keep → Bool
+isEven (low n) = eqb (n % 2) 0
+isEven (sel f d m₀ m₁) = eqb (m₀ % 2) 0 && eqb (m₁ % 2) 0
+
+pub even-low : (k : Keep) (y : List ℕ) → T (isEven k) → T (eqb (modOf k y % 2) 0)
+even-low (low n) y t = t
+even-low (sel f d m₀ m₁) y t = go (eqb (getD y f 0 % (2 * d) / d) 0)
+  where
+    u : T (eqb (m₀ % 2) 0) × T (eqb (m₁ % 2) 0)
+    u = and-yes (eqb (m₀ % 2) 0) (eqb (m₁ % 2) 0) t
+
+    go : (c : Bool) → T (eqb (pick c m₀ m₁ % 2) 0)
+    go true = u .0
+    go false = u .1

@@ -86,17 +86,17 @@ pub record FitBytes (n : Need) (content : Content) (e : Env) (b : List ℕ) : Ty
   pub lawful : T (eqb (ruled content e b) 0)
   pub short : length b < 65536
 
-pub record FitRec (n : Need) (shape : Shape) (e : Env) (img : List ℕ) : Type 0 where
+pub record FitRec (n : Need) (shape : Shape) (e : Env) (owner img : List ℕ) : Type 0 where
   pub need : T (mayHave n)
   pub fixed : image (shape .keep) img ≡ img
-  pub sound : T (isSound shape e img)
+  pub sound : T (isSound shape e owner img)
 
 -- the objects of a record whose image is img
 abbrev pub Fit : {rs : Refs} → Env → List ℕ → Slots rs → Type 0
 Fit e img nil = Unit {0}
 Fit e img (bytes {need = need} {content = content} b ss) = FitBytes (need img) content e b × Fit e img ss
 Fit e img (gone {need = need} ss) = T (mayLack (need img)) × Fit e img ss
-Fit e img (rec {need = need} {shape = shape} img′ own ss) = FitRec (need img) shape e img′ × Fit e img′ own × Fit e img ss
+Fit e img (rec {need = need} {shape = shape} img′ own ss) = FitRec (need img) shape e img img′ × Fit e img′ own × Fit e img ss
 
 pub record FitUsed (l : Layout) (e : Env) (img : List ℕ) (ss : Slots (l .refs)) : Type 0 where
   pub fixed : image (l .shape .keep) img ≡ img

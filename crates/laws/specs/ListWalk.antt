@@ -14,10 +14,10 @@ use Rattle.table.specs.declared.Answer.{Answer}
 use Rattle.table.specs.declared.Region.{Region}
 use Rattle.table.specs.Bytes.{odd, pick}
 use Rattle.table.specs.Layout.{Entry, Env, Keep, Layout, baseOf, env, image, isValid, low, modOf, offsets, sel, unused, used}
-use Rattle.table.specs.FixedLayouts.{control, discovery, extended, header, hfi, host, info, layoutOf, listKinds, noKind, security, ssns}
+use Rattle.table.specs.FixedLayouts.{control, discovery, extended, header, hfi, host, info, layoutOf, listKinds, noKind, security, ssns, hfiExtended}
 use Rattle.table.specs.Objects.{countIn, isUsed, readBody, readEntry, readList, readSlots, usedAt, usedIn}
 use Rattle.table.specs.Rules.{answer, done, entryRule, listRule, usedRule}
-use Rattle.laws.specs.ImageLaws.{image-at}
+use Rattle.laws.specs.ImageLaws.{even-low, image-at, isEven}
 use Rattle.laws.specs.Fields.{imageIn}
 use Rattle.laws.specs.RefWalk.{distinctRefs, fitting}
 
@@ -34,31 +34,23 @@ env-position t pos = refl
 
 -- ---- the valid bit: its flags' modulus is even
 
-raw-flag : (l : Layout) (t : List ℕ) (a n : ℕ) → T (ltb (l .shape .flags .at) (baseOf l)) → getD (l .shape .keep) (l .shape .flags .at) (low 1) ≡ low n → T (eqb (n % 2) 0)
+raw-flag : (l : Layout) (t : List ℕ) (a : ℕ) → T (ltb (l .shape .flags .at) (baseOf l)) → T (eqb (modOf (getD (l .shape .keep) (l .shape .flags .at) (low 1)) (drop a t) % 2) 0)
     → isValid (l .shape) (imageIn l t a) ≡ odd (getD t (a + l .shape .flags .at) 0)
 unfolding imageIn
-raw-flag l t a n k e u =
-    ap (λ (z : ℕ). eqb (z % 2) 1) (image-at (l .shape .keep) (drop a t) (l .shape .flags .at) (ltb→lt _ _ k) ∙ ap (λ (x : Keep). getD (drop a t) (l .shape .flags .at) 0 % modOf x (drop a t)) e)
-    ∙ ap (λ (z : ℕ). eqb z 1) (mod-mod-of-dvd 2 (getD (drop a t) (l .shape .flags .at) 0) (dvd-of-mod-eq-zero 2 (eqb→eq (n % 2) 0 u)))
+raw-flag l t a k u =
+    ap (λ (z : ℕ). eqb (z % 2) 1) (image-at (l .shape .keep) (drop a t) (l .shape .flags .at) (ltb→lt _ _ k))
+    ∙ ap (λ (z : ℕ). eqb z 1) (mod-mod-of-dvd 2 (getD (drop a t) (l .shape .flags .at) 0) (dvd-of-mod-eq-zero 2 (eqb→eq (modOf (getD (l .shape .keep) (l .shape .flags .at) (low 1)) (drop a t) % 2) 0 u)))
     ∙ ap (λ (z : ℕ). eqb (z % 2) 1) (getD-drop a t (l .shape .flags .at) 0)
 
 -- the layouts whose valid bit stands so: one computed test
-abbrev flagKeep : Keep → ℕ
-flagKeep (low n) = n
-flagKeep (sel f d m₀ m₁) = 1
-
 abbrev pub flagOk : Layout → Bool
-flagOk l = ltb (l .shape .flags .at) (baseOf l) && eqb (flagKeep (getD (l .shape .keep) (l .shape .flags .at) (low 1)) % 2) 0
-
-flag-low : (k : Keep) → T (eqb (flagKeep k % 2) 0) → k ≡ low (flagKeep k)
-flag-low (low n) t = refl
-flag-low (sel f d m₀ m₁) t = absurd t
+flagOk l = ltb (l .shape .flags .at) (baseOf l) && isEven (getD (l .shape .keep) (l .shape .flags .at) (low 1))
 
 pub flag-is : (l : Layout) (t : List ℕ) (a : ℕ) → T (flagOk l) → isValid (l .shape) (imageIn l t a) ≡ odd (getD t (a + l .shape .flags .at) 0)
 flag-is l t a o =
     let u = and-yes (ltb (l .shape .flags .at) (baseOf l)) _ o in
     let k : Keep = getD (l .shape .keep) (l .shape .flags .at) (low 1) in
-    raw-flag l t a (flagKeep k) (u .0) (flag-low k (u .1)) (u .1)
+    raw-flag l t a (u .0) (even-low k (drop a t) (u .1))
 
 -- ---- a record
 
@@ -144,18 +136,18 @@ pick-all : (P : Layout → Type 0) (c : Bool) (x y : Layout) → P x → P y →
 pick-all P true x y p q = p
 pick-all P false x y p q = q
 
-pub by-layout : (P : Layout → Type 0) → P header → P control → P host → P hfi → P ssns → P security → P discovery → P info → P extended → P noKind → (k : ℕ) → P (layoutOf k)
+pub by-layout : (P : Layout → Type 0) → P header → P control → P host → P hfi → P ssns → P security → P discovery → P info → P extended → P hfiExtended → P noKind → (k : ℕ) → P (layoutOf k)
 unfolding layoutOf
-by-layout P p0 p1 p2 p3 p4 p5 p6 p7 p9 p k =
+by-layout P p0 p1 p2 p3 p4 p5 p6 p7 p9 p10 p k =
     pick-all P (eqb k 0) _ _ p0
     (pick-all P (eqb k 1) _ _ p1
     (pick-all P (eqb k 2) _ _ p2
     (pick-all P (eqb k 3) _ _ p3
-    (pick-all P (eqb k 4) _ _ p4 (pick-all P (eqb k 5) _ _ p5 (pick-all P (eqb k 6) _ _ p6 (pick-all P (eqb k 7) _ _ p7 (pick-all P (eqb k 9) _ _ p9 p))))))))
+    (pick-all P (eqb k 4) _ _ p4 (pick-all P (eqb k 5) _ _ p5 (pick-all P (eqb k 6) _ _ p6 (pick-all P (eqb k 7) _ _ p7 (pick-all P (eqb k 9) _ _ p9 (pick-all P (eqb k 10) _ _ p10 p)))))))))
 
 pub kinds-distinct : (k : ℕ) → T (distinctRefs (layoutOf k .refs))
-unfolding header control host hfi ssns security discovery info extended noKind
-kinds-distinct = by-layout (λ l. T (distinctRefs (l .refs))) tt tt tt tt tt tt tt tt tt tt
+unfolding header control host hfi ssns security discovery info extended hfiExtended noKind
+kinds-distinct = by-layout (λ l. T (distinctRefs (l .refs))) tt tt tt tt tt tt tt tt tt tt tt
 
 -- each reference lies in the record
 fit-at : (n : ℕ) (qs : List ℕ) → T (fitting n qs) → (i : ℕ) → i < length qs → getD qs i 0 + 6 ≤ n
@@ -164,13 +156,13 @@ fit-at n (q ∷ qs) f zero h = leb→le (q + 6) n (and-yes (leb (q + 6) n) (fitt
 fit-at n (q ∷ qs) f (suc i) h = fit-at n qs (and-yes (leb (q + 6) n) (fitting n qs) f .1) i (le-of-suc-le-suc h)
 
 kinds-fit : (k : ℕ) → T (fitting (baseOf (layoutOf k)) (offsets (layoutOf k .refs)))
-unfolding header control host hfi ssns security discovery info extended noKind
-kinds-fit = by-layout (λ l. T (fitting (baseOf l) (offsets (l .refs)))) tt tt tt tt tt tt tt tt tt tt
+unfolding header control host hfi ssns security discovery info extended hfiExtended noKind
+kinds-fit = by-layout (λ l. T (fitting (baseOf l) (offsets (l .refs)))) tt tt tt tt tt tt tt tt tt tt tt
 
 pub refs-within : (k i : ℕ) → i < length (offsets (layoutOf k .refs)) → getD (offsets (layoutOf k .refs)) i 0 + 6 ≤ baseOf (layoutOf k)
 refs-within k i h = fit-at (baseOf (layoutOf k)) (offsets (layoutOf k .refs)) (kinds-fit k) i h
 
 -- no record is longer than 128 bytes
 pub base-small : (k : ℕ) → baseOf (layoutOf k) ≤ 128
-unfolding header control host hfi ssns security discovery info extended noKind
-base-small = by-layout (λ l. baseOf l ≤ 128) (lit≤ tt) (lit≤ tt) (lit≤ tt) (lit≤ tt) (lit≤ tt) (lit≤ tt) (lit≤ tt) (lit≤ tt) (lit≤ tt) (lit≤ tt)
+unfolding header control host hfi ssns security discovery info extended hfiExtended noKind
+base-small = by-layout (λ l. baseOf l ≤ 128) (lit≤ tt) (lit≤ tt) (lit≤ tt) (lit≤ tt) (lit≤ tt) (lit≤ tt) (lit≤ tt) (lit≤ tt) (lit≤ tt) (lit≤ tt) (lit≤ tt)

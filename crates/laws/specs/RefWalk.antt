@@ -14,7 +14,7 @@ use Rattle.table.specs.declared.Region.{Region}
 use Rattle.table.specs.declared.Need.{Need}
 use Rattle.table.specs.declared.Need.the-variants.{Ignored, Optional, Required}
 use Rattle.table.specs.Bytes.{num, part, pick}
-use Rattle.table.specs.Layout.{Content, Env, Refs, Shape, image, namedAt, nest, none, offsets, plain, referenceAt}
+use Rattle.table.specs.Layout.{Content, Env, Refs, Shape, image, namedAt, nest, none, offsets, plain, referenceAt, region}
 use Rattle.table.specs.Objects.{under}
 use Rattle.table.specs.Rules.{firstOf, isSound, nestRule, plainRule, reaches, refRule, refsRule, ruled}
 use Rattle.table.specs.Reads.{needAt}
@@ -28,7 +28,7 @@ ruleAt heap e t a img none q = 0
 ruleAt heap e t a img (plain p need content rest) q = pick (eqb q p) (plainRule heap (need img) content e t (a + q)) (ruleAt heap e t a img rest q)
 ruleAt heap e t a img (nest p need shape own rest) q =
     pick (eqb q p)
-    (nestRule heap (need img) shape e t (a + q) (refsRule heap e t (referenceAt t (a + q) .at) (image (shape .keep) (drop (referenceAt t (a + q) .at) t)) own))
+    (nestRule heap (need img) shape e img t (a + q) (refsRule heap e t (referenceAt t (a + q) .at) (image (shape .keep) (drop (referenceAt t (a + q) .at) t)) own))
     (ruleAt heap e t a img rest q)
 
 -- the first fault of f over a list
@@ -71,7 +71,7 @@ refs-over heap e t a img (plain p need content rest) d =
     ∙ sym (skip p (λ (q : ℕ). plainRule heap (need img) content e t (a + q)) (ruleAt heap e t a img rest) (offsets rest) (u .0)))
 refs-over heap e t a img (nest p need shape own rest) d =
     let u = and-yes (notIn p (offsets rest)) (distinctRefs rest) d in
-    let rule : ℕ → ℕ = λ q. nestRule heap (need img) shape e t (a + q) (refsRule heap e t (referenceAt t (a + q) .at) (image (shape .keep) (drop (referenceAt t (a + q) .at) t)) own) in
+    let rule : ℕ → ℕ = λ q. nestRule heap (need img) shape e img t (a + q) (refsRule heap e t (referenceAt t (a + q) .at) (image (shape .keep) (drop (referenceAt t (a + q) .at) t)) own) in
     ap₂ firstOf
     (sym (ap (λ (c : Bool). pick c (rule p) (ruleAt heap e t a img rest p)) (eqb-same p)))
     (refs-over heap e t a img rest (u .1) ∙ sym (skip p rule (ruleAt heap e t a img rest) (offsets rest) (u .0)))
@@ -111,7 +111,7 @@ plain-at heap e t a img (plain p need content rest) q n = go (eqb q p) (plain-at
 plain-at heap e t a img (nest p need shape own rest) q n = go (eqb q p) n (λ m. plain-at heap e t a img rest q m) where
   go : (c : Bool) → T (not (c || nestAt q rest))
       → (T (not (nestAt q rest)) → ruleAt heap e t a img rest q ≡ refRule heap (needAt q rest img) (referenceAt t (a + q) .at) (referenceAt t (a + q) .len))
-      → pick c (nestRule heap (need img) shape e t (a + q) (refsRule heap e t (referenceAt t (a + q) .at) (image (shape .keep) (drop (referenceAt t (a + q) .at) t)) own))
+      → pick c (nestRule heap (need img) shape e img t (a + q) (refsRule heap e t (referenceAt t (a + q) .at) (image (shape .keep) (drop (referenceAt t (a + q) .at) t)) own))
       (ruleAt heap e t a img rest q)
       ≡ refRule heap (pick c (need img) (needAt q rest img)) (referenceAt t (a + q) .at) (referenceAt t (a + q) .len)
   go true n z = absurd n
@@ -163,19 +163,21 @@ abbrev pub fitting : ℕ → List ℕ → Bool
 fitting n [] = true
 fitting n (q ∷ qs) = leb (q + 6) n && fitting n qs
 
--- what nest-ref asks of a heap record: its references are plain, at places of their own, and lie in it; a test that computes
+-- what the walks ask of a heap record: its references stand at places of their own and lie in it; a test that computes
 abbrev pub partOk : Shape → Refs → Bool
-partOk shape rs = allKeep (okKeep (shape .keep)) (shape .keep) && (allPlain rs && (distinctRefs rs && fitting (length (shape .keep)) (offsets rs)))
+partOk shape rs = allKeep (okKeep (shape .keep)) (shape .keep) && (distinctRefs rs && fitting (length (shape .keep)) (offsets rs))
 
--- its reference at q by its own bytes x
+-- a heap record by its own bytes x, and its owner's image: long enough and sound, then what its references give
+unfoldable pub soundRule : Env → Shape → List ℕ → List ℕ → ℕ → ℕ
+soundRule e shape owner x inner = firstOf (pick (leb (length (shape .keep)) (length x) && isSound shape e owner (image (shape .keep) x)) 0 12) inner
+
+-- its plain reference at q by its own bytes x
 abbrev pub ownRule : Region → Refs → List ℕ → List ℕ → ℕ → ℕ
 ownRule heap rs img x q = refRule heap (needAt q rs img) (referenceAt x q .at) (referenceAt x q .len)
 
--- a heap record by its own bytes: long enough and sound, then its references
-unfoldable pub partRule : Region → Env → Shape → Refs → List ℕ → ℕ
-partRule heap e shape rs x =
-    let img = image (shape .keep) x in
-    firstOf (pick (leb (length (shape .keep)) (length x) && isSound shape e img) 0 12) (firstOver (ownRule heap rs img x) (offsets rs))
+-- the whole of one whose references are all plain
+unfoldable pub partRule : Region → Env → Shape → Refs → List ℕ → List ℕ → ℕ
+partRule heap e shape rs owner x = soundRule e shape owner x (firstOver (ownRule heap rs (image (shape .keep) x) x) (offsets rs))
 
 over-same : (f g : ℕ → ℕ) (n : ℕ) (qs : List ℕ) → T (fitting n qs) → ((q : ℕ) → q + 6 ≤ n → f q ≡ g q) → firstOver f qs ≡ firstOver g qs
 over-same f g n [] k s = refl
@@ -188,58 +190,81 @@ long true y z e = let w : false ≡ true = e in absurd (subst (λ (v : Bool). T 
 long false true z e = let w : false ≡ true = e in absurd (subst (λ (v : Bool). T (not v)) w tt)
 long false false z e = refl
 
+-- a reference at q of a record stands in its own bytes as it stands in the table
+pub reference-part : (t : List ℕ) (off len q : ℕ) → q + 6 ≤ len → referenceAt (part t off len) q ≡ referenceAt t (off + q)
+reference-part t off len q h =
+    let y : off + (q + 4) ≡ off + q + 4 = omega arith in
+    ap₂ region (num-part t off len q 4 (omega arith)) (num-part t off len (q + 4) 2 (omega arith) ∙ ap (λ (m : ℕ). num t m 2) y)
+
 module _ (heap : Region) (e : Env) (shape : Shape) (rs : Refs) (t : List ℕ) (k : T (partOk shape rs)) where
-  keeps : T (allKeep (okKeep (shape .keep)) (shape .keep)) × T (allPlain rs) × T (distinctRefs rs) × T (fitting (length (shape .keep)) (offsets rs))
+  keeps : T (allKeep (okKeep (shape .keep)) (shape .keep)) × T (distinctRefs rs) × T (fitting (length (shape .keep)) (offsets rs))
   keeps =
       let u = and-yes (allKeep (okKeep (shape .keep)) (shape .keep)) _ k in
-      let v = and-yes (allPlain rs) _ (u .1) in
-      let w = and-yes (distinctRefs rs) (fitting (length (shape .keep)) (offsets rs)) (v .1) in
-      (u .0, v .0, w .0, w .1)
+      let v = and-yes (distinctRefs rs) (fitting (length (shape .keep)) (offsets rs)) (u .1) in
+      (u .0, v .0, v .1)
 
-  own-refs : (img : List ℕ) (off len : ℕ) → length (shape .keep) ≤ len → firstOver (ownRule heap rs img (part t off len)) (offsets rs) ≡ refsRule heap e t off img rs
-  own-refs img off len l =
-      over-same (ownRule heap rs img (part t off len)) (ruleAt heap e t off img rs) (length (shape .keep)) (offsets rs) (keeps .3)
-      (λ q h.
-      let y : off + (q + 4) ≡ off + q + 4 = omega arith in
-      ap₂ (refRule heap (needAt q rs img)) (num-part t off len q 4 (omega arith)) (num-part t off len (q + 4) 2 (omega arith) ∙ ap (λ (m : ℕ). num t m 2) y)
-      ∙ sym (plain-at heap e t off img rs q (plain-only rs q (keeps .1))))
-      ∙ sym (refs-over heap e t off img rs (keeps .2))
-
-  abbrev soundAt : ℕ → Bool
-  soundAt off = isSound shape e (image (shape .keep) (drop off t))
+  -- what its references give, read one by one from its own bytes as f does
+  pub own-refs : (f : ℕ → ℕ) (img : List ℕ) (off len : ℕ) → length (shape .keep) ≤ len → ((q : ℕ) → q + 6 ≤ length (shape .keep) → f q ≡ ruleAt heap e t off img rs q)
+      → firstOver f (offsets rs) ≡ refsRule heap e t off img rs
+  own-refs f img off len l s =
+      over-same f (ruleAt heap e t off img rs) (length (shape .keep)) (offsets rs) (keeps .2) s ∙ sym (refs-over heap e t off img rs (keeps .1))
 
   abbrev refsAt : ℕ → ℕ
   refsAt off = refsRule heap e t off (image (shape .keep) (drop off t)) rs
 
-  abbrev namedRule : ℕ → ℕ → ℕ
-  namedRule off len = firstOf (pick (leb (length (shape .keep)) len && soundAt off) 0 12) (refsAt off)
+  module _ (owner : List ℕ) where
+    abbrev namedRule : ℕ → ℕ → ℕ
+    namedRule off len = firstOf (pick (leb (length (shape .keep)) len && isSound shape e owner (image (shape .keep) (drop off t))) 0 12) (refsAt off)
 
-  part-nest : (off len : ℕ) → off + len ≤ length t → partRule heap e shape rs (part t off len) ≡ namedRule off len
-  unfolding partRule
-  part-nest off len b = rw sized (go (leb (length (shape .keep)) len) refl)
-    where
-      sized : length (part t off len) ≡ len
-      sized = simp (length-take, length-drop) (omega arith)
+    sound-part : (off len inner : ℕ) → off + len ≤ length t → (length (shape .keep) ≤ len → inner ≡ refsAt off) → soundRule e shape owner (part t off len) inner ≡ namedRule off len
+    unfolding soundRule
+    sound-part off len inner b s = rw sized (go (leb (length (shape .keep)) len) refl)
+      where
+        sized : length (part t off len) ≡ len
+        sized = simp (length-take, length-drop) (omega arith)
 
-      go : (c : Bool) → leb (length (shape .keep)) len ≡ c
-          → firstOf (pick (c && isSound shape e (image (shape .keep) (part t off len))) 0 12) (firstOver (ownRule heap rs (image (shape .keep) (part t off len)) (part t off len)) (offsets rs))
-          ≡ firstOf (pick (c && soundAt off) 0 12) (refsAt off)
-      go false z = refl
-      go true z =
-          let l = leb-true (length (shape .keep)) len z in
-          let m = image-part (shape .keep) t off len (keeps .0) l in
-          ap₂ firstOf (ap (λ (x : List ℕ). pick (isSound shape e x) 0 12) m)
-          (ap (λ (x : List ℕ). firstOver (ownRule heap rs x (part t off len)) (offsets rs)) m ∙ own-refs (image (shape .keep) (drop off t)) off len l)
+        go : (c : Bool) → leb (length (shape .keep)) len ≡ c
+            → firstOf (pick (c && isSound shape e owner (image (shape .keep) (part t off len))) 0 12) inner
+            ≡ firstOf (pick (c && isSound shape e owner (image (shape .keep) (drop off t))) 0 12) (refsAt off)
+        go false z = refl
+        go true z =
+            let l = leb-true (length (shape .keep)) len z in
+            ap₂ firstOf (ap (λ (x : List ℕ). pick (isSound shape e owner x) 0 12) (image-part (shape .keep) t off len (keeps .0) l)) (s l)
 
-  reached-part : (off len : ℕ) → (reaches heap off len ≡ true → off + len ≤ length t)
-      → firstOf (pick (reaches heap off len) 0 11) (partRule heap e shape rs (part t off len)) ≡ firstOf (pick (reaches heap off len) 0 11) (pick (eqb len 0) 0 (namedRule off len))
-  reached-part off len b = go (reaches heap off len) refl
-    where
-      go : (c : Bool) → reaches heap off len ≡ c → firstOf (pick c 0 11) (partRule heap e shape rs (part t off len)) ≡ firstOf (pick c 0 11) (pick (eqb len 0) 0 (namedRule off len))
-      go false z = refl
-      go true z = part-nest off len (b z) ∙ sym (ap (λ (c : Bool). pick c 0 (namedRule off len)) (long (eqb off 0) (eqb len 0) _ z))
+    -- the reference at r to it; `inner` is what code finds of its references
+    module _ (r inner : ℕ) (b : reaches heap (referenceAt t r .at) (referenceAt t r .len) ≡ true → referenceAt t r .at + referenceAt t r .len ≤ length t)
+        (s : reaches heap (referenceAt t r .at) (referenceAt t r .len) ≡ true → length (shape .keep) ≤ referenceAt t r .len → inner ≡ refsAt (referenceAt t r .at)) where
+      abbrev off : ℕ
+      off = referenceAt t r .at
 
-  -- the reference to it, required
-  pub nest-ref : (r : ℕ) → (reaches heap (referenceAt t r .at) (referenceAt t r .len) ≡ true → referenceAt t r .at + referenceAt t r .len ≤ length t)
-      → firstOf (pick (reaches heap (referenceAt t r .at) (referenceAt t r .len)) 0 11) (partRule heap e shape rs (namedAt t r)) ≡ nestRule heap Required shape e t r (refsAt (referenceAt t r .at))
-  nest-ref r b = reached-part (referenceAt t r .at) (referenceAt t r .len) b
+      abbrev len : ℕ
+      len = referenceAt t r .len
+
+      abbrev judged : ℕ
+      judged = soundRule e shape owner (namedAt t r) inner
+
+      reached-part : (c : Bool) → reaches heap off len ≡ c → firstOf (pick c 0 11) judged ≡ firstOf (pick c 0 11) (pick (eqb len 0) 0 (namedRule off len))
+      reached-part false z = refl
+      reached-part true z = sound-part off len inner (b z) (s z) ∙ sym (ap (λ (c : Bool). pick c 0 (namedRule off len)) (long (eqb off 0) (eqb len 0) _ z))
+
+      pub nest-required : firstOf (pick (reaches heap off len) 0 11) judged ≡ nestRule heap Required shape e owner t r (refsAt off)
+      nest-required = reached-part (reaches heap off len) refl
+
+      pub nest-optional : pick (eqb off 0 && eqb len 0) 0 (firstOf (pick (reaches heap off len) 0 11) judged) ≡ nestRule heap Optional shape e owner t r (refsAt off)
+      nest-optional = go (eqb off 0) (eqb len 0) (reached-part (reaches heap off len) refl)
+        where
+          go : (x y : Bool) → firstOf (pick (reaches heap off len) 0 11) judged ≡ firstOf (pick (reaches heap off len) 0 11) (pick y 0 (namedRule off len))
+              → pick (x && y) 0 (firstOf (pick (reaches heap off len) 0 11) judged)
+              ≡ firstOf (pick (x && y) 0 (pick (reaches heap off len) 0 11)) (pick y 0 (namedRule off len))
+          go true true z = refl
+          go true false z = z
+          go false y z = z
+
+-- the references of a heap record that names objects alone, by its own bytes
+pub plain-refs : (heap : Region) (e : Env) (shape : Shape) (rs : Refs) (t : List ℕ) → T (partOk shape rs) → T (allPlain rs) → (off len : ℕ) → length (shape .keep) ≤ len
+    → firstOver (ownRule heap rs (image (shape .keep) (part t off len)) (part t off len)) (offsets rs) ≡ refsRule heap e t off (image (shape .keep) (drop off t)) rs
+plain-refs heap e shape rs t k a off len l =
+    let img = image (shape .keep) (drop off t) in
+    rw (image-part (shape .keep) t off len (keeps heap e shape rs t k .0) l)
+    (own-refs heap e shape rs t k (ownRule heap rs img (part t off len)) img off len l
+    (λ q h. ap (λ (x : Region). refRule heap (needAt q rs img) (x .at) (x .len)) (reference-part t off len q (omega arith)) ∙ sym (plain-at heap e t off img rs q (plain-only rs q a))))

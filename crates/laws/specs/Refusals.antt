@@ -41,6 +41,7 @@ use Rattle.table.specs.Builder.{
   mayHave,
   mayLack,
   moved,
+  nestsRight,
   opened,
   outcome,
   recordsEnd,
@@ -140,7 +141,7 @@ refs-number heap e t a img (nest p need shape own rest) =
     (under-need (need img)
     (either-of (eqb (num t (a + p + 4) 2) 0) nothing
     (first-of
-    (either-of (leb (length (shape .keep)) (num t (a + p + 4) 2) && isSound shape e (image (shape .keep) (drop (num t (a + p) 4) t))) nothing (is 12 tt))
+    (either-of (leb (length (shape .keep)) (num t (a + p + 4) 2) && isSound shape e img (image (shape .keep) (drop (num t (a + p) 4) t))) nothing (is 12 tt))
     (refs-number heap e t (num t (a + p) 4) (image (shape .keep) (drop (num t (a + p) 4) t)) own)))))
     (refs-number heap e t a img rest)
 
@@ -215,6 +216,7 @@ pub fill-refuses : (l : Layout) (s : State) (b x : List ℕ) (told : Slots (l .r
     Refuses (fill l s b x told .step .answer .number)
     (unless 15 (waits s (l .kind))
     ∷ unless 10 (pairsRight (l .shape) img)
+    ∷ unless 12 (nestsRight img ss)
     ∷ found objectNumbers (slotsRule (envOf s) img ss)
     ∷ unless 17 (leb (s .used + sizeOf ss) limit)
     ∷ unless 14 (leb (s .used + sizeOf ss) (length b))
@@ -223,7 +225,7 @@ unfolding fill fillAnswer
 fill-refuses l s b x told =
     let img : List ℕ = toldImage (l .shape) (s .position) x in
     rw (outcome-answer _ s _ b _)
-    (fails-first _ ((0, 0) ∷ (l .kind, s .position) ∷ (l .kind, s .position) ∷ []) (alone (slots-number (envOf s) img (toldSlots (s .position) img told))))
+    (fails-first _ ((0, 0) ∷ (l .kind, s .position) ∷ (l .kind, s .position) ∷ (l .kind, s .position) ∷ []) (alone (slots-number (envOf s) img (toldSlots (s .position) img told))))
 
 -- begin has no two-bit fields
 pub begin-refuses : (s : State) (b oem cs : List ℕ) (sig : Slots (header .refs)) → let n = formLength (opened oem cs sig) in
@@ -288,7 +290,7 @@ begin-waits s b oem h n c d sig e =
     rw (z, le-leb (recordsEnd (begun (h ∷ n ∷ c ∷ d ∷ []) m)) m (opened-behind oem h n c d sig m), le-leb m limit (leb→le m limit u)) refl
 
 -- no call is in turn behind finish
-late : (s : State) (c : Call) (b : List ℕ) → does c (moved s (turn finished 0) (s .used)) b .step .answer ≡ answer 15 0 0
+late : (s : State) (c : Call) (b : List ℕ) → does c (moved s (turn finished 0) (s .used) (s .minor)) b .step .answer ≡ answer 15 0 0
 unfolding begin fill fillAnswer leave finish waits host hfi ssns security discovery
 late s (opens oem h n c d signature) b = refl
 late s (tellsHost x told) b = refl

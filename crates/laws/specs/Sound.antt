@@ -100,7 +100,7 @@ module _ (t : List ℕ) (b : (i : ℕ) → getD t i 0 < 256) where
   nest-fits : {own rest : Refs} (p : ℕ) (need : List ℕ → Need) (shape : Shape) (v : Env) (img : List ℕ) (heap : Region) (off len : ℕ)
       (os : Slots own) (ss : Slots rest) (inner : ℕ) (n : Need) (c : Bool)
       → need img ≡ n → eqb len 0 ≡ c → refRule heap n off len ≡ 0 → under n 0 (pick c 0 inner) ≡ 0
-      → (inner ≡ 0 → T (isSound shape v (image (shape .keep) (drop off t))) × Fit v (image (shape .keep) (drop off t)) os) → OkNest shape own → Fit v img ss
+      → (inner ≡ 0 → T (isSound shape v img (image (shape .keep) (drop off t))) × Fit v (image (shape .keep) (drop off t)) os) → OkNest shape own → Fit v img ss
       → Fit v img (under n (gone {p = p} {need = need} {shape = shape} {own = own} ss)
       (pick c (gone {p = p} {need = need} {shape = shape} {own = own} ss) (rec {p = p} {need = need} {shape = shape} (image (shape .keep) (drop off t)) os ss)))
   nest-fits p need shape v img heap off len os ss inner Ignored c e z r f g o s = (rw e tt, s)
@@ -132,11 +132,11 @@ module _ (t : List ℕ) (b : (i : ℕ) → getD t i 0 < 256) where
       let len : ℕ = num t (a + p + 4) 2 in
       let o′ = nest-own q p ks need shape own rest o in
       nest-fits p need shape v img heap off len (readSlots t off (image (shape .keep) (drop off t)) own) (readSlots t a img rest)
-      (firstOf (pick (leb (length (shape .keep)) len && isSound shape v (image (shape .keep) (drop off t))) 0 12) (refsRule heap v t off (image (shape .keep) (drop off t)) own))
+      (firstOf (pick (leb (length (shape .keep)) len && isSound shape v img (image (shape .keep) (drop off t))) 0 12) (refsRule heap v t off (image (shape .keep) (drop off t)) own))
       (need img) (eqb len 0) refl refl (w .0) (w .1)
       (λ i.
       let x = first-of _ _ i in (
-        and-yes (leb (length (shape .keep)) len) _ (pick-of (leb (length (shape .keep)) len && isSound shape v (image (shape .keep) (drop off t))) 12 (lit< tt) (x .0)) .1,
+        and-yes (leb (length (shape .keep)) len) _ (pick-of (leb (length (shape .keep)) len && isSound shape v img (image (shape .keep) (drop off t))) 12 (lit< tt) (x .0)) .1,
         refs-fit heap k (shape .keep) 0 off v (image (shape .keep) (drop off t)) own (o′ .refs) (x .1),
       ))
       o′ (refs-fit heap k ks (p + 6) a v img rest (nest-next q p ks need shape own rest o) (u .1))

@@ -172,7 +172,7 @@ pass-at t heap a v img (rec {p = p} {need = need} {shape = shape} {own = own} im
     (under-zero (need img) _
     (pick-zero (eqb m 0) _
     (first-zero _ _
-    (pick-yes (leb (length (shape .keep)) m && isSound shape v (image (shape .keep) (drop n t))) 0 12
+    (pick-yes (leb (length (shape .keep)) m && isSound shape v img (image (shape .keep) (drop n t))) 0 12
     (yes-and (leb (length (shape .keep)) m) _ (rw (ref-len t (a + p) off len (x .short) (x .ref)) (yes-leb (s .0 .3))) (rw e₁ (f .0 .sound))))
     (ap₂ (λ (y : ℕ) (z : List ℕ). refsRule heap v t y z own) e₀ e₁ ∙ pass-at t heap off v img′ own′ (f .1) (s .0 .5))))))
     (pass-at t heap a v img ss (f .2) (s .1))

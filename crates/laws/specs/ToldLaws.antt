@@ -14,11 +14,11 @@ use Rattle.table.specs.declared.Need.the-variants.{Ignored, Optional, Required}
 use Rattle.table.specs.Bytes.{Edit, apply, bits, edit, every, le, num, part, pick, same, splice, val}
 use Rattle.table.specs.Layout.{Env, Keep, Refs, Shape, Slots, bytes, fixedRight, gone, image, isRight, isValid, low, modOf, nest, nil, none, pairsRight, plain, rec, sel}
 use Rattle.table.specs.Objects.{under}
-use Rattle.table.specs.Rules.{firstOf, isSound}
-use Rattle.table.specs.Builder.{fitsNeed, isShort, mayHave, mayLack, slotsRule, toldImage, toldSlots}
+use Rattle.table.specs.Rules.{firstOf}
+use Rattle.table.specs.Builder.{fitsNeed, isShort, mayHave, mayLack, nestsRight, slotsRule, toldImage, toldSlots}
 use Rattle.laws.specs.Lawful.{Fit, allKeep, okKeep}
 use Rattle.laws.specs.ByteLaws.{Holds, holds-getD, holds-splice-above, holds-splice-below, length-le, length-splice, splice-here, val-le}
-use Rattle.laws.specs.ImageLaws.{all-at, image-at, image-idem, length-image}
+use Rattle.laws.specs.ImageLaws.{all-at, even-low, image-at, image-idem, isEven, length-image}
 use Rattle.laws.specs.Sound.{first-of, pick-of}
 use Rattle.laws.specs.AcceptedMeaning.{lawful}
 
@@ -27,10 +27,6 @@ use Rattle.laws.specs.AcceptedMeaning.{lawful}
 abbrev isWhole : Keep → Bool
 isWhole (low n) = eqb n 256
 isWhole (sel f d m₀ m₁) = false
-
-abbrev isEven : Keep → Bool
-isEven (low n) = eqb (n % 2) 0
-isEven (sel f d m₀ m₁) = false
 
 abbrev wholeAt : List Keep → ℕ → ℕ → Bool
 wholeAt ks a n = leb (a + n) (length ks) && allKeep isWhole (take n (drop a ks))
@@ -183,10 +179,6 @@ there-still x f v (e ∷ es) k t h =
 odd-left : (q m : ℕ) → T (eqb (m % 2) 0) → (q / 2 * 2 + 1) % m % 2 ≡ 1
 odd-left q m t = mod-mod-of-dvd 2 (q / 2 * 2 + 1) (dvd-of-mod-eq-zero 2 (eqb→eq (m % 2) 0 t)) ∙ omega arith
 
-even-low : (k : Keep) (y : List ℕ) → T (isEven k) → T (eqb (modOf k y % 2) 0)
-even-low (low n) y t = t
-even-low (sel f d m₀ m₁) y t = absurd t
-
 module _ (s : Shape) (n : ℕ) (x : List ℕ) (ok : T (okMarks s n)) (sized : length x ≡ length (s .keep)) where
   -- the test of the shape, taken apart
   placed-ok : T (marksOk (s .keep) (marks s n))
@@ -283,37 +275,45 @@ no-pairs s img t = go (s .pairs) t
     go [] t = tt
     go (p ∷ ps) t = absurd t
 
--- a heap record as told, or dropped: d is the need of its reference
+-- a heap record as told, or dropped: d is the need of its reference, n says that its own further rules hold, and those behind it
 rec-fits : {own rest : Refs} (p : ℕ) (need : List ℕ → Need) (shape : Shape) (e : Env) (img y : List ℕ) (os : Slots own) (ss : Slots rest) (d : Need) → need img ≡ d
-    → image (shape .keep) y ≡ y → T (isSound shape e y) → (slotsRule e y os ≡ 0 → Fit e y os) → (slotsRule e img ss ≡ 0 → Fit e img ss)
+    → image (shape .keep) y ≡ y → T (isValid shape y) → T (isRight shape e y) → (T (nestsRight y os) → slotsRule e y os ≡ 0 → Fit e y os)
+    → (T (nestsRight img ss) → slotsRule e img ss ≡ 0 → Fit e img ss)
+    → T (nestsRight img (under d (gone {p = p} {need = need} {shape = shape} {own = own} ss) (rec {p = p} {need = need} {shape = shape} y os ss)))
     → slotsRule e img (under d (gone {p = p} {need = need} {shape = shape} {own = own} ss) (rec {p = p} {need = need} {shape = shape} y os ss)) ≡ 0
     → Fit e img (under d (gone {p = p} {need = need} {shape = shape} {own = own} ss) (rec {p = p} {need = need} {shape = shape} y os ss))
-unfolding slotsRule
-rec-fits p need shape e img y os ss Ignored q f s g h r = (rw q tt, h (first-of (pick (mayLack (need img)) 0 11) (slotsRule e img ss) r .1))
-rec-fits p need shape e img y os ss Optional q f s g h r =
+unfolding slotsRule nestsRight
+rec-fits p need shape e img y os ss Ignored q f v w g h n r = (rw q tt, h n (first-of (pick (mayLack (need img)) 0 11) (slotsRule e img ss) r .1))
+rec-fits p need shape e img y os ss Optional q f v w g h n r =
     let u = first-of (firstOf (pick (mayHave (need img)) 0 11) (slotsRule e y os)) (slotsRule e img ss) r in
-    (record { need = rw q tt; fixed = f; sound = s }, g (first-of (pick (mayHave (need img)) 0 11) (slotsRule e y os) (u .0) .1), h (u .1))
-rec-fits p need shape e img y os ss Required q f s g h r =
+    let a = and-yes (shape .further img y) (nestsRight y os && nestsRight img ss) n in
+    let b = and-yes (nestsRight y os) (nestsRight img ss) (a .1) in
+    let s = yes-and (isValid shape y) _ v (yes-and (isRight shape e y) (shape .further img y) w (a .0)) in
+    (record { need = rw q tt; fixed = f; sound = s }, g (b .0) (first-of (pick (mayHave (need img)) 0 11) (slotsRule e y os) (u .0) .1), h (b .1) (u .1))
+rec-fits p need shape e img y os ss Required q f v w g h n r =
     let u = first-of (firstOf (pick (mayHave (need img)) 0 11) (slotsRule e y os)) (slotsRule e img ss) r in
-    (record { need = rw q tt; fixed = f; sound = s }, g (first-of (pick (mayHave (need img)) 0 11) (slotsRule e y os) (u .0) .1), h (u .1))
+    let a = and-yes (shape .further img y) (nestsRight y os && nestsRight img ss) n in
+    let b = and-yes (nestsRight y os) (nestsRight img ss) (a .1) in
+    let s = yes-and (isValid shape y) _ v (yes-and (isRight shape e y) (shape .further img y) w (a .0)) in
+    (record { need = rw q tt; fixed = f; sound = s }, g (b .0) (first-of (pick (mayHave (need img)) 0 11) (slotsRule e y os) (u .0) .1), h (b .1) (u .1))
 
--- told objects that pass the builder's rule fit
+-- told objects that pass the builder's rules fit
 pub told-fit : {rs : Refs} (e : Env) → e .position < 256 → (img : List ℕ) (ss : Slots rs) → T (okTold (e .position) rs) → SizedSlots ss
-    → slotsRule e img (toldSlots (e .position) img ss) ≡ 0 → Fit e img (toldSlots (e .position) img ss)
-unfolding slotsRule toldSlots
-told-fit e k img nil t z r = tt
-told-fit e k img (bytes {need = need} {content = content} b ss) t z r =
+    → T (nestsRight img (toldSlots (e .position) img ss)) → slotsRule e img (toldSlots (e .position) img ss) ≡ 0 → Fit e img (toldSlots (e .position) img ss)
+unfolding slotsRule toldSlots nestsRight
+told-fit e k img nil t z n r = tt
+told-fit e k img (bytes {need = need} {content = content} b ss) t z n r =
     let u = first-of _ _ r in
     let v = first-of _ _ (u .0) in
     let b′ : List ℕ = under (need img) [] b in
     let w = and-yes (fitsNeed (need img) b′) (isShort b′) (pick-of (fitsNeed (need img) b′ && isShort b′) 11 (lit< tt) (v .0)) in
     let s : length b′ ≤ 65535 = leb→le (length b′) 65535 (w .1) in
-    (record { need = w .0; lawful = rw (v .1) tt; short = omega arith }, told-fit e k img ss t z (u .1))
-told-fit e k img (gone {need = need} {shape = shape} {own = own} {rest = rest} ss) t z r =
+    (record { need = w .0; lawful = rw (v .1) tt; short = omega arith }, told-fit e k img ss t z n (u .1))
+told-fit e k img (gone {need = need} {shape = shape} {own = own} {rest = rest} ss) t z n r =
     let u = first-of _ _ r in
     let o = and-yes (okTold (e .position) own) (okTold (e .position) rest) (and-yes (okMarks shape (e .position) && (leb 1 (shape .index .len) && noPairs (shape .pairs))) _ t .1) in
-    (pick-of (mayLack (need img)) 11 (lit< tt) (u .0), told-fit e k img ss (o .1) z (u .1))
-told-fit e k img (rec {p = p} {need = need} {shape = shape} {own = own} {rest = rest} x os ss) t z r =
+    (pick-of (mayLack (need img)) 11 (lit< tt) (u .0), told-fit e k img ss (o .1) z n (u .1))
+told-fit e k img (rec {p = p} {need = need} {shape = shape} {own = own} {rest = rest} x os ss) t z h r =
     let n : ℕ = e .position in
     let m = and-yes (okMarks shape n && (leb 1 (shape .index .len) && noPairs (shape .pairs))) (okTold n own && okTold n rest) t in
     let m₁ = and-yes (okMarks shape n) (leb 1 (shape .index .len) && noPairs (shape .pairs)) (m .0) in
@@ -321,6 +321,6 @@ told-fit e k img (rec {p = p} {need = need} {shape = shape} {own = own} {rest = 
     let o = and-yes (okTold n own) (okTold n rest) (m .1) in
     let y : List ℕ = toldImage shape n x in
     rec-fits p need shape e img y (toldSlots n y os) (toldSlots n img ss) (need img) refl (told-fixed shape n x (m₁ .0) (z .0))
-    (yes-and (isValid shape y) _ (told-valid shape n x (m₁ .0) (z .0))
-    (told-right shape n x (m₁ .0) (z .0) e refl (byte-pow n (shape .index .len) k (leb→le 1 (shape .index .len) (m₂ .0))) (no-pairs shape y (m₂ .1))))
-    (told-fit e k y os (o .0) (z .1)) (told-fit e k img ss (o .1) (z .2)) r
+    (told-valid shape n x (m₁ .0) (z .0))
+    (told-right shape n x (m₁ .0) (z .0) e refl (byte-pow n (shape .index .len) k (leb→le 1 (shape .index .len) (m₂ .0))) (no-pairs shape y (m₂ .1)))
+    (told-fit e k y os (o .0) (z .1)) (told-fit e k img ss (o .1) (z .2)) h r

@@ -4,12 +4,13 @@ use table::Discovery;
 use table::Extended;
 use table::Header;
 use table::Hfi;
+use table::HfiExtended;
 use table::Host;
 use table::Info;
 use table::Security;
 use table::Ssns;
 ghost use mathlib.Core.Path.{_≡_};
-ghost use Rattle.table.specs.FixedLayouts.{ssns, security, discovery, layoutOf};
+ghost use Rattle.table.specs.FixedLayouts.{ssns, security, discovery, hfiExtended, layoutOf};
 ghost use Rattle.table.specs.Reads.{hasPlain};
 
 fn ssns_object(off: usize) -> bool
@@ -48,6 +49,16 @@ fn discovery_object(off: usize) -> bool
     }
 }
 
+fn hfi_extended_object(off: usize) -> bool
+    ensures { λ r. ⌜ r ≡ hasPlain off (hfiExtended .refs) ⌝ }
+{
+    match off {
+        8 => true,
+        14 => true,
+        _ => false,
+    }
+}
+
 // Whether a record of this kind has a reference to an object at `off`.
 pub fn has_object(kind: u8, off: usize) -> bool
     ensures { λ r. ⌜ r ≡ hasPlain off (layoutOf kind .refs) ⌝ }
@@ -62,6 +73,7 @@ pub fn has_object(kind: u8, off: usize) -> bool
         Discovery::ID => discovery_object(off),
         Info::ID => off == 104,
         Extended::ID => off == 12,
+        HfiExtended::ID => hfi_extended_object(off),
         _ => false,
     }
 }

@@ -4,12 +4,13 @@ use table::Discovery;
 use table::Extended;
 use table::Header;
 use table::Hfi;
+use table::HfiExtended;
 use table::Host;
 use table::Info;
 use table::Security;
 use table::Ssns;
 ghost use mathlib.Core.Path.{_≡_};
-ghost use Rattle.table.specs.FixedLayouts.{header, control, host, hfi, ssns, security, discovery, info, extended, layoutOf};
+ghost use Rattle.table.specs.FixedLayouts.{header, control, host, hfi, ssns, security, discovery, info, extended, hfiExtended, layoutOf};
 ghost use Rattle.table.specs.Reads.{widthAt};
 
 fn header_width(off: usize) -> usize
@@ -144,6 +145,18 @@ fn extended_width(off: usize) -> usize
     }
 }
 
+fn hfi_extended_width(off: usize) -> usize
+    ensures { λ r. ⌜ r ≡ widthAt off (hfiExtended .shape .fields) ⌝ }
+{
+    match off {
+        0 => 1,
+        1 => 1,
+        2 => 2,
+        4 => 4,
+        _ => 0,
+    }
+}
+
 // How many bytes the field at `off` has, 0 where there is none.
 pub fn field_width(kind: u8, off: usize) -> usize
     ensures { λ r. ⌜ r ≡ widthAt off (layoutOf kind .shape .fields) ⌝ }
@@ -158,6 +171,7 @@ pub fn field_width(kind: u8, off: usize) -> usize
         Discovery::ID => discovery_width(off),
         Info::ID => info_width(off),
         Extended::ID => extended_width(off),
+        HfiExtended::ID => hfi_extended_width(off),
         _ => 0,
     }
 }

@@ -7,7 +7,7 @@ ghost use Prim.Native.Nat.{_+_, _≤_};
 ghost use lib.ListN.{length};
 ghost use Rattle.table.specs.Bytes.{num};
 ghost use Rattle.table.specs.Layout.{baseOf, pairsRight};
-ghost use Rattle.table.specs.FixedLayouts.{layoutOf, ssns, security};
+ghost use Rattle.table.specs.FixedLayouts.{layoutOf, ssns, security, hfiExtended};
 ghost use Rattle.laws.specs.Fields.{imageIn};
 ghost use Rattle.layout_flags.specs.Flags.{pairRight, securityPairs};
 
@@ -25,6 +25,14 @@ pub fn security_flags(t: &[u8], a: usize) -> usize
     ensures { λ r. ⌜ r ≡ num (imageIn security (now (t .entry)) a) 2 2 ⌝ }
 {
     bytes_wire::wide(t[a + 2]) + 256 * bytes_wire::wide(t[a + 3] % 16)
+}
+
+// Those of an HFI extended info, by its own bytes: two bits count.
+pub fn identity_flags(bytes: &[u8]) -> usize
+    requires { ⌜ 20 ≤ length (now bytes) ⌝ }
+    ensures { λ r. ⌜ r ≡ num (imageIn hfiExtended (now (bytes .entry)) 0) 4 4 ⌝ }
+{
+    bytes_wire::wide(bytes[4] % 4)
 }
 
 // Flags shifted so that a two-bit field stands lowest: it has no value 3.

@@ -15,12 +15,12 @@ use mir.Facts.{and-yes}
 use borrow.Author.Tests.{eqb-true}
 use Rattle.table.specs.Bytes.{pick, part, splice, padded}
 use Rattle.table.specs.Layout.{Keep, low, sel, modOf, baseOf, Layout}
-use Rattle.table.specs.FixedLayouts.{layoutOf, header, control, host, hfi, ssns, security, discovery, info, extended, noKind}
+use Rattle.table.specs.FixedLayouts.{layoutOf, header, control, host, hfi, ssns, security, discovery, info, extended, hfiExtended, noKind}
 use Rattle.laws.specs.Lawful.{allKeep, okKeep}
 use Rattle.laws.specs.ImageLaws.{all-at, image-at}
 use Rattle.laws.specs.Fields.{imageIn, image-part}
 use Rattle.laws.specs.ListWalk.{by-layout}
-use Rattle.layout_images.specs.Masks.{maskOf, masksOf, switchOf, switched, onIn, masksFor, over}
+use Rattle.layout_images.specs.Masks.{maskOf, masksOf, switchOf, switched, onIn, newerIn, masksFor, over}
 
 -- ---- a law over the kind numbers
 
@@ -41,13 +41,14 @@ pub record Other (k : ℕ) : Type 0 where
   pub not6 : eqb k 6 ≡ false
   pub not7 : eqb k 7 ≡ false
   pub not9 : eqb k 9 ≡ false
+  pub not10 : eqb k 10 ≡ false
 
 pub other-layout : (k : ℕ) → Other k → layoutOf k ≡ noKind
 unfolding layoutOf
-other-layout k o = rw (o .not0, o .not1, o .not2, o .not3, o .not4, o .not5, o .not6, o .not7, o .not9) refl
+other-layout k o = rw (o .not0, o .not1, o .not2, o .not3, o .not4, o .not5, o .not6, o .not7, o .not9, o .not10) refl
 
-pub by-kind : (P : ℕ → Type 0) → P 0 → P 1 → P 2 → P 3 → P 4 → P 5 → P 6 → P 7 → P 9 → ((k : ℕ) → Other k → P k) → (k : ℕ) → P k
-by-kind P p0 p1 p2 p3 p4 p5 p6 p7 p9 p k =
+pub by-kind : (P : ℕ → Type 0) → P 0 → P 1 → P 2 → P 3 → P 4 → P 5 → P 6 → P 7 → P 9 → P 10 → ((k : ℕ) → Other k → P k) → (k : ℕ) → P k
+by-kind P p0 p1 p2 p3 p4 p5 p6 p7 p9 p10 p k =
     at-kind P k 0 p0
     λ n0. at-kind P k 1 p1
     λ n1. at-kind P k 2 p2
@@ -57,7 +58,8 @@ by-kind P p0 p1 p2 p3 p4 p5 p6 p7 p9 p k =
     λ n5. at-kind P k 6 p6
     λ n6. at-kind P k 7 p7
     λ n7. at-kind P k 9 p9
-    λ n9. p k (record { not0 = n0; not1 = n1; not2 = n2; not3 = n3; not4 = n4; not5 = n5; not6 = n6; not7 = n7; not9 = n9 })
+    λ n9. at-kind P k 10 p10
+    λ n10. p k (record { not0 = n0; not1 = n1; not2 = n2; not3 = n3; not4 = n4; not5 = n5; not6 = n6; not7 = n7; not9 = n9; not10 = n10 })
 
 -- ---- a masked byte is an image's
 
@@ -68,65 +70,74 @@ exponent n =
 abbrev isPower : ℕ → Bool
 isPower n = eqb (2 ^ exponent n) n
 
--- what counts under a flag counts under the one that the code looks at
+-- what counts under a bit counts under one that the code looks at
 abbrev maskable : ℕ → Keep → Bool
 maskable k (low n) = isPower n
-maskable k (sel f d m₀ m₁) = switched k && (eqb f (switchOf k) && (eqb d 4 && (isPower m₀ && isPower m₁)))
+maskable k (sel f d m₀ m₁) = pick (eqb d 2) (eqb k 7 && eqb f 3) (switched k && (eqb f (switchOf k) && eqb d 4)) && (isPower m₀ && isPower m₁)
 
 maskables-none : (k : ℕ) → layoutOf k ≡ noKind → T (allKeep (maskable k) (layoutOf k .shape .keep))
 unfolding noKind
 maskables-none k e = subst (λ (l : Layout). T (allKeep (maskable k) (l .shape .keep))) (sym e) tt
 
 maskables : (k : ℕ) → T (allKeep (maskable k) (layoutOf k .shape .keep))
-unfolding layoutOf header control host hfi ssns security discovery info extended
-maskables = by-kind (λ k. T (allKeep (maskable k) (layoutOf k .shape .keep))) tt tt tt tt tt tt tt tt tt (λ k o. maskables-none k (other-layout k o))
+unfolding layoutOf header control host hfi ssns security discovery info extended hfiExtended
+maskables = by-kind (λ k. T (allKeep (maskable k) (layoutOf k .shape .keep))) tt tt tt tt tt tt tt tt tt tt (λ k o. maskables-none k (other-layout k o))
 
 and-power : (b n : ℕ) → T (isPower n) → bitAnd b (n - 1) ≡ b % n
 and-power b n t = subst (λ (m : ℕ). bitAnd b (m - 1) ≡ b % m) (eqb→eq (2 ^ exponent n) n t) (and-mask b (exponent n))
 
-mask-at : (more : Bool) (ks : List Keep) (i : ℕ) → getD (masksOf more ks) i 0 ≡ maskOf more (getD ks i (low 1))
-mask-at more [] i = refl
-mask-at more (k ∷ ks) zero = refl
-mask-at more (k ∷ ks) (suc i) = mask-at more ks i
+mask-at : (more newer : Bool) (ks : List Keep) (i : ℕ) → getD (masksOf more newer ks) i 0 ≡ maskOf more newer (getD ks i (low 1))
+mask-at more newer [] i = refl
+mask-at more newer (k ∷ ks) zero = refl
+mask-at more newer (k ∷ ks) (suc i) = mask-at more newer ks i
 
--- the flag that the code looks at is the layout's
-more-is : (k : ℕ) (x : List ℕ) (f d : ℕ) → T (switched k) → f ≡ switchOf k → d ≡ 4 → onIn k x ≡ not (eqb (getD x f 0 % (2 * d) / d) 0)
-unfolding onIn
-more-is k x f d s e g = rw (e, g) (ap (λ (c : Bool). pick c (not (eqb (getD x (switchOf k) 0 % 8 / 4) 0)) false) (is-true (switched k) s))
+-- the bit that the code looks at is the layout's
+more-is : (k : ℕ) (x : List ℕ) (f d : ℕ) → T (pick (eqb d 2) (eqb k 7 && eqb f 3) (switched k && (eqb f (switchOf k) && eqb d 4)))
+    → pick (eqb d 2) (newerIn k x) (onIn k x) ≡ not (eqb (getD x f 0 % (2 * d) / d) 0)
+unfolding onIn newerIn
+more-is k x f d s = go (eqb d 2) refl s
+  where
+    go : (c : Bool) → eqb d 2 ≡ c → T (pick c (eqb k 7 && eqb f 3) (switched k && (eqb f (switchOf k) && eqb d 4)))
+        → pick c (newerIn k x) (onIn k x) ≡ not (eqb (getD x f 0 % (2 * d) / d) 0)
+    go true e t =
+        let u = and-yes (eqb k 7) (eqb f 3) t in
+        rw (eqb-true d 2 e, eqb→eq f 3 (u .1)) (ap (λ (c : Bool). pick c (not (eqb (getD x 3 0 % 4 / 2) 0)) false) (is-true (eqb k 7) (u .0)))
+    go false e t =
+        let u = and-yes (switched k) _ t in
+        let v = and-yes (eqb f (switchOf k)) (eqb d 4) (u .1) in
+        rw (eqb→eq f (switchOf k) (v .0), eqb→eq d 4 (v .1))
+        (ap (λ (c : Bool). pick c (not (eqb (getD x (switchOf k) 0 % 8 / 4) 0)) false) (is-true (switched k) (u .0)))
 
-masked-by : (k : ℕ) (x : List ℕ) (b : ℕ) (p : Keep) → T (maskable k p) → bitAnd b (maskOf (onIn k x) p) ≡ b % modOf p x
+masked-by : (k : ℕ) (x : List ℕ) (b : ℕ) (p : Keep) → T (maskable k p) → bitAnd b (maskOf (onIn k x) (newerIn k x) p) ≡ b % modOf p x
 masked-by k x b (low n) m = and-power b n m
 masked-by k x b (sel f d m₀ m₁) m =
-    let u = and-yes (switched k) _ m in
-    let v = and-yes (eqb f (switchOf k)) _ (u .1) in
-    let w = and-yes (eqb d 4) _ (v .1) in
-    let y = and-yes (isPower m₀) (isPower m₁) (w .1) in
-    ap (λ (c : Bool). bitAnd b (pick c m₁ m₀ - 1)) (more-is k x f d (u .0) (eqb→eq f (switchOf k) (v .0)) (eqb→eq d 4 (w .0)))
-    ∙ go (eqb (getD x f 0 % (2 * d) / d) 0) (y .0) (y .1)
+    let u = and-yes (pick (eqb d 2) (eqb k 7 && eqb f 3) (switched k && (eqb f (switchOf k) && eqb d 4))) _ m in
+    let y = and-yes (isPower m₀) (isPower m₁) (u .1) in
+    ap (λ (c : Bool). bitAnd b (pick c m₁ m₀ - 1)) (more-is k x f d (u .0)) ∙ go (eqb (getD x f 0 % (2 * d) / d) 0) (y .0) (y .1)
   where
     go : (c : Bool) → T (isPower m₀) → T (isPower m₁) → bitAnd b (pick (not c) m₁ m₀ - 1) ≡ b % pick c m₀ m₁
     go true y z = and-power b m₀ y
     go false y z = and-power b m₁ z
 
-length-masks : (more : Bool) (ks : List Keep) → length (masksOf more ks) ≡ length ks
-length-masks more [] = refl
-length-masks more (k ∷ ks) = ap suc (length-masks more ks)
+length-masks : (more newer : Bool) (ks : List Keep) → length (masksOf more newer ks) ≡ length ks
+length-masks more newer [] = refl
+length-masks more newer (k ∷ ks) = ap suc (length-masks more newer ks)
 
 -- byte i of the image of the record of kind k whose bytes are x
-pub masked-byte : (k : ℕ) (x : List ℕ) (i : ℕ) → i < baseOf (layoutOf k) → bitAnd (getD x i 0) (getD (masksFor k (onIn k x)) i 0) ≡ getD (imageIn (layoutOf k) x 0) i 0
+pub masked-byte : (k : ℕ) (x : List ℕ) (i : ℕ) → i < baseOf (layoutOf k) → bitAnd (getD x i 0) (getD (masksFor k (onIn k x) (newerIn k x)) i 0) ≡ getD (imageIn (layoutOf k) x 0) i 0
 unfolding imageIn masksFor
 masked-byte k x i h =
     let ks = layoutOf k .shape .keep in
-    let ms = masksOf (onIn k x) ks in
-    ap (bitAnd (getD x i 0)) (List·getD-append ms (replicate (128 - length ms) 0) 0 i (rw (length-masks (onIn k x) ks) h) ∙ mask-at (onIn k x) ks i)
+    let ms = masksOf (onIn k x) (newerIn k x) ks in
+    ap (bitAnd (getD x i 0)) (List·getD-append ms (replicate (128 - length ms) 0) 0 i (rw (length-masks (onIn k x) (newerIn k x) ks) h) ∙ mask-at (onIn k x) (newerIn k x) ks i)
     ∙ masked-by k x (getD x i 0) (getD ks i (low 1)) (all-at (maskable k) ks (maskables k) i h)
     ∙ sym (image-at ks x i h)
 
 -- ---- a record by its own bytes
 
 keeps-look : (k : ℕ) → T (allKeep (okKeep (layoutOf k .shape .keep)) (layoutOf k .shape .keep))
-unfolding header control host hfi ssns security discovery info extended noKind
-keeps-look = by-layout (λ l. T (allKeep (okKeep (l .shape .keep)) (l .shape .keep))) tt tt tt tt tt tt tt tt tt tt
+unfolding header control host hfi ssns security discovery info extended hfiExtended noKind
+keeps-look = by-layout (λ l. T (allKeep (okKeep (l .shape .keep)) (l .shape .keep))) tt tt tt tt tt tt tt tt tt tt tt
 
 -- the image of the part of a table that a record is, is the image at its place
 pub image-own : (k : ℕ) (t : List ℕ) (a : ℕ) → imageIn (layoutOf k) (part t a (baseOf (layoutOf k))) 0 ≡ imageIn (layoutOf k) t a

@@ -1,5 +1,6 @@
 // Images: of a whole record, into lent bytes and by value, and of one field.
 use crate::masks::counts_more;
+use crate::masks::counts_newer;
 use crate::masks::masks_of;
 ghost use mathlib.Core.Path.{_≡_};
 ghost use Prim.Native.Nat.{_+_, _≤_};
@@ -15,7 +16,7 @@ pub fn put_image(out: &mut [u8], d: usize, x: &[u8], kind: u8)
     requires { ⌜ (baseOf (layoutOf kind) ≤ length (now x)) × (d + baseOf (layoutOf kind) ≤ length (now out)) ⌝ }
     ensures { λ r. ⌜ now (out .exit) ≡ splice (now (out .entry)) d (imageIn (layoutOf kind) (now (x .entry)) 0) ⌝ }
 {
-    let masks = masks_of(kind, counts_more(x, kind));
+    let masks = masks_of(kind, counts_more(x, kind), counts_newer(x, kind));
     let n = layout_kinds::base_size(kind);
     let mut i: usize = 0;
     while i < n {
@@ -40,7 +41,7 @@ pub fn field_at(x: &[u8], kind: u8, off: usize, width: usize) -> [u8; 16]
     ensures { λ r. ⌜ r ≡ padded 16 (part (imageIn (layoutOf kind) (now (x .entry)) 0) off width) ⌝ }
 {
     let mut out = [0u8; 16];
-    let masks = masks_of(kind, counts_more(x, kind));
+    let masks = masks_of(kind, counts_more(x, kind), counts_newer(x, kind));
     let mut i: usize = 0;
     while i < width {
         let j = off + i;

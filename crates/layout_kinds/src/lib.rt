@@ -4,6 +4,7 @@ use table::Discovery;
 use table::Extended;
 use table::Header;
 use table::Hfi;
+use table::HfiExtended;
 use table::Host;
 use table::Info;
 use table::Offsets;
@@ -32,6 +33,7 @@ pub fn base_size(kind: u8) -> usize
         Discovery::ID => Discovery::SIZE,
         Info::ID => Info::SIZE,
         Extended::ID => Extended::SIZE,
+        HfiExtended::ID => HfiExtended::SIZE,
         _ => 0,
     }
 }
@@ -50,6 +52,7 @@ pub fn flags_at(kind: u8) -> usize
         Discovery::ID => 1,
         Info::ID => 6,
         Extended::ID => 4,
+        HfiExtended::ID => 4,
         _ => 0,
     }
 }
@@ -76,8 +79,9 @@ pub fn reference_offsets(kind: u8) -> Offsets
         Ssns::ID => offsets_of([10, 16, 48, 54, 60, 0], 5),
         Security::ID => offsets_of([6, 12, 18, 24, 30, 36], 6),
         Discovery::ID => offsets_of([6, 12, 0, 0, 0, 0], 2),
-        Info::ID => offsets_of([104, 0, 0, 0, 0, 0], 1),
+        Info::ID => offsets_of([104, 110, 0, 0, 0, 0], 2),
         Extended::ID => offsets_of([12, 0, 0, 0, 0, 0], 1),
+        HfiExtended::ID => offsets_of([8, 14, 0, 0, 0, 0], 2),
         _ => offsets_of([0, 0, 0, 0, 0, 0], 0),
     }
 }

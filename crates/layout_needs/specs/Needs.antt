@@ -21,7 +21,11 @@ securityNeed flags secret q =
     (pick (eqb q 30) (whenSet (flags / 2048 % 2))
     (pick (eqb q 36) (whenSet (secret / 1 % 2)) Ignored)))))
 
--- kinds whose references count whatever their fields say
+-- IAID and DUID, which count under the client identifier flag
+unfoldable pub identityNeed : ℕ → ℕ → Need
+identityNeed flags q = pick (eqb q 8) (whenSet (flags / 2 % 2)) (pick (eqb q 14) (whenSet (flags / 2 % 2)) Ignored)
+
+-- kinds whose references to objects count whatever their fields say
 unfoldable pub plainNeed : ℕ → ℕ → Need
 plainNeed k q =
     pick (eqb k 2) (pick (eqb q 18) Required Ignored)

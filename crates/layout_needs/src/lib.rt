@@ -9,10 +9,10 @@ use table::Need;
 ghost use mathlib.Core.Path.{_≡_};
 ghost use Prim.Native.Nat.{_+_, _≤_};
 ghost use lib.ListN.{length};
-ghost use Rattle.table.specs.FixedLayouts.{security};
+ghost use Rattle.table.specs.FixedLayouts.{security, hfiExtended};
 ghost use Rattle.table.specs.Reads.{needAt};
 ghost use Rattle.laws.specs.Fields.{imageIn};
-ghost use Rattle.layout_needs.specs.Needs.{whenSet, ssnsNeed, securityNeed, plainNeed};
+ghost use Rattle.layout_needs.specs.Needs.{whenSet, ssnsNeed, securityNeed, identityNeed, plainNeed};
 
 fn when_set(n: usize) -> Need
     ensures { λ r. ⌜ r ≡ whenSet n ⌝ }
@@ -55,6 +55,24 @@ pub fn security_need(t: &[u8], a: usize, off: usize) -> Need
     ensures { λ r. ⌜ r ≡ needAt off (security .refs) (imageIn security (now (t .entry)) a) ⌝ }
 {
     security_judge(security_flags(t, a), bytes_wire::wide(t[a + 4] % 2), off)
+}
+
+fn identity_judge(flags: usize, off: usize) -> Need
+    ensures { λ r. ⌜ r ≡ identityNeed flags off ⌝ }
+{
+    match off {
+        8 => when_set(flags / 2 % 2),
+        14 => when_set(flags / 2 % 2),
+        _ => Need::Ignored,
+    }
+}
+
+// IAID and DUID of an HFI extended info, by its own bytes.
+pub fn identity_need(bytes: &[u8], off: usize) -> Need
+    requires { ⌜ 20 ≤ length (now bytes) ⌝ }
+    ensures { λ r. ⌜ r ≡ needAt off (hfiExtended .refs) (imageIn hfiExtended (now (bytes .entry)) 0) ⌝ }
+{
+    identity_judge(layout_flags::identity_flags(bytes), off)
 }
 
 fn host_need(off: usize) -> Need
@@ -105,7 +123,7 @@ fn extended_need(off: usize) -> Need
     Need::Ignored
 }
 
-// Header, host, discovery and heap records: their fields have no say.
+// Header, host, discovery, transport info and extended info: their fields have no say in which objects they name.
 pub fn plain_need(kind: u8, off: usize) -> Need
     ensures { λ r. ⌜ r ≡ plainNeed kind off ⌝ }
 {

@@ -2,7 +2,7 @@
 use mathlib.Core.Path.{_≡_, refl}
 use mathlib.Core.Bool.{Bool, true, false, _&&_, _||_}
 use mathlib.Core.List.{List, [], _∷_, _++_}
-use Prim.Native.Nat.{ℕ, zero, suc, _+_, _-_, _/_, _<_}
+use Prim.Native.Nat.{ℕ, zero, suc, _+_, _-_, _/_, _≤_, _<_}
 use native.Mathlib.Omega.{arith}
 use lib.ListN.{length, take, drop}
 use lib.Dec.{eqb, leb, lit<}
@@ -31,6 +31,7 @@ use Rattle.table.specs.Builder.{
   toldImage,
   toldSlots,
   slotsRule,
+  nestsRight,
   fillAnswer,
   fill,
   next,
@@ -49,7 +50,7 @@ use Rattle.table.specs.Builder.{
 }
 use Rattle.laws.specs.Fields.{Bytes}
 use Rattle.laws.specs.Positions.{Placed, one-of, check-placed}
-use Rattle.builder_state.proofs.Laws.{waits-in-place, in-list-upto}
+use Rattle.builder_state.proofs.Laws.{waits-in-place, in-list-upto, minor-bound}
 use Rattle.builder_record.specs.Calls.{hostTold, hfiTold, ssnsTold, securityTold, discoveryTold, tellHost, tellHfi, tellSsns, tellSecurity, tellDiscovery}
 use Rattle.builder_begin.specs.Begins.{headerTold, beginWith}
 use Rattle.c_states.specs.States.{SmallState}
@@ -87,7 +88,7 @@ waits-small s m k w = go (eqb k 2 || eqb k finishing) (waits-in-place s k w) whe
 fill-placed : (l : Layout) (s : State) (b x : List ℕ) (told : Slots (l .refs)) → SmallState s → Placed (fill l s b x told .step .answer)
 unfolding fill fillAnswer
 fill-placed l s b x told m =
-    answered (fillAnswer l s (length b) img ss) s (next s (sizeOf ss)) b (placed b (placeOf s l) (s .used) img ss) (go (waits s (l .kind)) refl)
+    answered (fillAnswer l s (length b) img ss) s (next s (sizeOf ss) (l .newer ss)) b (placed b (placeOf s l) (s .used) img ss) (go (waits s (l .kind)) refl)
   where
     img : List ℕ
     img = toldImage (l .shape) (s .position) x
@@ -99,10 +100,14 @@ fill-placed l s b x told m =
     n = slotsRule (envOf s) img ss
 
     rest : List Test
-    rest = test (pairsRight (l .shape) img) 10 (l .kind) (s .position) ∷ test (eqb n 0) n (l .kind) (s .position) ∷ roomTests (s .used + sizeOf ss) (length b)
+    rest =
+        test (pairsRight (l .shape) img) 10 (l .kind) (s .position)
+        ∷ test (nestsRight img ss) 12 (l .kind) (s .position)
+        ∷ test (eqb n 0) n (l .kind) (s .position)
+        ∷ roomTests (s .used + sizeOf ss) (length b)
 
     go : (c : Bool) → waits s (l .kind) ≡ c → Placed (firstFail (test c 15 0 0 ∷ rest))
-    go true e = let p = waits-small s m (l .kind) e in fails-placed rest (p, (p, (lit< tt, (lit< tt, tt))))
+    go true e = let p = waits-small s m (l .kind) e in fails-placed rest (p, (p, (p, (lit< tt, (lit< tt, tt)))))
     go false e = lit< tt
 
 module _ (s : State) (m : SmallState s) (b x : List ℕ) where
@@ -110,9 +115,9 @@ module _ (s : State) (m : SmallState s) (b x : List ℕ) where
   unfolding tellHost
   host-placed nqn = fill-placed host s b x (hostTold nqn) m
 
-  pub hfi-placed : (i name : List ℕ) → tellHfi s b x i name .step .answer .position < 256
+  pub hfi-placed : (i name : List ℕ) (told : Bool) (e iaid duid : List ℕ) → tellHfi s b x i name told e iaid duid .step .answer .position < 256
   unfolding tellHfi
-  hfi-placed i name = fill-placed hfi s b x (hfiTold i name) m
+  hfi-placed i name told e iaid duid = fill-placed hfi s b x (hfiTold i name told e iaid duid) m
 
   pub ssns-placed : (address service others nqn e path : List ℕ) → tellSsns s b x address service others nqn e path .step .answer .position < 256
   unfolding tellSsns
@@ -130,7 +135,7 @@ pub leave-placed : (s : State) (b : List ℕ) → leave s b .step .answer .posit
 unfolding leave
 leave-placed s b =
     let ts : List Test = test (waits s (s .turn) && leb 1 (s .position)) 15 0 0 ∷ test (leb (s .used) (length b)) 14 0 0 ∷ [] in
-    answered (firstFail ts) s (next s 0) b b (fails-placed ts (lit< tt, (lit< tt, tt)))
+    answered (firstFail ts) s (next s 0 false) b b (fails-placed ts (lit< tt, (lit< tt, tt)))
 
 pub begin-placed : (s : State) (b oem cs signature : List ℕ) → beginWith s b oem cs signature .step .answer .position < 256
 unfolding beginWith begin
@@ -138,7 +143,7 @@ begin-placed s b oem cs signature =
     let m = opened oem cs (headerTold signature) in
     let n = slotsRule (env (countOf listKinds cs) 0) [] (headerTold signature) in
     let ts : List Test = test (sameState s empty) 15 0 0 ∷ test (eqb n 0) n 0 0 ∷ roomTests (formLength m) (length b) in
-    answered (firstFail ts) s (begun cs (formLength m)) b (splice b 0 (laidOut m 0 0 0)) (fails-placed ts (lit< tt, (lit< tt, (lit< tt, (lit< tt, tt)))))
+    answered (firstFail ts) s (begun cs (formLength m)) b (splice b 0 (laidOut m 0 0 0 0)) (fails-placed ts (lit< tt, (lit< tt, (lit< tt, (lit< tt, tt)))))
 
 -- ---- the finished bytes are bytes
 
@@ -170,14 +175,16 @@ bytes-one : (x : ℕ) → x < 256 → Bytes (x ∷ [])
 bytes-one x p zero = p
 bytes-one x p (suc i) = lit< tt
 
-bytes-sealed : (s : State) (b : List ℕ) → Bytes b → Bytes (sealed s b)
+bytes-sealed : (s : State) (b : List ℕ) → s .minor ≤ 1 → Bytes b → Bytes (sealed s b)
 unfolding sealed
-bytes-sealed s b p =
-    let heap : List ℕ = splice b 40 (le 4 (s .used - recordsEnd s)) in
+bytes-sealed s b o p =
+    let minor : List ℕ = splice b 50 (s .minor ∷ []) in
+    let heap : List ℕ = splice minor 40 (le 4 (s .used - recordsEnd s)) in
     let total : List ℕ = splice heap 4 (le 4 (s .used)) in
     let y : List ℕ = splice total 9 (0 ∷ []) in
     let sum : ℕ = checksum (take (s .used) y) in
-    let hp : Bytes heap = bytes-splice b 40 (le 4 (s .used - recordsEnd s)) p (bytes-le 4 (s .used - recordsEnd s)) in
+    let mp : Bytes minor = bytes-splice b 50 (s .minor ∷ []) p (bytes-one (s .minor) (omega arith)) in
+    let hp : Bytes heap = bytes-splice minor 40 (le 4 (s .used - recordsEnd s)) mp (bytes-le 4 (s .used - recordsEnd s)) in
     let tp : Bytes total = bytes-splice heap 4 (le 4 (s .used)) hp (bytes-le 4 (s .used)) in
     let yp : Bytes y = bytes-splice total 9 (0 ∷ []) tp (bytes-one 0 (lit< tt)) in
     bytes-splice y 9 (sum ∷ []) yp (bytes-one sum (omega arith))
@@ -185,7 +192,18 @@ bytes-sealed s b p =
 pub finish-placed : (s : State) (b : List ℕ) → Bytes b → finish s b .step .answer .position < 256
 unfolding finish
 finish-placed s b p =
-    let ts : List Test = test (waits s finishing) 15 0 0 ∷ test (leb (s .used) (length b)) 14 0 0 ∷ [] in
-    let t : List ℕ = take (s .used) (sealed s b) in
-    answered (first (firstFail ts) (check t)) s (moved s (turn finished 0) (s .used)) b (sealed s b)
-    (one-of (eqb (firstFail ts .number) 0) (check t) (firstFail ts) (check-placed t (bytes-take (s .used) (sealed s b) (bytes-sealed s b p))) (fails-placed ts (lit< tt, (lit< tt, tt))))
+    answered (first (firstFail (tests (waits s finishing))) (check t)) s (moved s (turn finished 0) (s .used) (s .minor)) b (sealed s b) (go (waits s finishing) refl)
+  where
+    tests : Bool → List Test
+    tests w = test w 15 0 0 ∷ test (leb (s .used) (length b)) 14 0 0 ∷ []
+
+    t : List ℕ
+    t = take (s .used) (sealed s b)
+
+    -- the reader is asked only of the bytes of a state that waits, whose minor is a byte
+    go : (w : Bool) → waits s finishing ≡ w → Placed (first (firstFail (tests w)) (check t))
+    go true e =
+        one-of (eqb (firstFail (tests true) .number) 0) (check t) (firstFail (tests true))
+        (check-placed t (bytes-take (s .used) (sealed s b) (bytes-sealed s b (minor-bound s finishing e) p)))
+        (fails-placed (tests true) (lit< tt, (lit< tt, tt)))
+    go false e = lit< tt

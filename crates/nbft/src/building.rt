@@ -5,10 +5,13 @@ use c_states::state_of;
 use table::Discovery;
 use table::Extended;
 use table::Hfi;
+use table::HfiExtended;
 use table::Host;
 use table::Info;
 use table::Security;
 use table::Ssns;
+ghost use mathlib.Core.Bool.{not};
+ghost use lib.Dec.{eqb};
 ghost use Rattle.table.specs.Builder as definition;
 ghost use Rattle.builder_record.specs.Calls.{tellHost, tellHfi, tellSsns, tellSecurity, tellDiscovery};
 ghost use Rattle.builder_begin.specs.Begins.{beginWith};
@@ -47,7 +50,7 @@ pub extern "C" fn nbft_host(
     show(state, step)
 }
 
-// `info` is the HFI's transport info, which names the host name.
+// `info` is the HFI's transport info, which names the host name and, under version 2, the HFI extended info: it is told where `extended_told` is not 0.
 #[no_mangle]
 pub extern "C" fn nbft_hfi(
     state: &mut [u8; 16],
@@ -55,18 +58,27 @@ pub extern "C" fn nbft_hfi(
     told: &[u8; 32],
     info: &[u8; 128],
     name: &[u8],
+    extended_told: u8,
+    extended: &[u8; 20],
+    iaid: &[u8],
+    duid: &[u8],
 ) -> u32
-    ensures { λ r. ⌜ Shown (tellHfi (stateOf (now (state .entry))) (now (out .entry)) (now (told .entry)) (now (info .entry)) (now (name .entry))) (now (state .entry)) r (now (state .exit)) (now (out .exit)) ⌝ }
+    ensures { λ r. ⌜ Shown (tellHfi (stateOf (now (state .entry))) (now (out .entry)) (now (told .entry)) (now (info .entry)) (now (name .entry)) (not (eqb «extended_told» 0)) (now (extended .entry)) (now (iaid .entry)) (now (duid .entry))) (now (state .entry)) r (now (state .exit)) (now (out .exit)) ⌝ }
 {
     let before = *state;
     let bytes = *told;
     let own = *info;
+    let identity = *extended;
     let step = builder::hfi(
         out,
         state_of(before),
         Hfi { bytes: bytes },
         Info { bytes: own },
         name,
+        extended_told != 0,
+        HfiExtended { bytes: identity },
+        iaid,
+        duid,
     );
     show(state, step)
 }

@@ -2,33 +2,30 @@
 use mathlib.Core.Path.{_≡_, refl, sym, ap, _∙_}
 use mathlib.Core.Bool.{Bool, true, false, _&&_}
 use mathlib.Core.List.{List, [], _∷_}
-use Prim.Native.Nat.{ℕ, zero, suc, _+_, _-_, _*_, _/_, _%_, _≤_, _<_}
+use Prim.Native.Nat.{ℕ, zero, suc, _+_, _-_, _*_, _≤_, _<_}
 use native.Mathlib.Omega.{arith}
 use native.Mathlib.Nat.{le-of-suc-le-suc, not-suc-le-zero}
-use lib.ListN.{length, getD, length-take, length-drop}
-use lib.Dec.{eqb, leb, leb→le, lit<}
-use mir.Facts.{and-yes}
+use lib.ListN.{length, getD}
+use lib.Dec.{eqb}
 use borrow.Author.Tests.{ne-eqb, eqb-true, eqb-false}
 use Rattle.table.specs.declared.Answer.{Answer}
 use Rattle.table.specs.declared.Region.{Region}
 use Rattle.table.specs.declared.Need.the-variants.{Optional, Required}
-use Rattle.table.specs.Bytes.{pick, part, num, odd}
-use Rattle.table.specs.Layout.{Env, Refs, Shape, image, offsets, region}
-use Rattle.table.specs.FixedLayouts.{layoutOf, listKinds, info, extended, ssns}
+use Rattle.table.specs.Bytes.{pick, num, odd}
+use Rattle.table.specs.Layout.{offsets, region}
+use Rattle.table.specs.FixedLayouts.{layoutOf, listKinds, ssns}
 use Rattle.table.specs.Objects.{readBody}
-use Rattle.table.specs.Rules.{answer, bodyRule, done, first, firstFail, firstOf, isSound, reaches, refRule}
+use Rattle.table.specs.Rules.{answer, bodyRule, done, first, firstFail, firstOf, reaches, refRule}
 use Rattle.table.specs.Meaning.{meaning}
 use Rattle.table.specs.Numbers.{check, heapIn, records, tests}
-use Rattle.laws.specs.Sound.{first-of, pick-of}
-use Rattle.laws.specs.Fields.{imageIn}
-use Rattle.laws.specs.RefWalk.{firstOver, ownRule, partRule}
+use Rattle.laws.specs.Sound.{first-of}
+use Rattle.laws.specs.RefWalk.{firstOver}
 use Rattle.laws.specs.ListWalk.{envIn, validIn, walk-more, walk-stop}
 use Rattle.reader_frame.specs.Bounds.{LaidOut, ListIn}
 use Rattle.reader_frame.proofs.Laws.{laid-out}
-use Rattle.reader_rules.specs.Rules.{IsHeap, refFault}
+use Rattle.reader_rules.specs.Rules.{refFault}
 use Rattle.reader_rules.specs.Records.{rightRule}
-use Rattle.reader_heap_records.specs.HeapRecords.{spot}
-use Rattle.reader_rules.proofs.HeapLaws.{Inside, extended-no, extended-yes, info-no, info-yes, reached}
+use Rattle.reader_rules.proofs.HeapLaws.{Inside, reached}
 use Rattle.reader_lists.specs.Lists.{counts, listFault, listFrom, recordFault, usedFault}
 use Rattle.reader.specs.Stages.{hostFault, numbered}
 use Rattle.reader_indexes.specs.Indexes.{namesRule, refsFault}
@@ -183,43 +180,3 @@ optional-in from n off len e h = reached from n off len (go (eqb off 0) (reaches
   go b true f = refl
   go true false f = absurd (omega (arith, rw (ne-eqb len 0 (λ z. omega arith)) at f))
   go false false f = absurd (omega arith)
-
--- ---- heap records that pass
-
-part-long : (heap : Region) (e : Env) (shape : Shape) (rs : Refs) (x : List ℕ) → partRule heap e shape rs x ≡ 0 → length (shape .keep) ≤ length x
-unfolding partRule
-part-long heap e shape rs x z =
-    let u = first-of (pick (leb (length (shape .keep)) (length x) && isSound shape e (image (shape .keep) x)) 0 12) (firstOver (ownRule heap rs (image (shape .keep) x) x) (offsets rs)) z in
-    let v = pick-of (leb (length (shape .keep)) (length x) && isSound shape e (image (shape .keep) x)) 12 (lit< tt) (u .0) in
-    leb→le (length (shape .keep)) (length x) (and-yes (leb (length (shape .keep)) (length x)) (isSound shape e (image (shape .keep) x)) v .0)
-
-part-length : (heap : List ℕ) (from off len : ℕ) → Inside from (length heap) off len → length (part heap (off - from) len) ≡ len
-part-length heap from off len i = simp (length-take, length-drop) (omega (arith, i))
-
-module _ (t heap : List ℕ) (from a pos : ℕ) (h : IsHeap t heap from) where
-  -- the transport info of the HFI at a
-  pub info-in : refFault 3 (region from (length heap)) t a pos 16 ≡ 0 → Inside from (length heap) (num t (a + 16) 4) (num t (a + 16 + 4) 2) × (128 ≤ num t (a + 16 + 4) 2)
-  unfolding info
-  info-in e = go (reaches (region from (length heap)) (num t (a + 16) 4) (num t (a + 16 + 4) 2)) refl where
-    go : (c : Bool) → reaches (region from (length heap)) (num t (a + 16) 4) (num t (a + 16 + 4) 2) ≡ c
-        → Inside from (length heap) (num t (a + 16) 4) (num t (a + 16 + 4) 2) × (128 ≤ num t (a + 16 + 4) 2)
-    go true f =
-        let i = reached from (length heap) (num t (a + 16) 4) (num t (a + 16 + 4) 2) f in
-        let l = part-long (region from (length heap)) (spot pos) (info .shape) (info .refs) (part heap (num t (a + 16) 4 - from) (num t (a + 16 + 4) 2)) (info-yes t heap from a pos h f ∙ e) in
-        (i, rw (part-length heap from (num t (a + 16) 4) (num t (a + 16 + 4) 2) i) at l)
-    go false f = absurd (omega (arith, info-no t heap from a pos h f ∙ e))
-
-  -- the extended info of the SSNS at a, where flag 4 says that there is one
-  pub extended-in : eqb (num (imageIn ssns t a) 3 2 / 16 % 2) 0 ≡ false → refFault 4 (region from (length heap)) t a pos 60 ≡ 0
-      → Inside from (length heap) (num t (a + 60) 4) (num t (a + 60 + 4) 2) × (18 ≤ num t (a + 60 + 4) 2)
-  unfolding extended
-  extended-in s e = go (reaches (region from (length heap)) (num t (a + 60) 4) (num t (a + 60 + 4) 2)) refl where
-    go : (c : Bool) → reaches (region from (length heap)) (num t (a + 60) 4) (num t (a + 60 + 4) 2) ≡ c
-        → Inside from (length heap) (num t (a + 60) 4) (num t (a + 60 + 4) 2) × (18 ≤ num t (a + 60 + 4) 2)
-    go true f =
-        let i = reached from (length heap) (num t (a + 60) 4) (num t (a + 60 + 4) 2) f in
-        let l =
-        part-long (region from (length heap)) (spot pos) (extended .shape) (extended .refs) (part heap (num t (a + 60) 4 - from) (num t (a + 60 + 4) 2))
-        (extended-yes t heap from a pos h s f ∙ e) in
-        (i, rw (part-length heap from (num t (a + 60) 4) (num t (a + 60 + 4) 2) i) at l)
-    go false f = absurd (omega (arith, extended-no t heap from a pos h s f ∙ e))

@@ -1,28 +1,39 @@
-// Heap records by their own bytes: the transport info of an HFI and the extended info of an SSNS.
+// Heap records by their own bytes: the transport info of an HFI, the HFI extended info that it may name, and the extended info of an SSNS.
 use layout_kinds::TCP;
+use layout_needs::identity_need;
+use layout_needs::plain_need;
+use reader_references::part_at;
+use reader_references::plain_fault;
 use table::Extended;
+use table::HfiExtended;
 use table::Info;
+use table::Need;
 ghost use mathlib.Core.Path.{_≡_};
+ghost use mathlib.Core.Bool.{_||_};
+ghost use mathlib.Core.List.{[]};
 ghost use Prim.Native.Nat.{_+_, _≤_, _<_};
-ghost use lib.ListN.{length};
+ghost use lib.ListN.{length, getD};
+ghost use lib.Dec.{eqb};
 ghost use Rattle.table.specs.Bytes.{pick};
 ghost use Rattle.table.specs.Layout.{baseOf, region};
-ghost use Rattle.table.specs.FixedLayouts.{layoutOf, info, extended};
+ghost use Rattle.table.specs.FixedLayouts.{layoutOf, info, extended, hfiExtended};
+ghost use Rattle.laws.specs.Fields.{imageIn};
 ghost use Rattle.laws.specs.RefWalk.{partRule};
-ghost use Rattle.reader_heap_records.specs.HeapRecords.{spot, soundBy, ownFaults};
+ghost use Rattle.reader_heap_records.specs.HeapRecords.{spot, soundBy, infoRight, identityRight, ownNeed, ownFaults, identityFault, infoFault, infoFaults, infoPart};
 
-// Valid, with the right ID, versions, type and index, by what was read. For a kind without type the right one is handed over.
+// Valid, with the right ID, version, type and index, by what was read, and what else its kind asks for. For a kind without type the right one is
+// handed over.
 fn sound(
     kind: u8,
     flags: u8,
     id: u8,
     version: u8,
     transport: u8,
-    tversion: u8,
     index: usize,
     position: usize,
+    further: bool,
 ) -> u8
-    ensures { λ r. ⌜ r ≡ pick (soundBy kind flags id version transport tversion index position) 0 12 ⌝ }
+    ensures { λ r. ⌜ r ≡ pick (soundBy kind flags id version transport index position further) 0 12 ⌝ }
 {
     if flags % 2 != 1 {
         return 12;
@@ -36,16 +47,70 @@ fn sound(
     if transport != TCP {
         return 12;
     }
-    if tversion != 1 {
-        return 12;
-    }
     if index != position {
         return 12;
     }
-    0
+    if further { 0 } else { 12 }
 }
 
-// The first fault of its references, by ascending field offset. Each names an object of plain bytes: no heap record names another.
+fn is_version(version: u8) -> bool
+    ensures { λ r. ⌜ r ≡ (eqb version 1 || eqb version 2) ⌝ }
+{
+    if version == 1 {
+        return true;
+    }
+    version == 2
+}
+
+// An autoconfigured interface (flag 3) has neither DHCP (flag 2) nor an IP origin.
+fn info_right(version: u8, flags: u8, origin: u8) -> bool
+    ensures { λ r. ⌜ r ≡ infoRight version flags origin ⌝ }
+{
+    if !is_version(version) {
+        return false;
+    }
+    if flags / 8 % 2 == 0 {
+        return true;
+    }
+    if flags / 4 % 2 != 0 {
+        return false;
+    }
+    origin == 0
+}
+
+// The flags of an info that count: one more under version 2.
+fn info_flags(x: &[u8]) -> u8
+    requires { ⌜ 128 ≤ length (now x) ⌝ }
+    ensures { λ r. ⌜ r ≡ getD (imageIn info (now (x .entry)) 0) 6 0 ⌝ }
+{
+    if x[3] % 4 / 2 == 0 {
+        return x[6] % 8;
+    }
+    x[6] % 16
+}
+
+// A client identifier (flag 1) asks for IP origin 3.
+fn identity_right(flags: u8, origin: u8) -> bool
+    ensures { λ r. ⌜ r ≡ identityRight flags origin ⌝ }
+{
+    if flags / 2 % 2 == 0 {
+        return true;
+    }
+    origin == 3
+}
+
+// Whether a reference of a heap record that names objects alone counts.
+fn own_need(x: &[u8], kind: u8, off: usize) -> Need
+    requires { ⌜ baseOf (layoutOf kind) ≤ length (now x) ⌝ }
+    ensures { λ r. ⌜ r ≡ ownNeed kind (now (x .entry)) off ⌝ }
+{
+    match kind {
+        HfiExtended::ID => identity_need(x, off),
+        _ => plain_need(kind, off),
+    }
+}
+
+// The first fault of its references, by ascending field offset.
 fn own_fault(x: &[u8], kind: u8, from: usize, n: usize) -> u8
     requires { ⌜ (baseOf (layoutOf kind) ≤ length (now x)) × (from + n < 8589934592) ⌝ }
     ensures { λ r. ⌜ r ≡ ownFaults kind (region from n) (now (x .entry)) ⌝ }
@@ -55,13 +120,80 @@ fn own_fault(x: &[u8], kind: u8, from: usize, n: usize) -> u8
     let mut i: usize = 0;
     while i < count {
         let off = rs.at[i];
-        let fault = reader_references::plain_fault(
-            x,
-            off,
-            layout_needs::plain_need(kind, off),
-            from,
-            n,
-        );
+        let fault = plain_fault(x, off, own_need(x, kind, off), from, n);
+        if fault != 0 {
+            return fault;
+        }
+        i += 1;
+    }
+    0
+}
+
+// HFI extended info by its own bytes and those of the info that names it: long enough, sound, then its references.
+fn identity_fault(owner: &[u8], x: &[u8], position: usize, from: usize, n: usize) -> u8
+    requires { ⌜ (128 ≤ length (now owner)) × (from + n < 8589934592) ⌝ }
+    ensures { λ r. ⌜ r ≡ partRule (region from n) (spot position) (hfiExtended .shape) (hfiExtended .refs) (imageIn info (now (owner .entry)) 0) (now (x .entry)) ⌝ }
+{
+    if x.len() < HfiExtended::SIZE {
+        return 12;
+    }
+    let flags = x[4] % 4;
+    let fault = sound(
+        HfiExtended::ID,
+        flags,
+        x[0],
+        x[1],
+        TCP,
+        bytes_wire::u16_at(x, 2),
+        position,
+        identity_right(flags, owner[19]),
+    );
+    if fault != 0 {
+        return fault;
+    }
+    own_fault(x, HfiExtended::ID, from, n)
+}
+
+// The reference of an info to its extended info, which counts under version 2 alone. It is handed on as the part of the heap that it is.
+fn identity_ref(x: &[u8], position: usize, heap: &[u8], from: usize) -> u8
+    requires { ⌜ (128 ≤ length (now x)) × (from + length (now heap) < 8589934592) ⌝ }
+    ensures { λ r. ⌜ r ≡ identityFault (now (heap .entry)) from position (now (x .entry)) ⌝ }
+{
+    if x[3] != 2 {
+        return 0;
+    }
+    let fault = plain_fault(x, 110, Need::Optional, from, heap.len());
+    if fault != 0 {
+        return fault;
+    }
+    let named = part_at(x, 110, heap, from);
+    if named.len() == 0 {
+        return 0;
+    }
+    identity_fault(x, named, position, from, heap.len())
+}
+
+// A reference of an info: its extended info, or an object.
+fn info_ref(x: &[u8], position: usize, off: usize, heap: &[u8], from: usize) -> u8
+    requires { ⌜ (128 ≤ length (now x)) × (off + 6 ≤ length (now x)) × (from + length (now heap) < 8589934592) ⌝ }
+    ensures { λ r. ⌜ r ≡ infoFault (now (heap .entry)) from position (now (x .entry)) off ⌝ }
+{
+    if off == 110 {
+        return identity_ref(x, position, heap, from);
+    }
+    plain_fault(x, off, plain_need(Info::ID, off), from, heap.len())
+}
+
+// The first fault of them, by ascending field offset.
+fn info_refs(x: &[u8], position: usize, heap: &[u8], from: usize) -> u8
+    requires { ⌜ (128 ≤ length (now x)) × (from + length (now heap) < 8589934592) ⌝ }
+    ensures { λ r. ⌜ r ≡ infoFaults (now (heap .entry)) from position (now (x .entry)) ⌝ }
+{
+    let rs = layout_kinds::reference_offsets(Info::ID);
+    let count = rs.count;
+    let mut i: usize = 0;
+    while i < count {
+        let fault = info_ref(x, position, rs.at[i], heap, from);
         if fault != 0 {
             return fault;
         }
@@ -71,33 +203,34 @@ fn own_fault(x: &[u8], kind: u8, from: usize, n: usize) -> u8
 }
 
 // HFI transport info by its own bytes: long enough, sound, then its references.
-pub fn info_fault(x: &[u8], position: usize, from: usize, n: usize) -> u8
-    requires { ⌜ from + n < 8589934592 ⌝ }
-    ensures { λ r. ⌜ r ≡ partRule (region from n) (spot position) (info .shape) (info .refs) (now (x .entry)) ⌝ }
+pub fn info_fault(x: &[u8], position: usize, heap: &[u8], from: usize) -> u8
+    requires { ⌜ from + length (now heap) < 8589934592 ⌝ }
+    ensures { λ r. ⌜ r ≡ infoPart (now (heap .entry)) from position (now (x .entry)) ⌝ }
 {
     if x.len() < Info::SIZE {
         return 12;
     }
+    let flags = info_flags(x);
     let fault = sound(
         Info::ID,
-        x[6] % 8,
+        flags,
         x[0],
         x[1],
         x[2],
-        x[3],
         bytes_wire::u16_at(x, 4),
         position,
+        info_right(x[3], flags, x[19]),
     );
     if fault != 0 {
         return fault;
     }
-    own_fault(x, Info::ID, from, n)
+    info_refs(x, position, heap, from)
 }
 
-// SSNS extended info, the same.
+// SSNS extended info, which names one object and asks for nothing else.
 pub fn extended_fault(x: &[u8], position: usize, from: usize, n: usize) -> u8
     requires { ⌜ from + n < 8589934592 ⌝ }
-    ensures { λ r. ⌜ r ≡ partRule (region from n) (spot position) (extended .shape) (extended .refs) (now (x .entry)) ⌝ }
+    ensures { λ r. ⌜ r ≡ partRule (region from n) (spot position) (extended .shape) (extended .refs) [] (now (x .entry)) ⌝ }
 {
     if x.len() < Extended::SIZE {
         return 12;
@@ -108,9 +241,9 @@ pub fn extended_fault(x: &[u8], position: usize, from: usize, n: usize) -> u8
         x[0],
         x[1],
         TCP,
-        1,
         bytes_wire::u16_at(x, 2),
         position,
+        true,
     );
     if fault != 0 {
         return fault;

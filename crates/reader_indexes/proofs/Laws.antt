@@ -15,7 +15,7 @@ use Rattle.table.specs.declared.Need.the-variants.{Optional}
 use Rattle.table.specs.Bytes.{pick, part, num, every}
 use Rattle.table.specs.declared.Need.{Need}
 use Rattle.table.specs.Layout.{Content, Env, Layout, Refs, image, namedAt, plain, referenceAt, region, slotAt}
-use Rattle.table.specs.FixedLayouts.{layoutOf, header, control, host, hfi, ssns, security, discovery, info, extended, noKind, zeroOr}
+use Rattle.table.specs.FixedLayouts.{layoutOf, header, control, host, hfi, ssns, security, discovery, info, extended, hfiExtended, noKind, zeroOr}
 use Rattle.table.specs.Objects.{readSlots, readBody, usedIn, under}
 use Rattle.table.specs.Rules.{firstOf, refRule, plainRule, refsRule, reaches, ruled}
 use Rattle.laws.specs.ImageLaws.{image-at}
@@ -187,18 +187,20 @@ abbrev namesOf : List ℕ → ℕ → Layout → ℕ
 namesOf t a l = pick (l .names (validIn t) (imageIn l t a) (readSlots t a (imageIn l t a) (l .refs))) 0 13
 
 pub no-names : (t : List ℕ) (a k : ℕ) → (k ≡ 4 → ⊥) → (k ≡ 6 → ⊥) → 0 ≡ namesRule k t a
-unfolding namesRule layoutOf header control host hfi security info extended noKind
-no-names t a k x y = rw (ne-eqb k 4 x, ne-eqb k 6 y) (go (eqb k 0) (eqb k 1) (eqb k 2) (eqb k 3) (eqb k 5) (eqb k 7) (eqb k 9))
+unfolding namesRule layoutOf header control host hfi security info extended hfiExtended noKind
+no-names t a k x y = rw (ne-eqb k 4 x, ne-eqb k 6 y) (go (eqb k 0) (eqb k 1) (eqb k 2) (eqb k 3) (eqb k 5) (eqb k 7) (eqb k 9) (eqb k 10))
   where
-    go : (b0 b1 b2 b3 b5 b7 b9 : Bool) → 0 ≡ namesOf t a (pick b0 header (pick b1 control (pick b2 host (pick b3 hfi (pick b5 security (pick b7 info (pick b9 extended noKind)))))))
-    go true b1 b2 b3 b5 b7 b9 = refl
-    go false true b2 b3 b5 b7 b9 = refl
-    go false false true b3 b5 b7 b9 = refl
-    go false false false true b5 b7 b9 = refl
-    go false false false false true b7 b9 = refl
-    go false false false false false true b9 = refl
-    go false false false false false false true = refl
-    go false false false false false false false = refl
+    go : (b0 b1 b2 b3 b5 b7 b9 b10 : Bool)
+        → 0 ≡ namesOf t a (pick b0 header (pick b1 control (pick b2 host (pick b3 hfi (pick b5 security (pick b7 info (pick b9 extended (pick b10 hfiExtended noKind))))))))
+    go true b1 b2 b3 b5 b7 b9 b10 = refl
+    go false true b2 b3 b5 b7 b9 b10 = refl
+    go false false true b3 b5 b7 b9 b10 = refl
+    go false false false true b5 b7 b9 b10 = refl
+    go false false false false true b7 b9 b10 = refl
+    go false false false false false true b9 b10 = refl
+    go false false false false false false true b10 = refl
+    go false false false false false false false true = refl
+    go false false false false false false false false = refl
 
 -- ---- what an answer of 0 or 13 says
 

@@ -27,7 +27,7 @@ fn info_ref(t: &[u8], a: usize, position: usize, heap: &[u8], from: usize) -> u8
     if x.len() == 0 {
         return 11;
     }
-    reader_heap_records::info_fault(x, position, from, heap.len())
+    reader_heap_records::info_fault(x, position, heap, from)
 }
 
 fn extended_ref(t: &[u8], a: usize, position: usize, heap: &[u8], from: usize) -> u8

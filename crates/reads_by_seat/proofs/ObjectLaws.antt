@@ -7,7 +7,7 @@ use native.Mathlib.Nat.{zero-add}
 use native.Mathlib.Omega.{arith}
 use lib.ListN.{length}
 use lib.Dec.{eqb}
-use borrow.Author.Tests.{eqb-true}
+use borrow.Author.Tests.{eqb-true, ne-eqb}
 use Rattle.table.specs.declared.Place.{Place}
 use Rattle.table.specs.declared.Need.{Need}
 use Rattle.table.specs.declared.Need.the-variants.{Ignored, Optional, Required}
@@ -79,32 +79,38 @@ heeded-counts (nest p need shape own rest) g q img x y h = go (eqb q p) refl (he
   go true e f = absurd (true≢false (sym h ∙ ap (λ (i : ℕ). hasPlain i rest) (eqb-true q p e) ∙ g .0))
   go false e f = f
 
-kinds-heeded : (k : ℕ) → eqb k 5 ≡ false → Heeded (layoutOf k .refs)
+kinds-heeded : (k : ℕ) → eqb k 5 ≡ false → eqb k 10 ≡ false → Heeded (layoutOf k .refs)
 unfolding layoutOf header control host hfi ssns discovery info extended
 kinds-heeded =
-    by-kind (λ k. eqb k 5 ≡ false → Heeded (layoutOf k .refs))
-    (λ n. ((λ img x y. refl), omega arith))
-    (λ n. omega arith)
-    (λ n. ((λ img x y. refl), omega arith))
-    (λ n. (refl, omega arith))
-    (λ n. ((λ img x y. refl), ((λ img x y. refl), ((λ img x y. refl), ((λ img x y. refl), (refl, omega arith))))))
-    (λ n. absurd (true≢false n))
-    (λ n. ((λ img x y. refl), ((λ img x y. refl), omega arith)))
-    (λ n. ((λ img x y. refl), omega arith))
-    (λ n. ((λ img x y. refl), omega arith))
-    (λ k o n. subst (λ (l : Layout). Heeded (l .refs)) (sym (other-layout k o)) (unfold noKind in omega arith))
+    by-kind (λ k. eqb k 5 ≡ false → eqb k 10 ≡ false → Heeded (layoutOf k .refs))
+    (λ n m. ((λ img x y. refl), omega arith))
+    (λ n m. omega arith)
+    (λ n m. ((λ img x y. refl), omega arith))
+    (λ n m. (refl, omega arith))
+    (λ n m. ((λ img x y. refl), ((λ img x y. refl), ((λ img x y. refl), ((λ img x y. refl), (refl, omega arith))))))
+    (λ n m. absurd (true≢false n))
+    (λ n m. ((λ img x y. refl), ((λ img x y. refl), omega arith)))
+    (λ n m. ((λ img x y. refl), (refl, omega arith)))
+    (λ n m. ((λ img x y. refl), omega arith))
+    (λ n m. absurd (true≢false m))
+    (λ k o n m. subst (λ (l : Layout). Heeded (l .refs)) (sym (other-layout k o)) (unfold noKind in omega arith))
 
-pub never-ignored : (k q : ℕ) (img : List ℕ) (x y : ℕ) → eqb k 5 ≡ false → hasPlain q (layoutOf k .refs) ≡ true → under (needAt q (layoutOf k .refs) img) x y ≡ y
-never-ignored k q img x y n h = heeded-counts (layoutOf k .refs) (kinds-heeded k n) q img x y h
+-- so it counts
+pub never-ignored : (k q : ℕ) (img : List ℕ) → (k ≡ 5 → ⊥) → (k ≡ 10 → ⊥) → hasPlain q (layoutOf k .refs) ≡ true → true ≡ under (needAt q (layoutOf k .refs) img) false true
+never-ignored k q img n m h = go (needAt q (layoutOf k .refs) img) (heeded-counts (layoutOf k .refs) (kinds-heeded k (ne-eqb k 5 n) (ne-eqb k 10 m)) q img 0 1 h)
+  where
+    go : (c : Need) → _≡_ {A = ℕ} (under c 0 1) 1 → true ≡ under c false true
+    go Ignored e = absurd (omega (arith, e))
+    go Optional e = refl
+    go Required e = refl
 
--- those of a security record: c says whether the one at p counts
-pub security-len : (x : List ℕ) (k p : ℕ) → k ≡ 5 → hasPlain p (layoutOf k .refs) ≡ true → (c : Bool) → c ≡ under (needAt p (security .refs) (imageIn security x 0)) false true
+-- c says whether the reference at p counts
+pub counted-len : (x : List ℕ) (k p : ℕ) → hasPlain p (layoutOf k .refs) ≡ true → (c : Bool) → c ≡ under (needAt p (layoutOf k .refs) (imageIn (layoutOf k) x 0)) false true
     → placeAt x p (seat (layoutOf k) 0 true) .len ≡ pick c (referenceAt x p .len) 0
-unfolding layoutOf imageIn
-security-len x k p e h c f =
-    ap (λ (j : ℕ). placeAt x p (seat (layoutOf j) 0 true) .len) e
-    ∙ place-len x security p (ap (λ (j : ℕ). hasPlain p (layoutOf j .refs)) (sym e) ∙ h)
-    ∙ go (needAt p (security .refs) (image (security .shape .keep) x)) (referenceAt x p .len)
+unfolding imageIn
+counted-len x k p h c f =
+    place-len x (layoutOf k) p h
+    ∙ go (needAt p (layoutOf k .refs) (image (layoutOf k .shape .keep) x)) (referenceAt x p .len)
     ∙ ap (λ (b : Bool). pick b (referenceAt x p .len) 0) (sym f)
   where
     go : (m : Need) (n : ℕ) → under m 0 n ≡ pick (under m false true) n 0

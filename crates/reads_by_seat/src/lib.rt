@@ -4,3 +4,4 @@ pub mod counts; // fields of the header and of the control record
 pub mod image; // the image of a used record
 pub mod objects; // the objects of a used record
 pub mod sums; // sums of bytes, and that of the driver signature
+pub mod versions; // the version of an info

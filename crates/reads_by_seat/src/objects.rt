@@ -2,6 +2,7 @@
 use reads_seats::lent::heap_part;
 use reads_seats::lent::part_of;
 use reads_seats::lent::record_at;
+use table::HfiExtended;
 use table::Need;
 use table::Security;
 ghost use mathlib.Core.Path.{_≡_};
@@ -10,19 +11,16 @@ ghost use Prim.Native.Nat.{_+_, _≤_, _<_};
 ghost use lib.ListN.{length};
 ghost use Rattle.table.specs.Bytes.{part};
 ghost use Rattle.table.specs.Layout.{baseOf};
-ghost use Rattle.table.specs.FixedLayouts.{layoutOf, security};
+ghost use Rattle.table.specs.FixedLayouts.{layoutOf};
 ghost use Rattle.table.specs.Objects.{under};
 ghost use Rattle.table.specs.Reads.{seat, placeAt, hasPlain, needAt};
 ghost use Rattle.laws.specs.Fields.{imageIn};
 ghost use Rattle.reader.specs.Accepted.{Accepted};
 ghost use Rattle.reads_seats.specs.Seats.{Seated};
 
-// Whether a reference of the security record with these bytes counts.
-fn counts(bytes: &[u8], offset: usize) -> bool
-    requires { ⌜ 64 ≤ length (now bytes) ⌝ }
-    ensures { λ r. ⌜ r ≡ under (needAt offset (security .refs) (imageIn security (now (bytes .entry)) 0)) false true ⌝ }
+fn heeds(need: Need) -> bool
+    ensures { λ r. ⌜ r ≡ under need false true ⌝ }
 {
-    let need = layout_needs::security_need(bytes, 0, offset);
     match need {
         Need::Ignored => false,
         Need::Optional => true,
@@ -30,15 +28,24 @@ fn counts(bytes: &[u8], offset: usize) -> bool
     }
 }
 
-// The length of the object that a reference of the record with these bytes names. Only a security record ignores references to objects.
+// Whether a reference to an object of the record with these bytes counts. Only security records and HFI extended infos ignore any.
+fn counts(bytes: &[u8], kind: u8, offset: usize) -> bool
+    requires { ⌜ (baseOf (layoutOf kind) ≤ length (now bytes)) × (hasPlain offset (layoutOf kind .refs) ≡ true) ⌝ }
+    ensures { λ r. ⌜ r ≡ under (needAt offset (layoutOf kind .refs) (imageIn (layoutOf kind) (now (bytes .entry)) 0)) false true ⌝ }
+{
+    match kind {
+        Security::ID => heeds(layout_needs::security_need(bytes, 0, offset)),
+        HfiExtended::ID => heeds(layout_needs::identity_need(bytes, offset)),
+        _ => true,
+    }
+}
+
+// The length of the object that a reference of the record with these bytes names.
 fn named_len(bytes: &[u8], kind: u8, offset: usize) -> usize
     requires { ⌜ (baseOf (layoutOf kind) ≤ length (now bytes)) × (hasPlain offset (layoutOf kind .refs) ≡ true) ⌝ }
     ensures { λ r. ⌜ (r ≡ placeAt (now (bytes .entry)) offset (seat (layoutOf kind) 0 true) .len) × (r ≤ 65535) ⌝ }
 {
-    if kind != Security::ID {
-        return bytes_wire::reference_at(bytes, offset).len;
-    }
-    if counts(bytes, offset) {
+    if counts(bytes, kind, offset) {
         return bytes_wire::reference_at(bytes, offset).len;
     }
     0

@@ -14,7 +14,7 @@ use Rattle.reader.specs.Accepted.{Accepted}
 use Rattle.reads_seats.specs.Seats.{Seated, Good}
 use Rattle.reads_seats.specs.Told.{imageOf, toldSlots, toldEntry}
 use Rattle.reads_seats.proofs.SeatLaws.{seats-good}
-use Rattle.reads_seats.proofs.MeaningLaws.{image-front, Among, slots-told, host-among, hfi-among, ssns-among, security-among, discovery-among, info-told, extended-told}
+use Rattle.reads_seats.proofs.MeaningLaws.{image-front, Among, slots-told, host-among, hfi-among, ssns-among, security-among, discovery-among, info-told, extended-told, identity-told}
 
 -- a record that the reads find lies in the table, and its references pass
 pub seated-at : (t : List ℕ) → Accepted t → (k n a : ℕ) (on : Bool) → seatOf t k n ≡ seat (layoutOf k) a on → Seated t (layoutOf k) a on
@@ -35,6 +35,7 @@ module _ (t : List ℕ) (n a : ℕ) where
       (λ s. slots-told t 6 n discovery a s (discovery .refs) (discovery-among t n a s))
       (λ s. info-told t n a s)
       (λ s. extended-told t n a s)
+      (λ s. identity-told t n a s)
       (λ k o s. slots-told t k n (layoutOf k) a s (layoutOf k .refs) (subst (Among t k n (layoutOf k) a s) (sym (ap (λ (l : Layout). l .refs) (other-layout k o))) (unfold noKind in omega arith)))
 
 -- the record of kind k and position n, by its seat

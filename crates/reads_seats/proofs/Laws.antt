@@ -6,17 +6,17 @@ use Prim.Native.Nat.{ℕ, _+_, _-_, _*_, _/_, _%_, _≤_, _<_}
 use lib.ListN.{getD, drop}
 use lib.Dec.{eqb, leb}
 use borrow.Author.Tests.{le-leb, lt-leb}
-use Rattle.table.specs.declared.Need.the-variants.{Ignored, Required}
+use Rattle.table.specs.declared.Need.the-variants.{Ignored, Optional, Required}
 use Rattle.table.specs.Bytes.{pick, num}
 use Rattle.table.specs.Layout.{Layout, isValid, image}
-use Rattle.table.specs.FixedLayouts.{layoutOf, header, control, host, hfi, ssns, security, discovery, info, extended, noKind}
+use Rattle.table.specs.FixedLayouts.{layoutOf, header, control, host, hfi, ssns, security, discovery, info, extended, hfiExtended, noKind}
 use Rattle.table.specs.Objects.{under}
 use Rattle.table.specs.Reads.{Seat, nowhere, seat, seatOf, listSeat, heapSeat}
-use Rattle.laws.specs.Fields.{imageIn}
+use Rattle.laws.specs.Fields.{Bytes, imageIn, whole}
 use Rattle.layout_images.proofs.Laws.{by-kind, Other, other-layout}
 use Rattle.reads_seats.specs.declared.seats.Seat as code
 use Rattle.reads_seats.specs.declared.seats.Seat.the-variants.{Nowhere, At}
-use Rattle.reads_seats.specs.Seats.{asSeat, singleAt, heapAt, extendedAt, heapRecord, ownedOf, nestAt, isOwner}
+use Rattle.reads_seats.specs.Seats.{asSeat, singleAt, heapAt, extendedAt, identityAt, heapRecord, ownedOf, nestAt, isOwner}
 use Rattle.reads_seats.specs.Told.{innerKind}
 
 -- ---- the lists
@@ -68,16 +68,29 @@ extended-is t a = go (eqb (num (image (ssns .shape .keep) (drop a t)) 3 2 / 16 %
   go true = refl
   go false = heap-is extended t (a + 60)
 
+-- the version of the info whose bytes these are
+pub version-is : (x : List ℕ) → Bytes x → getD (imageIn info x 0) 3 0 ≡ getD x 3 0
+unfolding imageIn info
+version-is x b = whole (info .shape .keep) x 0 3 tt refl (b 3)
+
+identity-is : (t : List ℕ) (a : ℕ) → asSeat hfiExtended (identityAt t a) ≡ heapSeat hfiExtended 110 t (seat info a true)
+unfolding identityAt info imageIn
+identity-is t a = go (eqb (getD (image (info .shape .keep) (drop a t)) 3 0) 2) where
+  go : (c : Bool) → asSeat hfiExtended (pick c (heapAt t (a + 110)) Nowhere)
+      ≡ under (pick c Optional Ignored) nowhere (pick (eqb (num t (a + 110 + 4) 2) 0) nowhere (seat hfiExtended (num t (a + 110) 4) true))
+  go true = heap-is hfiExtended t (a + 110)
+  go false = refl
+
 other-record : (t : List ℕ) (a k : ℕ) → Other k → asSeat (layoutOf (innerKind k)) (heapRecord t k a) ≡ heapSeat (layoutOf (innerKind k)) (nestAt k) t (seat noKind a true)
 unfolding heapRecord noKind
-other-record t a k o = rw (o .not3, o .not4) refl
+other-record t a k o = rw (o .not3, o .not4, o .not7) refl
 
 -- the heap record of the used record of kind k at a is the one that its reference names
 pub heap-record-is : (t : List ℕ) (a k : ℕ) → asSeat (layoutOf (innerKind k)) (heapRecord t k a) ≡ heapSeat (layoutOf (innerKind k)) (nestAt k) t (seat (layoutOf k) a true)
-unfolding heapRecord layoutOf header control host hfi security discovery info extended
+unfolding heapRecord layoutOf header control host hfi security discovery extended hfiExtended
 heap-record-is t a =
     by-kind (λ k. asSeat (layoutOf (innerKind k)) (heapRecord t k a) ≡ heapSeat (layoutOf (innerKind k)) (nestAt k) t (seat (layoutOf k) a true))
-    refl refl refl (heap-is info t (a + 16)) (extended-is t a) refl refl refl refl
+    refl refl refl (heap-is info t (a + 16)) (extended-is t a) refl refl (identity-is t a) refl refl
     (λ k o. other-record t a k o ∙ ap (λ (l : Layout). heapSeat (layoutOf (innerKind k)) (nestAt k) t (seat l a true)) (sym (other-layout k o)))
 
 -- so it is the one of its owner's position
@@ -92,9 +105,10 @@ heap-record-of t n a =
     (λ e s. heap-record-is t a 4 ∙ ap (heapSeat extended 60 t) (sym s))
     (λ e s. absurd (true≢false (sym e)))
     (λ e s. absurd (true≢false (sym e)))
+    (λ e s. heap-record-is t a 7 ∙ ap (heapSeat hfiExtended 110 t) (sym s))
     (λ e s. absurd (true≢false (sym e)))
     (λ e s. absurd (true≢false (sym e)))
-    (λ k o e s. absurd (true≢false (sym (rw (o .not3, o .not4) at e))))
+    (λ k o e s. absurd (true≢false (sym (rw (o .not3, o .not4, o .not7) at e))))
 
 -- by an owner's seat
 pub owned-is : (t : List ℕ) (k : ℕ) (s : code.Seat) → asSeat (layoutOf (innerKind k)) (ownedOf t k s) ≡ heapSeat (layoutOf (innerKind k)) (nestAt k) t (asSeat (layoutOf k) s)

@@ -13,7 +13,7 @@ use Rattle.table.specs.declared.Need.{Need}
 use Rattle.table.specs.declared.Need.the-variants.{Ignored, Optional, Required}
 use Rattle.table.specs.Bytes.{pick, part, num, padded}
 use Rattle.table.specs.Layout.{Keep, low, Shape, Refs, none, plain, nest, Slots, bytes, gone, rec, Layout, baseOf, image, isValid, Entry, used}
-use Rattle.table.specs.FixedLayouts.{header, control, host, hfi, ssns, security, discovery, info, extended, whenSet}
+use Rattle.table.specs.FixedLayouts.{header, control, host, hfi, ssns, security, discovery, info, extended, hfiExtended, whenIs, whenSet}
 use Rattle.table.specs.Objects.{under, readSlots, readEntry, readList, readBody}
 use Rattle.table.specs.Rules.{done}
 use Rattle.table.specs.Meaning.{meaning}
@@ -153,11 +153,28 @@ entry-unused t k n l a s v = rw (s, v) refl
 -- ---- each kind
 
 module _ (t : List ℕ) (n a : ℕ) where
-  pub info-told : seatOf t 7 n ≡ seat info a true → toldSlots t 7 n (info .refs) ≡ readSlots t a (image (info .shape .keep) (drop a t)) (info .refs)
-  info-told s = slots-told t 7 n info a s (info .refs) (unfold info in (refl, refl, omega arith))
+  pub identity-told : seatOf t 10 n ≡ seat hfiExtended a true → toldSlots t 10 n (hfiExtended .refs) ≡ readSlots t a (image (hfiExtended .shape .keep) (drop a t)) (hfiExtended .refs)
+  identity-told s = slots-told t 10 n hfiExtended a s (hfiExtended .refs) (unfold hfiExtended in (refl, refl, (refl, refl, omega arith)))
 
   pub extended-told : seatOf t 9 n ≡ seat extended a true → toldSlots t 9 n (extended .refs) ≡ readSlots t a (image (extended .shape .keep) (drop a t)) (extended .refs)
   extended-told s = slots-told t 9 n extended a s (extended .refs) (unfold extended in (refl, refl, omega arith))
+
+module _ (t : List ℕ) (n a : ℕ) where
+  info-among : (s : seatOf t 7 n ≡ seat info a true) → Among t 7 n info a s (info .refs)
+  unfolding info seatOf
+  info-among s = (
+    refl,
+    refl,
+    (
+      (λ x. nest-told t 10 n hfiExtended (a + 110) 110 _ none x
+          (whenIs 3 2 (image (info .shape .keep) (drop a t)))
+          (ap (heapSeat hfiExtended 110 t) s) (λ f. identity-told t n (num t (a + 110) 4) f)),
+      omega arith,
+    ),
+  )
+
+  pub info-told : seatOf t 7 n ≡ seat info a true → toldSlots t 7 n (info .refs) ≡ readSlots t a (image (info .shape .keep) (drop a t)) (info .refs)
+  info-told s = slots-told t 7 n info a s (info .refs) (info-among s)
 
 module _ (t : List ℕ) (n a : ℕ) where
   pub host-among : (s : seatOf t 2 n ≡ seat host a true) → Among t 2 n host a s (host .refs)

@@ -1,6 +1,6 @@
 -- Objects of an accepted table: their references lie in their record, count as the code finds, and name a part of the table. Assumes nothing.
 use mathlib.Core.Path.{_≡_, refl, sym, ap, subst, _∙_}
-use mathlib.Core.Bool.{Bool, true, false, _&&_}
+use mathlib.Core.Bool.{Bool, true, false, true≢false, _&&_}
 use mathlib.Core.List.{List}
 use Prim.Native.Nat.{ℕ, _+_, _≤_, _<_}
 use native.Mathlib.Omega.{arith}
@@ -15,7 +15,7 @@ use Rattle.table.specs.declared.Need.the-variants.{Ignored, Optional, Required}
 use Rattle.table.specs.declared.Place.{Place}
 use Rattle.table.specs.Bytes.{pick, num}
 use Rattle.table.specs.Layout.{Layout, Env, Refs, none, plain, nest, baseOf, referenceAt}
-use Rattle.table.specs.FixedLayouts.{layoutOf, header, control, host, hfi, ssns, security, discovery, info, extended, noKind}
+use Rattle.table.specs.FixedLayouts.{layoutOf, header, control, host, hfi, ssns, security, discovery, info, extended, hfiExtended, noKind, whenIs}
 use Rattle.table.specs.Objects.{under}
 use Rattle.table.specs.Rules.{answer, done, refRule, plainRule, refsRule}
 use Rattle.table.specs.Numbers.{heapIn, check}
@@ -45,8 +45,8 @@ ordered n (plain p need content rest) = leb (p + 6) n && ordered n rest
 ordered n (nest p need shape own rest) = noPlain rest
 
 kinds-ordered : (k : ℕ) → T (ordered (baseOf (layoutOf k)) (layoutOf k .refs))
-unfolding header control host hfi ssns security discovery info extended noKind
-kinds-ordered = by-layout (λ l. T (ordered (baseOf l) (l .refs))) tt tt tt tt tt tt tt tt tt tt
+unfolding header control host hfi ssns security discovery info extended hfiExtended noKind
+kinds-ordered = by-layout (λ l. T (ordered (baseOf l) (l .refs))) tt tt tt tt tt tt tt tt tt tt tt
 
 none-plain : (q : ℕ) (rs : Refs) → T (noPlain rs) → hasPlain q rs ≡ true → ⊥
 none-plain q none t h = let z : false ≡ true = h in absurd (subst T (sym z) tt)
@@ -72,20 +72,29 @@ plain-fits k q h = plain-in (baseOf (layoutOf k)) q (layoutOf k .refs) (kinds-or
 no-plain : (k q : ℕ) (img : List ℕ) → (layoutOf k .refs ≡ none) → hasPlain q (layoutOf k .refs) ≡ true → plainNeed k q ≡ needAt q (layoutOf k .refs) img
 no-plain k q img e h = absurd (none-plain q none tt (sym (ap (hasPlain q) e) ∙ h))
 
-pub plain-need : (q : ℕ) (img : List ℕ) (k : ℕ) → (k ≡ 4 → ⊥) → (k ≡ 5 → ⊥) → hasPlain q (layoutOf k .refs) ≡ true → plainNeed k q ≡ needAt q (layoutOf k .refs) img
-unfolding layoutOf plainNeed header control host hfi discovery info extended noKind
+-- an info's object is its host name
+info-need : (q : ℕ) (img : List ℕ) → hasPlain q (info .refs) ≡ true → plainNeed 7 q ≡ needAt q (info .refs) img
+unfolding plainNeed info
+info-need q img h = go (eqb q 104) h where
+  go : (c : Bool) → pick c true false ≡ true → pick c Optional Ignored ≡ pick c Optional (pick (eqb q 110) (whenIs 3 2 img) Ignored)
+  go true e = refl
+  go false e = absurd (true≢false (sym e))
+
+pub plain-need : (q : ℕ) (img : List ℕ) (k : ℕ) → (k ≡ 4 → ⊥) → (k ≡ 5 → ⊥) → (k ≡ 10 → ⊥) → hasPlain q (layoutOf k .refs) ≡ true → plainNeed k q ≡ needAt q (layoutOf k .refs) img
+unfolding layoutOf plainNeed header control host hfi discovery extended noKind
 plain-need q img =
-    by-kind (λ k. (k ≡ 4 → ⊥) → (k ≡ 5 → ⊥) → hasPlain q (layoutOf k .refs) ≡ true → plainNeed k q ≡ needAt q (layoutOf k .refs) img)
-    (λ a b h. refl)
-    (λ a b h. refl)
-    (λ a b h. refl)
-    (λ a b h. absurd (none-plain q (hfi .refs) tt h))
-    (λ a b h. absurd (a refl))
-    (λ a b h. absurd (b refl))
-    (λ a b h. refl)
-    (λ a b h. refl)
-    (λ a b h. refl)
-    (λ k o a b h. no-plain k q img (ap (λ (l : Layout). l .refs) (other-layout k o)) h)
+    by-kind (λ k. (k ≡ 4 → ⊥) → (k ≡ 5 → ⊥) → (k ≡ 10 → ⊥) → hasPlain q (layoutOf k .refs) ≡ true → plainNeed k q ≡ needAt q (layoutOf k .refs) img)
+    (λ a b d h. refl)
+    (λ a b d h. refl)
+    (λ a b d h. refl)
+    (λ a b d h. absurd (none-plain q (hfi .refs) tt h))
+    (λ a b d h. absurd (a refl))
+    (λ a b d h. absurd (b refl))
+    (λ a b d h. refl)
+    (λ a b d h. info-need q img h)
+    (λ a b d h. refl)
+    (λ a b d h. absurd (d refl))
+    (λ k o a b d h. no-plain k q img (ap (λ (l : Layout). l .refs) (other-layout k o)) h)
 
 -- ---- an object is a part of the table
 

@@ -5,13 +5,13 @@ use mathlib.Core.List.{List}
 use Prim.Native.Nat.{ℕ, _+_, _/_, _%_, _≤_}
 use native.Mathlib.Nat.{zero-add}
 use native.Mathlib.Omega.{arith}
-use lib.ListN.{length}
+use lib.ListN.{length, getD}
 use lib.Dec.{eqb, lit≤}
 use Rattle.table.specs.declared.Place.{Place}
 use Rattle.table.specs.declared.Region.{Region}
 use Rattle.table.specs.Bytes.{pick, part, num, padded}
 use Rattle.table.specs.Layout.{baseOf, region, referenceAt}
-use Rattle.table.specs.FixedLayouts.{layoutOf, hfi, ssns}
+use Rattle.table.specs.FixedLayouts.{layoutOf, hfi, ssns, info}
 use Rattle.table.specs.Objects.{under}
 use Rattle.table.specs.Rules.{answer, done}
 use Rattle.table.specs.Reads.{seat, shown, imageAt, widthAt, refusedField, fieldAt, hasPlain, needAt, noPlace, refPlace, placeAt}
@@ -19,7 +19,7 @@ use Rattle.laws.specs.Fields.{imageIn, num-part}
 use Rattle.layout_images.proofs.Laws.{by-kind, image-own, part-long}
 use Rattle.reads_seats.specs.declared.seats.Seat.{Seat}
 use Rattle.reads_seats.specs.declared.seats.Seat.the-variants.{Nowhere, At}
-use Rattle.reads_seats.specs.Seats.{heapAt, extendedAt, heapRecord}
+use Rattle.reads_seats.specs.Seats.{heapAt, extendedAt, identityAt, heapRecord}
 use Rattle.reads_seats.proofs.ObjectLaws.{plain-fits}
 
 -- the reference at r of the bytes from a on
@@ -73,9 +73,14 @@ unfolding extendedAt layoutOf
 extended-own t a =
     ap₂ (λ (i : List ℕ) (s : Seat). pick (eqb (num i 3 2 / 16 % 2) 0) Nowhere s) (image-own 4 t a) (heapAt-own t a (baseOf ssns) 60 (unfold ssns in lit≤ tt))
 
+identity-own : (t : List ℕ) (a : ℕ) → identityAt (part t a (baseOf (layoutOf 7))) 0 ≡ identityAt t a
+unfolding identityAt layoutOf
+identity-own t a =
+    ap₂ (λ (i : List ℕ) (s : Seat). pick (eqb (getD i 3 0) 2) s Nowhere) (image-own 7 t a) (heapAt-own t a (baseOf info) 110 (unfold info in lit≤ tt))
+
 pub heap-record-own : (t : List ℕ) (a k : ℕ) → heapRecord (part t a (baseOf (layoutOf k))) k 0 ≡ heapRecord t k a
 unfolding heapRecord
 heap-record-own t a =
     by-kind (λ k. heapRecord (part t a (baseOf (layoutOf k))) k 0 ≡ heapRecord t k a)
-    refl refl refl (heapAt-own t a (baseOf (layoutOf 3)) 16 (unfold layoutOf hfi in lit≤ tt)) (extended-own t a) refl refl refl refl
-    (λ k o. rw (o .not3, o .not4) refl)
+    refl refl refl (heapAt-own t a (baseOf (layoutOf 3)) 16 (unfold layoutOf hfi in lit≤ tt)) (extended-own t a) refl refl (identity-own t a) refl refl
+    (λ k o. rw (o .not3, o .not4, o .not7) refl)

@@ -11,7 +11,7 @@ use borrow.Author.Tests.{eqb-true}
 use Rattle.table.specs.declared.Region.{Region}
 use Rattle.table.specs.Bytes.{pick, part, padded}
 use Rattle.table.specs.Layout.{baseOf}
-use Rattle.table.specs.FixedLayouts.{layoutOf, header, control, host, hfi, ssns, security, discovery, info, extended, noKind}
+use Rattle.table.specs.FixedLayouts.{layoutOf, header, control, host, hfi, ssns, security, discovery, info, extended, hfiExtended, noKind}
 use Rattle.table.specs.Reads.{widthAt}
 use Rattle.laws.specs.ListWalk.{by-layout}
 use Rattle.layout_images.proofs.Laws.{drop-zeros}
@@ -23,8 +23,8 @@ fieldsIn n [] = true
 fieldsIn n (f ∷ fs) = (leb (f .at + f .len) n && leb (f .len) 16) && fieldsIn n fs
 
 fields-in : (k : ℕ) → T (fieldsIn (baseOf (layoutOf k)) (layoutOf k .shape .fields))
-unfolding header control host hfi ssns security discovery info extended noKind
-fields-in = by-layout (λ l. T (fieldsIn (baseOf l) (l .shape .fields))) tt tt tt tt tt tt tt tt tt tt
+unfolding header control host hfi ssns security discovery info extended hfiExtended noKind
+fields-in = by-layout (λ l. T (fieldsIn (baseOf l) (l .shape .fields))) tt tt tt tt tt tt tt tt tt tt tt
 
 width-in : (n q : ℕ) (fs : List Region) → T (fieldsIn n fs) → (widthAt q fs ≡ 0 → ⊥) → (q + widthAt q fs ≤ n) × (widthAt q fs ≤ 16)
 width-in n q [] t z = absurd (z refl)

@@ -1,5 +1,5 @@
 -- In an accepted table each seat lies in the table, and the references of the record there pass. Assumes nothing.
-use mathlib.Core.Path.{_≡_, refl, sym, ap, _∙_}
+use mathlib.Core.Path.{_≡_, refl, sym, ap, subst, _∙_}
 use mathlib.Core.Bool.{Bool, true, false, true≢false, _&&_}
 use mathlib.Core.List.{List}
 use Prim.Native.Nat.{ℕ, _+_, _-_, _*_, _/_, _%_, _≤_, _<_}
@@ -13,7 +13,7 @@ use Rattle.table.specs.declared.Need.{Need}
 use Rattle.table.specs.declared.Need.the-variants.{Ignored, Optional, Required}
 use Rattle.table.specs.Bytes.{pick, num}
 use Rattle.table.specs.Layout.{Content, Env, Layout, Refs, Shape, baseOf, image, isValid, nest, plain}
-use Rattle.table.specs.FixedLayouts.{layoutOf, header, control, host, hfi, ssns, security, discovery, info, extended, noKind, whenSet}
+use Rattle.table.specs.FixedLayouts.{layoutOf, header, control, host, hfi, ssns, security, discovery, info, extended, hfiExtended, noKind, whenSet, whenIs}
 use Rattle.table.specs.Objects.{under}
 use Rattle.table.specs.Rules.{firstOf, refRule, plainRule, nestRule, refsRule, isSound}
 use Rattle.table.specs.Numbers.{heapIn}
@@ -28,7 +28,8 @@ use Rattle.reader_indexes.specs.Indexes.{refsFault}
 use Rattle.reader_lists.proofs.Laws.{flags-stand}
 use Rattle.reader.proofs.AcceptedLaws.{laid, driver-passes, host-passes, lists-pass, record-passes, record-in, used-passes, used-parts, required-in, optional-in}
 use Rattle.layout_images.proofs.Laws.{by-kind, Other, other-layout}
-use Rattle.reads_seats.specs.Seats.{Seated, Standing, Listed, Good, Held, isHeaped, heapAt, extendedAt, heapRecord}
+use Rattle.reads_seats.specs.Seats.{asSeat, InTable, Seated, Standing, Listed, Good, Held, isHeaped, heapAt, extendedAt, identityAt, heapRecord}
+use Rattle.reads_seats.specs.declared.seats.Seat as code
 use Rattle.reads_seats.specs.declared.seats.Seat.the-variants.{Nowhere, At}
 use Rattle.reads_seats.specs.Told.{innerKind}
 
@@ -55,7 +56,7 @@ ref-inside t Required off len e c h = required-in (num t 36 4) (num t 40 4) off 
 
 -- a list holds no heap records
 list-kind : (k : ℕ) → 2 ≤ k → k ≤ 6 → isHeaped (layoutOf k .kind) ≡ true → ⊥
-unfolding layoutOf header control host hfi ssns security discovery info extended noKind
+unfolding layoutOf header control host hfi ssns security discovery info extended hfiExtended noKind
 list-kind =
     by-kind (λ k. 2 ≤ k → k ≤ 6 → isHeaped (layoutOf k .kind) ≡ true → ⊥)
     (λ x y e. omega arith)
@@ -65,6 +66,7 @@ list-kind =
     (λ x y e. true≢false (sym e))
     (λ x y e. true≢false (sym e))
     (λ x y e. true≢false (sym e))
+    (λ x y e. omega arith)
     (λ x y e. omega arith)
     (λ x y e. omega arith)
     (λ k o x y e. true≢false (sym (sym (ap (λ (l : Layout). isHeaped (l .kind)) (other-layout k o)) ∙ e)))
@@ -114,9 +116,9 @@ list-good t n k c l =
 -- ---- heap records
 
 -- the reference at r to a heap record: it is long enough, and its own references pass
-nest-passes : (t : List ℕ) (n : Need) (shape : Shape) (e : Env) (r inner : ℕ) → nestRule (heapIn t) n shape e t r inner ≡ 0 → (n ≡ Ignored → ⊥) → eqb (num t (r + 4) 2) 0 ≡ false
+nest-passes : (t : List ℕ) (n : Need) (shape : Shape) (e : Env) (owner : List ℕ) (r inner : ℕ) → nestRule (heapIn t) n shape e owner t r inner ≡ 0 → (n ≡ Ignored → ⊥) → eqb (num t (r + 4) 2) 0 ≡ false
     → Inside (num t 36 4) (num t 40 4) (num t r 4) (num t (r + 4) 2) × (length (shape .keep) ≤ num t (r + 4) 2) × (inner ≡ 0)
-nest-passes t n shape e r inner z c some =
+nest-passes t n shape e owner r inner z c some =
     let u = first-of (refRule (heapIn t) n (num t r 4) (num t (r + 4) 2)) (under n 0 behind) z in
     let v = first-of (pick sound 0 12) inner (go n c (u .1)) in
     let h : 0 < num t (r + 4) 2 = omega (arith, eqb-false (num t (r + 4) 2) 0 some) in (
@@ -126,7 +128,7 @@ nest-passes t n shape e r inner z c some =
     )
   where
     sound : Bool
-    sound = leb (length (shape .keep)) (num t (r + 4) 2) && isSound shape e (image (shape .keep) (drop (num t r 4) t))
+    sound = leb (length (shape .keep)) (num t (r + 4) 2) && isSound shape e owner (image (shape .keep) (drop (num t r 4) t))
 
     behind : ℕ
     behind = pick (eqb (num t (r + 4) 2) 0) 0 (firstOf (pick sound 0 12) inner)
@@ -143,25 +145,25 @@ module _ (heap : Region) (e : Env) (t : List ℕ) (a : ℕ) (img : List ℕ) (p 
   plain-rest content z = first-of (plainRule heap (need img) content e t (a + p)) (refsRule heap e t a img rest) z .1
 
   nest-first : (shape : Shape) (own : Refs) → refsRule heap e t a img (nest p need shape own rest) ≡ 0
-      → nestRule heap (need img) shape e t (a + p) (refsRule heap e t (num t (a + p) 4) (image (shape .keep) (drop (num t (a + p) 4) t)) own) ≡ 0
+      → nestRule heap (need img) shape e img t (a + p) (refsRule heap e t (num t (a + p) 4) (image (shape .keep) (drop (num t (a + p) 4) t)) own) ≡ 0
   unfolding refsRule
   nest-first shape own z =
       first-of
-      (nestRule heap (need img) shape e t (a + p) (refsRule heap e t (num t (a + p) 4) (image (shape .keep) (drop (num t (a + p) 4) t)) own))
+      (nestRule heap (need img) shape e img t (a + p) (refsRule heap e t (num t (a + p) 4) (image (shape .keep) (drop (num t (a + p) 4) t)) own))
       (refsRule heap e t a img rest) z .0
 
 -- the heap record that the reference at r names under a need
-module _ (t : List ℕ) (ok : Accepted t) (l : Layout) (k r : ℕ) (e : Env) (is : l ≡ layoutOf k) where
+module _ (t : List ℕ) (ok : Accepted t) (l : Layout) (k r : ℕ) (e : Env) (owner : List ℕ) (is : l ≡ layoutOf k) where
   abbrev own : ℕ
   own = refsRule (heapIn t) e t (num t r 4) (image (l .shape .keep) (drop (num t r 4) t)) (l .refs)
 
-  named-good : (n : Need) → nestRule (heapIn t) n (l .shape) e t r own ≡ 0 → (n ≡ Ignored → ⊥) → Good t k (pick (eqb (num t (r + 4) 2) 0) nowhere (seat l (num t r 4) true))
+  named-good : (n : Need) → nestRule (heapIn t) n (l .shape) e owner t r own ≡ 0 → (n ≡ Ignored → ⊥) → Good t k (pick (eqb (num t (r + 4) 2) 0) nowhere (seat l (num t r 4) true))
   unfolding imageIn
   named-good n z c = go (eqb (num t (r + 4) 2) 0) refl where
     go : (b : Bool) → eqb (num t (r + 4) 2) 0 ≡ b → Good t k (pick b nowhere (seat l (num t r 4) true))
     go true f = omega arith
     go false f =
-        let p = nest-passes t n (l .shape) e r own z c f in (
+        let p = nest-passes t n (l .shape) e owner r own z c f in (
           is,
           record {
             within = omega (arith, p .1, heap-object t (laid t ok) (num t r 4) (num t (r + 4) 2) (p .0));
@@ -171,7 +173,7 @@ module _ (t : List ℕ) (ok : Accepted t) (l : Layout) (k r : ℕ) (e : Env) (is
           },
         )
 
-  heap-good : (n : Need) → nestRule (heapIn t) n (l .shape) e t r own ≡ 0 → Good t k (under n nowhere (pick (eqb (num t (r + 4) 2) 0) nowhere (seat l (num t r 4) true)))
+  heap-good : (n : Need) → nestRule (heapIn t) n (l .shape) e owner t r own ≡ 0 → Good t k (under n nowhere (pick (eqb (num t (r + 4) 2) 0) nowhere (seat l (num t r 4) true)))
   heap-good Ignored z = omega arith
   heap-good Optional z = named-good Optional z (λ f. let w : _≡_ {A = ℕ} 1 0 = ap (λ (n : Need). under n 0 1) f in omega arith)
   heap-good Required z = named-good Required z (λ f. let w : _≡_ {A = ℕ} 1 0 = ap (λ (n : Need). under n 0 1) f in omega arith)
@@ -181,15 +183,24 @@ module _ (t : List ℕ) (ok : Accepted t) where
   unfolding layoutOf hfi info imageIn
   info-good false on a g = omega arith
   info-good true false a g = omega arith
-  info-good true true a g = heap-good t ok info 7 (a + 16) (g .1 .around) refl Required (nest-first _ _ _ _ _ _ _ _ _ _ (g .1 .passes refl))
+  info-good true true a g = heap-good t ok info 7 (a + 16) (g .1 .around) (image (hfi .shape .keep) (drop a t)) refl Required (nest-first _ _ _ _ _ _ _ _ _ _ (g .1 .passes refl))
 
   extended-good : (c on : Bool) (a : ℕ) → Good t 4 (pick c (seat ssns a on) nowhere) → Good t 9 (heapSeat extended 60 t (pick c (seat ssns a on) nowhere))
   unfolding layoutOf ssns extended imageIn
   extended-good false on a g = omega arith
   extended-good true false a g = omega arith
   extended-good true true a g =
-      heap-good t ok extended 9 (a + 60) (g .1 .around) refl (whenSet 3 2 4 4 (image (ssns .shape .keep) (drop a t)))
+      heap-good t ok extended 9 (a + 60) (g .1 .around) (image (ssns .shape .keep) (drop a t)) refl (whenSet 3 2 4 4 (image (ssns .shape .keep) (drop a t)))
       (nest-first _ _ _ _ _ _ _ _ _ _ (plain-rest _ _ _ _ _ _ _ _ _ (plain-rest _ _ _ _ _ _ _ _ _ (plain-rest _ _ _ _ _ _ _ _ _ (plain-rest _ _ _ _ _ _ _ _ _ (g .1 .passes refl))))))
+
+  identity-good : (s : Seat) → Good t 7 s → Good t 10 (heapSeat hfiExtended 110 t s)
+  unfolding layoutOf info hfiExtended imageIn
+  identity-good nowhere g = omega arith
+  identity-good (seat l a false) g = omega arith
+  identity-good (seat l a true) g =
+      rw (g .0)
+      (heap-good t ok hfiExtended 10 (a + 110) (g .1 .around) (image (info .shape .keep) (drop a t)) refl (whenIs 3 2 (image (info .shape .keep) (drop a t)))
+      (nest-first _ _ _ _ _ _ _ _ _ _ (plain-rest _ _ _ _ _ _ _ _ _ (subst (λ (m : Layout). refsRule (heapIn t) (g .1 .around) t a (imageIn m t a) (m .refs) ≡ 0) (g .0) (g .1 .passes refl)))))
 
   -- ---- any kind and position
 
@@ -210,7 +221,7 @@ module _ (t : List ℕ) (ok : Accepted t) where
 
   other-good : (n k : ℕ) → Other k → Good t k (seatOf t k n)
   unfolding seatOf
-  other-good n k o = rw (o .not0, o .not1, o .not2, o .not3, o .not4, o .not5, o .not6, o .not7, o .not9) (omega arith)
+  other-good n k o = rw (o .not0, o .not1, o .not2, o .not3, o .not4, o .not5, o .not6, o .not7, o .not9, o .not10) (omega arith)
 
   pub seats-good : (n k : ℕ) → Good t k (seatOf t k n)
   unfolding seatOf layoutOf
@@ -223,8 +234,9 @@ module _ (t : List ℕ) (ok : Accepted t) where
       (lists .1)
       (list-good t n 5 96 (securities t ok))
       (list-good t n 6 104 (discoveries t ok))
-      (info-good (leb 1 n && leb n (getD t 87 0)) _ _ (lists .0))
+      infos
       (extended-good (leb 1 n && leb n (getD t 95 0)) _ _ (lists .1))
+      (identity-good (heapSeat info 16 t (listSeat (layoutOf 3) t 80 n)) infos)
       (other-good n)
     where
       lists : Good t 3 (listSeat (layoutOf 3) t 80 n) × Good t 4 (listSeat (layoutOf 4) t 88 n)
@@ -232,6 +244,14 @@ module _ (t : List ℕ) (ok : Accepted t) where
         list-good t n 3 80 (hfis t ok),
         list-good t n 4 88 (ssnss t ok),
       )
+
+      infos : Good t 7 (heapSeat info 16 t (listSeat (layoutOf 3) t 80 n))
+      infos = info-good (leb 1 n && leb n (getD t 87 0)) _ _ (lists .0)
+
+  -- a good seat lies in the table
+  pub good-in : (k : ℕ) (s : code.Seat) → Good t k (asSeat (layoutOf k) s) → InTable t (baseOf (layoutOf k)) s
+  good-in k Nowhere g = omega arith
+  good-in k (At at used) g = g .1 .within
 
   -- the heap record of a record that passes
   held-of : (m at : ℕ) (n : Need) (c : Bool) → Good t m (under n nowhere (pick c nowhere (seat (layoutOf m) at true))) → Held t m (under n Nowhere (pick c Nowhere (At at true)))
@@ -253,6 +273,14 @@ module _ (t : List ℕ) (ok : Accepted t) where
     go true h = omega arith
     go false h = held-of 9 (num t (a + 60) 4) Required (eqb (num t (a + 60 + 4) 2) 0) h
 
+  identity-held : (a : ℕ) → Good t 7 (seat info a true) → Held t 10 (identityAt t a)
+  unfolding layoutOf info heapAt identityAt imageIn
+  identity-held a g = go (eqb (getD (image (info .shape .keep) (drop a t)) 3 0) 2) (identity-good (seat info a true) g) where
+    go : (c : Bool) → Good t 10 (under (pick c Optional Ignored) nowhere (pick (eqb (num t (a + 110 + 4) 2) 0) nowhere (seat hfiExtended (num t (a + 110) 4) true)))
+        → Held t 10 (pick c (pick (eqb (num t (a + 110 + 4) 2) 0) Nowhere (At (num t (a + 110) 4) true)) Nowhere)
+    go true h = held-of 10 (num t (a + 110) 4) Optional (eqb (num t (a + 110 + 4) 2) 0) h
+    go false h = omega arith
+
   pub record-held : (a k : ℕ) → Good t k (seat (layoutOf k) a true) → Held t (innerKind k) (heapRecord t k a)
   unfolding layoutOf heapRecord
   record-held a =
@@ -264,6 +292,7 @@ module _ (t : List ℕ) (ok : Accepted t) where
       (λ g. extended-held a g)
       (λ g. omega arith)
       (λ g. omega arith)
+      (λ g. identity-held a g)
       (λ g. omega arith)
       (λ g. omega arith)
-      (λ k o g. rw (o .not3, o .not4) (omega arith))
+      (λ k o g. rw (o .not3, o .not4, o .not7) (omega arith))

@@ -4,20 +4,20 @@ use mathlib.Core.Bool.{Bool, true, false}
 use mathlib.Core.List.{List}
 use Prim.Native.Nat.{ℕ, _+_, _/_, _%_, _≤_}
 use native.Mathlib.Omega.{arith}
-use lib.ListN.{drop}
+use lib.ListN.{getD, drop}
 use lib.Dec.{eqb}
 use Rattle.table.specs.declared.Need.{Need}
-use Rattle.table.specs.declared.Need.the-variants.{Ignored, Required}
+use Rattle.table.specs.declared.Need.the-variants.{Ignored, Optional, Required}
 use Rattle.table.specs.Bytes.{pick, part, num}
 use Rattle.table.specs.Layout.{Shape, Layout, Refs, none, plain, nest, Slots, nil, bytes, gone, rec, image, referenceAt}
-use Rattle.table.specs.FixedLayouts.{layoutOf, header, control, host, hfi, ssns, security, discovery, info, extended, noKind, required, whenSet}
+use Rattle.table.specs.FixedLayouts.{layoutOf, header, control, host, hfi, ssns, security, discovery, info, extended, hfiExtended, noKind, required, whenSet, whenIs}
 use Rattle.table.specs.Objects.{under, readSlots}
 use Rattle.table.specs.Reads.{seat, hasPlain, needAt, placeAt}
 use Rattle.laws.specs.Fields.{imageIn}
 use Rattle.layout_images.proofs.Laws.{by-kind, other-layout}
 use Rattle.reads_seats.specs.declared.seats.Seat.{Seat}
 use Rattle.reads_seats.specs.declared.seats.Seat.the-variants.{Nowhere, At}
-use Rattle.reads_seats.specs.Seats.{heapAt, extendedAt, heapRecord}
+use Rattle.reads_seats.specs.Seats.{heapAt, extendedAt, identityAt, heapRecord}
 use Rattle.reads_seats.proofs.MeaningLaws.{place-is}
 
 -- the object that the reference at p of the used record of kind k at a names
@@ -89,8 +89,19 @@ module _ (t : List ℕ) (a : ℕ) where
     go true = refl
     go false = named-slot (a + 60) 60 (whenSet 3 2 4 4) (extended .shape) (extended .refs) none x
 
+  info-slot : (x : Slots none) → nestOf t 7 a 110 (whenIs 3 2) (hfiExtended .shape) (hfiExtended .refs) none x ≡ heldSlot t (heapRecord t 7 a) x
+  unfolding heapRecord identityAt layoutOf imageIn
+  info-slot x = go (eqb (getD (image (info .shape .keep) (drop a t)) 3 0) 2) where
+    go : (c : Bool) → let r = referenceAt t (a + 110) in
+        let y = image (hfiExtended .shape .keep) (drop (r .at) t) in
+        _≡_ {A = Slots (nest 110 (whenIs 3 2) (hfiExtended .shape) (hfiExtended .refs) none)}
+        (under (pick c Optional Ignored) (gone x) (pick (eqb (r .len) 0) (gone x) (rec y (readSlots t (r .at) y (hfiExtended .refs)) x)))
+        (heldSlot t (pick c (heapAt t (a + 110)) Nowhere) x)
+    go true = named-slot (a + 110) 110 (whenIs 3 2) (hfiExtended .shape) (hfiExtended .refs) none x
+    go false = refl
+
   all-agree : (k : ℕ) → Agree t k a (layoutOf k .refs)
-  unfolding layoutOf header host hfi ssns security discovery info extended
+  unfolding layoutOf header host hfi ssns security discovery info extended hfiExtended
   all-agree =
       by-kind (λ k. Agree t k a (layoutOf k .refs))
       (refl, refl, omega arith)
@@ -100,8 +111,9 @@ module _ (t : List ℕ) (a : ℕ) where
       (refl, refl, (refl, refl, (refl, refl, (refl, refl, (ssns-slot, omega arith)))))
       (refl, refl, (refl, refl, (refl, refl, (refl, refl, (refl, refl, (refl, refl, omega arith))))))
       (refl, refl, (refl, refl, omega arith))
+      (refl, refl, (info-slot, omega arith))
       (refl, refl, omega arith)
-      (refl, refl, omega arith)
+      (refl, refl, (refl, refl, omega arith))
       (λ k o. subst (λ (l : Layout). Agree t k a (l .refs)) (sym (other-layout k o)) (unfold noKind in omega arith))
 
 -- the slots of the record of kind k at a, where it is used

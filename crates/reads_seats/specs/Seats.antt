@@ -3,11 +3,11 @@ use mathlib.Core.Path.{_≡_}
 use mathlib.Core.Bool.{Bool, true, false}
 use mathlib.Core.List.{List}
 use Prim.Native.Nat.{ℕ, _+_, _/_, _%_, _≤_}
-use lib.ListN.{length}
+use lib.ListN.{length, getD}
 use lib.Dec.{eqb}
 use Rattle.table.specs.Bytes.{pick, num}
 use Rattle.table.specs.Layout.{Layout, Env, baseOf, referenceAt}
-use Rattle.table.specs.FixedLayouts.{layoutOf, ssns}
+use Rattle.table.specs.FixedLayouts.{layoutOf, ssns, info}
 use Rattle.table.specs.Rules.{refsRule}
 use Rattle.table.specs.Numbers.{heapIn}
 use Rattle.table.specs.Reads as reads
@@ -37,9 +37,12 @@ heapAt t r = pick (eqb (referenceAt t r .len) 0) Nowhere (At (referenceAt t r .a
 unfoldable pub extendedAt : List ℕ → ℕ → Seat
 extendedAt t a = pick (eqb (num (imageIn ssns t a) 3 2 / 16 % 2) 0) Nowhere (heapAt t (a + 60))
 
+unfoldable pub identityAt : List ℕ → ℕ → Seat
+identityAt t a = pick (eqb (getD (imageIn info t a) 3 0) 2) (heapAt t (a + 110)) Nowhere
+
 -- the heap record of the record of kind k at a
 unfoldable pub heapRecord : List ℕ → ℕ → ℕ → Seat
-heapRecord t k a = pick (eqb k 3) (heapAt t (a + 16)) (pick (eqb k 4) (extendedAt t a) Nowhere)
+heapRecord t k a = pick (eqb k 3) (heapAt t (a + 16)) (pick (eqb k 4) (extendedAt t a) (pick (eqb k 7) (identityAt t a) Nowhere))
 
 -- and of one of kind k at an owner's seat
 unfoldable pub ownedOf : List ℕ → ℕ → Seat → Seat
@@ -48,11 +51,11 @@ ownedOf t k (At at used) = pick used (heapRecord t k at) Nowhere
 
 -- the kinds whose records refer to a heap record
 abbrev pub isOwner : ℕ → Bool
-isOwner k = pick (eqb k 3) true (eqb k 4)
+isOwner k = pick (eqb k 3) true (pick (eqb k 4) true (eqb k 7))
 
--- where that reference stands in a record of kind k; kinds other than these two have none there
+-- where that reference stands in a record of kind k; kinds other than these three have none there
 abbrev pub nestAt : ℕ → ℕ
-nestAt k = pick (eqb k 3) 16 60
+nestAt k = pick (eqb k 3) 16 (pick (eqb k 7) 110 60)
 
 -- n bytes from place at on lie in the heap
 pub record InHeap (t : List ℕ) (at n : ℕ) : Type 0 where
@@ -61,7 +64,7 @@ pub record InHeap (t : List ℕ) (at n : ℕ) : Type 0 where
 
 -- the kinds of heap records
 abbrev pub isHeaped : ℕ → Bool
-isHeaped k = pick (eqb k 7) true (eqb k 9)
+isHeaped k = pick (eqb k 7) true (pick (eqb k 9) true (eqb k 10))
 
 -- a record of layout l at a lies in the table, a heap record in the heap, and if it is used its references pass
 pub record Seated (t : List ℕ) (l : Layout) (a : ℕ) (on : Bool) : Type 0 where

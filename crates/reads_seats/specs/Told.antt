@@ -20,7 +20,7 @@ bytesOf i = take (i .len) (i .bytes)
 
 -- the kind of the heap record that a record of kind k refers to
 abbrev pub innerKind : ℕ → ℕ
-innerKind k = pick (eqb k 3) 7 9
+innerKind k = pick (eqb k 3) 7 (pick (eqb k 7) 10 9)
 
 -- a heap record that is there, or none
 abbrev pub toldNest : {p : ℕ} {need : List ℕ → _} {shape : Shape} {own rest : Refs} → Image → Slots own → Slots rest → Slots (nest p need shape own rest)

@@ -1,5 +1,6 @@
 // The parts of an accepted table that its readers are lent: the heap, what lies in it, and the bytes of one record.
 use table::Extended;
+use table::HfiExtended;
 use table::Info;
 use table::Region;
 ghost use mathlib.Core.Path.{_≡_};
@@ -52,6 +53,7 @@ pub fn record_at(t: &[u8], kind: u8, at: usize) -> &[u8]
     match kind {
         Info::ID => heap_part(t, at, size),
         Extended::ID => heap_part(t, at, size),
+        HfiExtended::ID => heap_part(t, at, size),
         _ => part_of(t, at, size),
     }
 }

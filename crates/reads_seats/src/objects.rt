@@ -1,5 +1,6 @@
 // The object of a reference of a record, by the record's own bytes: where it stands.
 use table::Answer;
+use table::HfiExtended;
 use table::Need;
 use table::Place;
 use table::Security;
@@ -66,6 +67,7 @@ fn object_need(bytes: &[u8], kind: u8, offset: usize) -> Need
     match kind {
         Ssns::ID => layout_needs::ssns_need(layout_flags::ssns_flags(bytes, 0), offset),
         Security::ID => layout_needs::security_need(bytes, 0, offset),
+        HfiExtended::ID => layout_needs::identity_need(bytes, offset),
         _ => layout_needs::plain_need(kind, offset),
     }
 }

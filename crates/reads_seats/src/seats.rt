@@ -6,6 +6,7 @@ use table::Discovery;
 use table::Extended;
 use table::Header;
 use table::Hfi;
+use table::HfiExtended;
 use table::Host;
 use table::Info;
 use table::Security;
@@ -14,12 +15,12 @@ ghost use mathlib.Core.Path.{_≡_};
 ghost use Prim.Native.Nat.{_+_, _≤_, _<_};
 ghost use lib.ListN.{length};
 ghost use Rattle.table.specs.Layout.{baseOf, isValid};
-ghost use Rattle.table.specs.FixedLayouts.{layoutOf};
+ghost use Rattle.table.specs.FixedLayouts.{layoutOf, info};
 ghost use Rattle.table.specs.Reads.{seatOf, listSeat};
 ghost use Rattle.laws.specs.Fields.{imageIn};
 ghost use Rattle.reader_frame.specs.Bounds.{ListIn};
 ghost use Rattle.reader.specs.Accepted.{Accepted};
-ghost use Rattle.reads_seats.specs.Seats.{asSeat, InTable, singleAt, heapAt, extendedAt, heapRecord, ownedOf};
+ghost use Rattle.reads_seats.specs.Seats.{asSeat, InTable, singleAt, heapAt, extendedAt, identityAt, heapRecord, ownedOf};
 
 // Nowhere, or at a place, where it is used or not.
 pub enum Seat {
@@ -81,6 +82,17 @@ fn extended_seat(bytes: &[u8]) -> Seat
     heap_seat(bytes, 60)
 }
 
+// The HFI extended info of an info: version 2 may name one.
+fn identity_seat(bytes: &[u8]) -> Seat
+    requires { ⌜ 128 ≤ length (now bytes) ⌝ }
+    ensures { λ r. ⌜ r ≡ identityAt (now (bytes .entry)) 0 ⌝ }
+{
+    if bytes[3] != 2 {
+        return Seat::Nowhere;
+    }
+    heap_seat(bytes, 110)
+}
+
 // The heap record of the record of a kind with these bytes.
 fn inner_seat(bytes: &[u8], kind: u8) -> Seat
     requires { ⌜ baseOf (layoutOf kind) ≤ length (now bytes) ⌝ }
@@ -89,6 +101,7 @@ fn inner_seat(bytes: &[u8], kind: u8) -> Seat
     match kind {
         Hfi::ID => heap_seat(bytes, 16),
         Ssns::ID => extended_seat(bytes),
+        Info::ID => identity_seat(bytes),
         _ => Seat::Nowhere,
     }
 }
@@ -125,6 +138,15 @@ fn single_seat(position: usize, at: usize) -> Seat
     Seat::At { at: at, used: true }
 }
 
+// The info of the HFI at a position.
+fn info_seat(t: &[u8], position: usize) -> Seat
+    requires { ⌜ Accepted (now t) ⌝ }
+    ensures { λ r. ⌜ (asSeat info r ≡ seatOf (now (t .entry)) 7 position) × InTable (now (t .entry)) (baseOf info) r ⌝ }
+{
+    let owner = list_seat(t, Hfi::ID, Control::HFI_LIST, position);
+    owned_seat(t, Hfi::ID, owner)
+}
+
 // Where the record of a kind and position stands.
 pub fn seat_of(t: &[u8], kind: u8, position: usize) -> Seat
     requires { ⌜ Accepted (now t) ⌝ }
@@ -138,16 +160,13 @@ pub fn seat_of(t: &[u8], kind: u8, position: usize) -> Seat
         Ssns::ID => list_seat(t, Ssns::ID, Control::SSNS_LIST, position),
         Security::ID => list_seat(t, Security::ID, Control::SECURITY_LIST, position),
         Discovery::ID => list_seat(t, Discovery::ID, Control::DISCOVERY_LIST, position),
-        Info::ID => owned_seat(
-            t,
-            Hfi::ID,
-            list_seat(t, Hfi::ID, Control::HFI_LIST, position),
-        ),
+        Info::ID => info_seat(t, position),
         Extended::ID => owned_seat(
             t,
             Ssns::ID,
             list_seat(t, Ssns::ID, Control::SSNS_LIST, position),
         ),
+        HfiExtended::ID => owned_seat(t, Info::ID, info_seat(t, position)),
         _ => Seat::Nowhere,
     }
 }

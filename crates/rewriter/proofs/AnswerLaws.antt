@@ -11,7 +11,7 @@ use Rattle.table.specs.declared.Answer.{Answer}
 use Rattle.table.specs.declared.Rewritten.{Rewritten}
 use Rattle.table.specs.Bytes.{pick, splice, checksum}
 use Rattle.table.specs.Rules.{first, test, firstFail}
-use Rattle.table.specs.Meaning.{limit, Meaning, meaning, heapLen, formLength, headFront, headBack, behind, laidOut, form}
+use Rattle.table.specs.Meaning.{limit, Meaning, meaning, heapLen, formLength, headFront, headBack, behind, laidOut, form, minorOf}
 use Rattle.table.specs.Numbers.{check}
 use Rattle.table.specs.Rewriting.{rewriteAnswer, rewrite, rewriteBytes}
 use Rattle.laws.specs.Fields.{Bytes}
@@ -65,14 +65,14 @@ put-byte f r out x c =
 pub take-front : (xs out : List ℕ) (n : ℕ) → n ≡ length xs → take n (splice out 0 xs) ≡ xs
 take-front xs out n e = ap (λ (i : ℕ). take i (splice out 0 xs)) e ∙ take-append-seam xs (drop (0 + length xs) out)
 
-pub sealed : (m : Meaning) (out y z : List ℕ) (n k : ℕ) → n ≡ formLength m → k ≡ heapLen m → length (laidOut m n 0 k) ≡ formLength m
-    → y ≡ splice out 0 (laidOut m n 0 k) → z ≡ splice y 9 (checksum (take n y) ∷ []) → z ≡ splice out 0 (form m)
+pub sealed : (m : Meaning) (out y z : List ℕ) (n k : ℕ) → n ≡ formLength m → k ≡ heapLen m → length (laidOut m n 0 k (minorOf m)) ≡ formLength m
+    → y ≡ splice out 0 (laidOut m n 0 k (minorOf m)) → z ≡ splice y 9 (checksum (take n y) ∷ []) → z ≡ splice out 0 (form m)
 unfolding form laidOut headFront
 sealed m out y z n k en ek l ey ez =
-    let c = ap checksum (ap (take n) ey ∙ take-front (laidOut m n 0 k) out n (en ∙ sym l)) in
+    let c = ap checksum (ap (take n) ey ∙ take-front (laidOut m n 0 k (minorOf m)) out n (en ∙ sym l)) in
     ez ∙ ap₂ (λ (v : List ℕ) (b : ℕ). splice v 9 (b ∷ [])) ey c
-    ∙ put-byte (headFront n) (headBack m k ++ behind m) out 0 (checksum (laidOut m n 0 k))
-    ∙ ap₂ (λ (i j : ℕ). splice out 0 (laidOut m i (checksum (laidOut m i 0 j)) j)) en ek
+    ∙ put-byte (headFront n) (headBack m k (minorOf m) ++ behind m) out 0 (checksum (laidOut m n 0 k (minorOf m)))
+    ∙ ap₂ (λ (i j : ℕ). splice out 0 (laidOut m i (checksum (laidOut m i 0 j (minorOf m))) j (minorOf m))) en ek
 
-pub laid-length : (t : List ℕ) → Bytes t → Accepted t → (n k : ℕ) → length (laidOut (meaning t) n 0 k) ≡ formLength (meaning t)
-laid-length t b ok n k = length-laidOut (meaning t) (lawful t b (checked t ok) .shapes) n 0 k
+pub laid-length : (t : List ℕ) → Bytes t → Accepted t → (n k : ℕ) → length (laidOut (meaning t) n 0 k (minorOf (meaning t))) ≡ formLength (meaning t)
+laid-length t b ok n k = length-laidOut (meaning t) (lawful t b (checked t ok) .shapes) n 0 k (minorOf (meaning t))

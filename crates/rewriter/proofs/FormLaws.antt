@@ -11,7 +11,7 @@ use Rattle.table.specs.Layout.{slotAt, Entry}
 use Rattle.table.specs.FixedLayouts.{layoutOf, header, host}
 use Rattle.table.specs.Objects.{sizeOf, sizeEntry, sizeBody, spanBody, heapOf, recEntry, heapEntry, recsBody, heapBody}
 use Rattle.table.specs.Reads.{seatOf}
-use Rattle.table.specs.Meaning.{Meaning, meaning, heapAt, heapLen, formLength, headFront, headBack, controlBytes, behind, laidOut}
+use Rattle.table.specs.Meaning.{Meaning, meaning, heapAt, heapLen, formLength, headFront, headBack, controlBytes, behind, minorOf, laidOut}
 use Rattle.laws.specs.ByteLaws.{length-splice}
 use Rattle.laws.specs.Fields.{Bytes}
 use Rattle.laws.specs.Blank.{lengthsOf}
@@ -116,13 +116,13 @@ module _ (t : List ℕ) (b : Bytes t) (ok : Accepted t) where
   module _ (n k : ℕ) (en : n ≡ formLength m) (ek : k ≡ heapLen m) where
     -- header and control record
     abbrev head : List ℕ
-    head = headerFor n (oemOf t) (heapAt m) k (sizeEntry drv)
+    head = headerFor n (oemOf t) (heapAt m) k (sizeEntry drv) (minorOf m)
 
     abbrev ctrl : List ℕ
     ctrl = controlFor (countOf t 3 ∷ countOf t 4 ∷ countOf t 5 ∷ countOf t 6 ∷ [])
 
-    head-is : head ≡ headFront n ++ (0 ∷ headBack m k)
-    head-is = ap₂ (λ (o : List ℕ) (d : ℕ). headerFor n o (heapAt m) k d) oem-is driver-slot ∙ header-is m n k
+    head-is : head ≡ headFront n ++ (0 ∷ headBack m k (minorOf m))
+    head-is = ap₂ (λ (o : List ℕ) (d : ℕ). headerFor n o (heapAt m) k d (minorOf m)) oem-is driver-slot ∙ header-is m n k (minorOf m)
 
     ctrl-is : ctrl ≡ controlBytes m
     ctrl-is = ap controlFor counts-are ∙ control-is m
@@ -151,7 +151,7 @@ module _ (t : List ℕ) (b : Bytes t) (ok : Accepted t) where
         ∷ piece (recsBody h₂ (m .lists)) (heapBody h₂ (m .lists))
         ∷ []
 
-    all-is : recsOf all ++ heapsOf all ≡ laidOut m n 0 k
+    all-is : recsOf all ++ heapsOf all ≡ laidOut m n 0 k (minorOf m)
     unfolding laidOut behind
     all-is =
         ap₂ (λ (r g : List ℕ). ((head ++ ctrl) ++ (r ++ (recsBody h₂ (m .lists) ++ [])))
@@ -164,11 +164,11 @@ module _ (t : List ℕ) (b : Bytes t) (ok : Accepted t) where
         ++ (g ++ (heapEntry g₁ (m .owner) ++ (heapBody g₂ (m .lists) ++ [])))) (driver-heap h₀)
         ∙ ap₂ (λ (x y : List ℕ). ((x ++ y) ++ (recEntry g₁ (m .owner) ++ (recsBody g₂ (m .lists) ++ [])))
         ++ (heapOf h₀ (m .driver) ++ (heapEntry g₁ (m .owner) ++ (heapBody g₂ (m .lists) ++ [])))) head-is ctrl-is
-        ∙ in-order (headFront n) (0 ∷ headBack m k) (controlBytes m) (recEntry g₁ (m .owner)) (recsBody g₂ (m .lists))
+        ∙ in-order (headFront n) (0 ∷ headBack m k (minorOf m)) (controlBytes m) (recEntry g₁ (m .owner)) (recsBody g₂ (m .lists))
         (heapOf h₀ (m .driver)) (heapEntry g₁ (m .owner)) (heapBody g₂ (m .lists))
 
-    head-any : (h d : ℕ) → length (headerFor n (oemOf t) h k d) ≡ 64
-    head-any h d = ap length (sym (header-joined n (oemOf t) h k d)) ∙ front.header-long n (oemOf t) h k d oem-long
+    head-any : (h d : ℕ) → length (headerFor n (oemOf t) h k d (minorOf m)) ≡ 64
+    head-any h d = ap length (sym (header-joined n (oemOf t) h k d (minorOf m))) ∙ front.header-long n (oemOf t) h k d (minorOf m) oem-long
 
     head-long : length head ≡ 64
     head-long = head-any (heapAt m) (sizeEntry drv)
@@ -198,10 +198,10 @@ module _ (t : List ℕ) (b : Bytes t) (ok : Accepted t) where
     -- the front, laid over the header with the reference to the driver signature, which stands in the heap by then
     pub front-late : (x y1 y2 : List ℕ) (h d : ℕ) → 128 ≤ h → h + sizeEntry drv ≤ length x
         → y1 ≡ laid x 0 (recEntry h drv) h (heapEntry h drv)
-        → y2 ≡ splice (splice y1 0 (headerFor n (oemOf t) h k d)) 64 ctrl
-        → y2 ≡ splice (splice (splice x 0 (headerFor n (oemOf t) h k d)) 64 ctrl) h (heapEntry h drv)
+        → y2 ≡ splice (splice y1 0 (headerFor n (oemOf t) h k d (minorOf m))) 64 ctrl
+        → y2 ≡ splice (splice (splice x 0 (headerFor n (oemOf t) h k d (minorOf m))) 64 ctrl) h (heapEntry h drv)
     front-late x y1 y2 h d low room s1 s2 =
-        let hd : List ℕ = headerFor n (oemOf t) h k d in
+        let hd : List ℕ = headerFor n (oemOf t) h k d (minorOf m) in
         let g : List ℕ = heapEntry h drv in
         let r : List ℕ = recEntry h drv in
         let x₁ : List ℕ = splice x 0 r in
@@ -217,11 +217,11 @@ module _ (t : List ℕ) (b : Bytes t) (ok : Accepted t) where
 
     -- front, driver signature, host, lists
     pub form-laid : (x y1 y2 y3 y4 : List ℕ) (h d u : ℕ) → n ≤ length x → h ≡ h₀ → d ≡ sizeEntry drv
-        → y1 ≡ splice (splice x 0 (headerFor n (oemOf t) h k d)) 64 ctrl
+        → y1 ≡ splice (splice x 0 (headerFor n (oemOf t) h k d (minorOf m))) 64 ctrl
         → y2 ≡ splice y1 h (heapEntry h drv)
         → y3 ≡ laid y2 128 (recEntry (h + d) own) (h + d) (heapEntry (h + d) own) → u ≡ h + d + sizeEntry own
         → y4 ≡ laid y3 160 (recsBody u (m .lists)) u (heapBody u (m .lists))
-        → y4 ≡ splice x 0 (laidOut m n 0 k)
+        → y4 ≡ splice x 0 (laidOut m n 0 k (minorOf m))
     form-laid x y1 y2 y3 y4 h d u room eh ed s1 s2 s3 eu s4 =
         let z = sizes-are n h₀ en refl in
         let e0 = eh in
@@ -232,7 +232,7 @@ module _ (t : List ℕ) (b : Bytes t) (ok : Accepted t) where
         let dl = heap-bytes t ok 0 0 h₀ in
         let ol = heap-bytes t ok 2 0 h₁ in
         let front : y1 ≡ laid x 0 (head ++ ctrl) h₀ [] =
-        s1 ∙ ap₂ (λ (i j : ℕ). splice (splice x 0 (headerFor n (oemOf t) i k j)) 64 ctrl) e0 ed
+        s1 ∙ ap₂ (λ (i j : ℕ). splice (splice x 0 (headerFor n (oemOf t) i k j (minorOf m))) 64 ctrl) e0 ed
         ∙ ap (λ (i : ℕ). splice (splice x 0 head) i ctrl) c0
         ∙ splice-join x 0 head ctrl (omega (arith, head-long)) ∙ splice-none (splice x 0 (head ++ ctrl)) h₀ in
         let driver : y2 ≡ laid y1 (0 + length (head ++ ctrl)) [] (h₀ + 0) (heapEntry h₀ drv) =
@@ -247,7 +247,7 @@ module _ (t : List ℕ) (b : Bytes t) (ok : Accepted t) where
         ∙ splice-join x 0 (recsOf all) (heapsOf all) (omega (arith, recs-all)) ∙ ap (splice x 0) all-is
 
     -- the driver signature stands first in the heap, byte for byte
-    pub signature-here : (d : ℕ) → d ≡ length (driverOf t) → (h₀ + d ≤ n) × (part (laidOut m n 0 k) h₀ d ≡ driverOf t)
+    pub signature-here : (d : ℕ) → d ≡ length (driverOf t) → (h₀ + d ≤ n) × (part (laidOut m n 0 k (minorOf m)) h₀ d ≡ driverOf t)
     signature-here d e =
         let z = sizes-are n h₀ en refl in
         let dl = driver-long in

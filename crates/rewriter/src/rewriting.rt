@@ -7,6 +7,7 @@ use reads_by_seat::counts::oem;
 use rewriter_checksum::seal;
 use rewriter_lists::lay_lists;
 use rewriter_records::lay_entry;
+use rewriter_sizes::minor::form_minor;
 use rewriter_sizes::sizes::form_length;
 use rewriter_sizes::sizes::heap_start;
 use table::Answer;
@@ -22,7 +23,7 @@ ghost use mathlib.Core.List.{_∷_, []};
 ghost use Prim.Native.Nat.{_≤_};
 ghost use lib.ListN.{length};
 ghost use Rattle.table.specs.Bytes.{splice};
-ghost use Rattle.table.specs.Meaning.{meaning, heapAt, heapLen, formLength, laidOut};
+ghost use Rattle.table.specs.Meaning.{meaning, heapAt, heapLen, formLength, minorOf, laidOut};
 ghost use Rattle.table.specs.Rewriting as definition;
 ghost use Rattle.reader.specs.Accepted.{Accepted};
 ghost use Rattle.reads_seats.specs.Told.{countOf, oemOf};
@@ -32,7 +33,7 @@ ghost use Rattle.bytes_front.specs.Front.{headerFor, controlFor};
 // Header and control record: a table of `size` bytes, a heap of `heapsize` bytes at `heap`, a driver signature of `signature` bytes first in it.
 fn lay_front(out: &mut [u8], t: &[u8], size: usize, heap: usize, heapsize: usize, signature: usize)
     requires { ⌜ Accepted (now t) × (heapAt (meaning (now t)) ≤ length (now out)) ⌝ }
-    ensures { λ r. ⌜ now (out .exit) ≡ splice (splice (now (out .entry)) 0 (headerFor size (oemOf (now (t .entry))) heap heapsize signature)) 64 (controlFor (countOf (now (t .entry)) 3 ∷ countOf (now (t .entry)) 4 ∷ countOf (now (t .entry)) 5 ∷ countOf (now (t .entry)) 6 ∷ [])) ⌝ }
+    ensures { λ r. ⌜ now (out .exit) ≡ splice (splice (now (out .entry)) 0 (headerFor size (oemOf (now (t .entry))) heap heapsize signature (minorOf (meaning (now (t .entry)))))) 64 (controlFor (countOf (now (t .entry)) 3 ∷ countOf (now (t .entry)) 4 ∷ countOf (now (t .entry)) 5 ∷ countOf (now (t .entry)) 6 ∷ [])) ⌝ }
 {
     let counts = Counts {
         hfi: count_byte(t, Hfi::ID),
@@ -40,14 +41,23 @@ fn lay_front(out: &mut [u8], t: &[u8], size: usize, heap: usize, heapsize: usize
         security: count_byte(t, Security::ID),
         discovery: count_byte(t, Discovery::ID),
     };
-    write_front(out, oem(t), counts, size, heap, heapsize, signature);
+    write_front(
+        out,
+        oem(t),
+        counts,
+        size,
+        heap,
+        heapsize,
+        signature,
+        form_minor(t),
+    );
 }
 
 // The one form but for its checksum, which is 0; the length of the driver signature. The header is laid like any record, and written over once it is known how long
 // the driver signature is.
 fn lay_form(out: &mut [u8], t: &[u8], size: usize, heap: usize) -> usize
     requires { ⌜ Accepted (now t) × (size ≡ formLength (meaning (now t))) × (heap ≡ heapAt (meaning (now t))) × (size ≤ length (now out)) ⌝ }
-    ensures { λ r. ⌜ (r ≡ length (driverOf (now (t .entry)))) × (now (out .exit) ≡ splice (now (out .entry)) 0 (laidOut (meaning (now (t .entry))) size 0 (heapLen (meaning (now (t .entry)))))) ⌝ }
+    ensures { λ r. ⌜ (r ≡ length (driverOf (now (t .entry)))) × (now (out .exit) ≡ splice (now (out .entry)) 0 (laidOut (meaning (now (t .entry))) size 0 (heapLen (meaning (now (t .entry)))) (minorOf (meaning (now (t .entry)))))) ⌝ }
 {
     let after_driver = lay_entry(out, 0, heap, t, Header::ID, 0);
     let signature = after_driver - heap;

@@ -7,7 +7,7 @@ use native.Mathlib.Omega.{arith}
 use lib.ListN.{length, getD, length-append, length-replicate}
 use lib.Dec.{T}
 use Rattle.table.specs.Layout.{Layout, Entry, unused, used, baseOf}
-use Rattle.table.specs.FixedLayouts.{layoutOf, header, control, host, hfi, ssns, security, discovery, info, extended, noKind}
+use Rattle.table.specs.FixedLayouts.{layoutOf, header, control, host, hfi, ssns, security, discovery, info, extended, hfiExtended, noKind}
 use Rattle.table.specs.Objects.{sizeOf, sizeEntry, patched, heapOf, recEntry, heapEntry}
 use Rattle.table.specs.Reads as reads
 use Rattle.table.specs.Reads.{seat, seatOf, hasPlain}
@@ -23,11 +23,11 @@ use Rattle.reads_seats.specs.Told.{innerKind, toldEntry}
 use Rattle.reads_seats.proofs.SeatLaws.{seats-good, record-held}
 use Rattle.reads_seats.proofs.EntryLaws.{seated-at, entry-nowhere, entry-off, entry-on}
 use Rattle.rewriter_sizes.specs.Parts.{Part, refsOf, allPlain, slotsIn, recordPart, partAt, recordBytes, bytesAt, spansOver, objectsOver}
-use Rattle.rewriter_sizes.proofs.PartLaws.{object-long, plain-part, nest-part, plain-bytes, nest-bytes, plain-each, inner-plain, sized-all, heaped-all}
+use Rattle.rewriter_sizes.proofs.PartLaws.{object-long, plain-part, nest-part, plain-bytes, nest-bytes, plain-each, innermost-plain, sized-all, heaped-all}
 
 refs-ok : (k : ℕ) → T (okRefs 0 (layoutOf k .shape .keep) (layoutOf k .refs))
-unfolding header control host hfi ssns security discovery info extended noKind
-refs-ok = by-layout (λ l. T (okRefs 0 (l .shape .keep) (l .refs))) tt tt tt tt tt tt tt tt tt tt
+unfolding header control host hfi ssns security discovery info extended hfiExtended noKind
+refs-ok = by-layout (λ l. T (okRefs 0 (l .shape .keep) (l .refs))) tt tt tt tt tt tt tt tt tt tt tt
 
 -- a record with its references is as long as its image
 pub patched-long : (t : List ℕ) (k a h : ℕ) → length (patched h (imageIn (layoutOf k) t a) (slotsIn (layoutOf k) t a)) ≡ baseOf (layoutOf k)
@@ -55,35 +55,53 @@ module _ (t : List ℕ) (ok : Accepted t) (k a : ℕ) (s : Seated t (layoutOf k)
   plain-long : allPlain k ≡ true → (h : ℕ) → length (heapOf h (slotsIn (layoutOf k) t a)) ≡ sizeOf (slotsIn (layoutOf k) t a)
   plain-long o = all-long (λ i b h. plain-bytes-long h (getD (refsOf k) i 0) (plain-each k o i b))
 
--- ---- a heap record
+-- ---- a heap record, where what it names takes its size
 
-record-long : (t : List ℕ) (ok : Accepted t) (k h : ℕ) (s : Seat) → Held t k s → allPlain k ≡ true → length (recordBytes t k h s) ≡ recordPart t k s .span
+abbrev Sized : List ℕ → ℕ → ℕ → Type 0
+Sized t k a = (h : ℕ) → length (heapOf h (slotsIn (layoutOf k) t a)) ≡ sizeOf (slotsIn (layoutOf k) t a)
+
+record-long : (t : List ℕ) (k h : ℕ) (s : Seat) → Held t k s → ((a : ℕ) → Seated t (layoutOf k) a true → Sized t k a) → length (recordBytes t k h s) ≡ recordPart t k s .span
 unfolding recordBytes recordPart
-record-long t ok k h Nowhere g o = refl
-record-long t ok k h (At b on) g o =
+record-long t k h Nowhere g f = refl
+record-long t k h (At b on) g f =
     let h₁ : ℕ = h + baseOf (layoutOf k) in
     length-append (patched h₁ (imageIn (layoutOf k) t b) (slotsIn (layoutOf k) t b)) (heapOf h₁ (slotsIn (layoutOf k) t b))
-    ∙ ap₂ _+_ (patched-long t k b h₁) (plain-long t ok k b g o h₁)
+    ∙ ap₂ _+_ (patched-long t k b h₁) (f b g h₁)
 
-module _ (t : List ℕ) (ok : Accepted t) (k a : ℕ) (s : Seated t (layoutOf k) a true) where
-  held : Held t (innerKind k) (heapRecord t k a)
-  held = record-held t ok a k (refl, s)
+-- ---- a record, where what its heap record names takes its size
 
+module _ (t : List ℕ) (ok : Accepted t) (k a : ℕ) (s : Seated t (layoutOf k) a true) (f : (b : ℕ) → Seated t (layoutOf (innerKind k)) b true → Sized t (innerKind k) b) where
   nest-bytes-long : (h p : ℕ) → hasPlain p (layoutOf k .refs) ≡ false → length (bytesAt t k a h p) ≡ partAt t k a p .span
   nest-bytes-long h p e =
       ap length (nest-bytes t ok k a s h p e)
-      ∙ record-long t ok (innerKind k) h (heapRecord t k a) held (inner-plain k)
+      ∙ record-long t (innerKind k) h (heapRecord t k a) (record-held t ok a k (refl, s)) f
       ∙ sym (ap (λ (q : Part). q .span) (nest-part t ok k a s p e))
 
-  -- what a reference names takes its span
-  pub bytes-long : (h p : ℕ) → length (bytesAt t k a h p) ≡ partAt t k a p .span
-  bytes-long h p = go (hasPlain p (layoutOf k .refs)) refl where
+  named-long : (h p : ℕ) → length (bytesAt t k a h p) ≡ partAt t k a p .span
+  named-long h p = go (hasPlain p (layoutOf k .refs)) refl where
     go : (c : Bool) → hasPlain p (layoutOf k .refs) ≡ c → length (bytesAt t k a h p) ≡ partAt t k a p .span
     go true e = plain-bytes-long t ok k a s h p e
     go false e = nest-bytes-long h p e
 
+  all-sized : Sized t k a
+  all-sized = all-long t ok k a s (λ i b h. named-long h (getD (refsOf k) i 0))
+
+-- ---- level by level: a heap record that names objects alone, one that names such a one, and any record
+
+module _ (t : List ℕ) (ok : Accepted t) where
+  flat-sized : (k : ℕ) → allPlain k ≡ true → (a : ℕ) → Seated t (layoutOf k) a true → Sized t k a
+  flat-sized k o a s = plain-long t ok k a s o
+
+  pub inner-sized : (k : ℕ) → allPlain (innerKind k) ≡ true → (a : ℕ) → Seated t (layoutOf k) a true → Sized t k a
+  inner-sized k o a s = all-sized t ok k a s (flat-sized (innerKind k) o)
+
+module _ (t : List ℕ) (ok : Accepted t) (k a : ℕ) (s : Seated t (layoutOf k) a true) where
+  -- what a reference names takes its span
+  pub bytes-long : (h p : ℕ) → length (bytesAt t k a h p) ≡ partAt t k a p .span
+  bytes-long = named-long t ok k a s (inner-sized t ok (innerKind k) (innermost-plain k))
+
   pub slots-long : (h : ℕ) → length (heapOf h (slotsIn (layoutOf k) t a)) ≡ sizeOf (slotsIn (layoutOf k) t a)
-  slots-long = all-long t ok k a s (λ i b h. bytes-long h (getD (refsOf k) i 0))
+  slots-long = all-sized t ok k a s (inner-sized t ok (innerKind k) (innermost-plain k))
 
 -- ---- the record of a kind and position
 

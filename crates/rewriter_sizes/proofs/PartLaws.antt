@@ -12,7 +12,7 @@ use lib.Dec.{eqb, lit<}
 use Rattle.table.specs.declared.Need.{Need}
 use Rattle.table.specs.Bytes.{pick, part, every, Edit, edit}
 use Rattle.table.specs.Layout.{Shape, Layout, Refs, none, plain, nest, Slots, baseOf, offsets}
-use Rattle.table.specs.FixedLayouts.{layoutOf, header, control, host, hfi, ssns, security, discovery, info, extended, noKind}
+use Rattle.table.specs.FixedLayouts.{layoutOf, header, control, host, hfi, ssns, security, discovery, info, extended, hfiExtended, noKind}
 use Rattle.table.specs.Objects.{sizeOf, sizeEntry, sizeList, sizeBody, spanBody, stores, heapOf, ref6}
 use Rattle.table.specs.Meaning.{Meaning, meaning, heapLen}
 use Rattle.table.specs.Reads.{seat, hasPlain, placeAt, seatOf}
@@ -128,7 +128,7 @@ module _ (t : List ℕ) (ok : Accepted t) (a : ℕ) where
   FitsAll k = (s : Seated t (layoutOf k) a true) → Fits t ok k a s (layoutOf k .refs)
 
   all-fit : (k : ℕ) → FitsAll k
-  unfolding layoutOf header host hfi ssns security discovery info extended
+  unfolding layoutOf header host hfi ssns security discovery info extended hfiExtended
   all-fit =
       by-kind FitsAll
       (λ s. (refl, omega arith))
@@ -138,8 +138,9 @@ module _ (t : List ℕ) (ok : Accepted t) (a : ℕ) where
       (λ s. (refl, (refl, (refl, (refl, (refl, (λ x. slot-laid t 9 (lit< tt) 60 _ none x (heapRecord t 4 a)), omega arith))))))
       (λ s. (refl, (refl, (refl, (refl, (refl, (refl, omega arith)))))))
       (λ s. (refl, (refl, omega arith)))
+      (λ s. (refl, (refl, (λ x. slot-laid t 10 (lit< tt) 110 _ none x (heapRecord t 7 a)), omega arith)))
       (λ s. (refl, omega arith))
-      (λ s. (refl, omega arith))
+      (λ s. (refl, (refl, omega arith)))
       (λ k o s. subst (λ (l : Layout). Fits t ok k a s (l .refs)) (sym (other-layout k o)) (unfold noKind in omega arith))
 
 -- ---- all references of a record
@@ -172,13 +173,14 @@ pub plain-each : (k : ℕ) → allPlain k ≡ true → (i : ℕ) → i < length 
 unfolding allPlain
 plain-each k e = every-at (isPlain k) (refsOf k) e
 
--- heap records are such
-pub inner-plain : (k : ℕ) → allPlain (innerKind k) ≡ true
-unfolding allPlain layoutOf info extended
-inner-plain k = go (eqb k 3) where
-  go : (c : Bool) → allPlain (pick c 7 9) ≡ true
-  go true = refl
-  go false = refl
+-- what the heap record of a heap record names is such
+pub innermost-plain : (k : ℕ) → allPlain (innerKind (innerKind k)) ≡ true
+unfolding allPlain layoutOf extended hfiExtended
+innermost-plain k = go (eqb k 3) (eqb k 7) where
+  go : (c d : Bool) → allPlain (innerKind (pick c 7 (pick d 10 9))) ≡ true
+  go true d = refl
+  go false true = refl
+  go false false = refl
 
 -- a reference of the table of offsets
 pub offset-is : (ps full : List ℕ) (n i : ℕ) → take n ps ≡ full → n ≡ length full → i < n → getD ps i 0 ≡ getD full i 0

@@ -62,6 +62,16 @@ fn print_transport(f: Field, json: bool, width: usize) {
     print_plain(text::decimal(value_of(f)), json, width);
 }
 
+// Flag 2 of the transport info.
+fn print_dhcp(f: Field, json: bool, width: usize) {
+    print_flag(value_of(f) / 4 % 2 == 1, json, width);
+}
+
+// Flag 3, which version 1 reserves.
+fn print_autoconfigured(f: Field, json: bool, width: usize) {
+    print_flag(value_of(f) / 8 % 2 == 1, json, width);
+}
+
 // An object of bytes, or none.
 fn print_object(x: &[u8], json: bool, width: usize) {
     if x.len() == 0 {
@@ -94,11 +104,8 @@ pub fn print_cell(t: &[u8], n: usize, c: Column, json: bool)
             json,
             width,
         ),
-        Form::Flag => print_flag(
-            value_of(field_in(t, kind, n, off)) / 4 % 2 == 1,
-            json,
-            width,
-        ),
+        Form::Dhcp => print_dhcp(field_in(t, kind, n, off), json, width),
+        Form::Autoconfigured => print_autoconfigured(field_in(t, kind, n, off), json, width),
         Form::Transport => print_transport(field_in(t, kind, n, off), json, width),
         Form::Name => print_field_string(field_in(t, kind, n, off), json, width),
         Form::Digits => print_field_digits(field_in(t, kind, n, off), json, width),

@@ -1,10 +1,11 @@
-// For people: a heading, the columns' names, and a line for each record.
+// For people: a heading, the columns' names, and a line for each record, with the first `n` columns of its kind.
 use crate::cells::print_cell;
 use crate::records::count_of;
+use crate::records::has_identities;
 use crate::records::is_used;
 use show_cells::column_at;
-use show_cells::column_count;
 use show_cells::names;
+use show_cells::people_count;
 use show_cells::values::print_plain;
 use show_cells::values::print_rule;
 use table::Discovery;
@@ -21,8 +22,7 @@ fn print_title(kind: u8, i: usize) {
     names::print_title(kind, i, c.width);
 }
 
-fn print_titles(kind: u8) {
-    let n = column_count(kind);
+fn print_titles(kind: u8, n: usize) {
     let mut i: usize = 0;
     while i < n {
         if i != 0 {
@@ -35,8 +35,7 @@ fn print_titles(kind: u8) {
 }
 
 // The line between names and records.
-fn print_rules(kind: u8) {
-    let n = column_count(kind);
+fn print_rules(kind: u8, n: usize) {
     let mut i: usize = 0;
     while i < n {
         if i != 0 {
@@ -49,10 +48,9 @@ fn print_rules(kind: u8) {
     print_bytes(b"\n");
 }
 
-fn print_row(t: &[u8], kind: u8, position: usize)
+fn print_row(t: &[u8], kind: u8, position: usize, n: usize)
     requires { ⌜ Accepted (now t) ⌝ }
 {
-    let n = column_count(kind);
     let mut i: usize = 0;
     while i < n {
         if i != 0 {
@@ -69,20 +67,29 @@ fn print_unused(position: usize) {
     print_bytes(b"|unused\n");
 }
 
-fn print_position(t: &[u8], kind: u8, position: usize)
+fn print_position(t: &[u8], kind: u8, position: usize, n: usize)
     requires { ⌜ Accepted (now t) ⌝ }
 {
     if is_used(t, kind, position) {
-        print_row(t, kind, position);
+        print_row(t, kind, position, n);
         return;
     }
     print_unused(position);
 }
 
-fn print_heading(heading: &[u8], kind: u8) {
+fn print_heading(heading: &[u8], kind: u8, n: usize) {
     print_bytes(heading);
-    print_titles(kind);
-    print_rules(kind);
+    print_titles(kind, n);
+    print_rules(kind, n);
+}
+
+// Header or host.
+fn print_single(t: &[u8], heading: &[u8], kind: u8)
+    requires { ⌜ Accepted (now t) ⌝ }
+{
+    let n = people_count(kind, false);
+    print_heading(heading, kind, n);
+    print_row(t, kind, 0, n);
 }
 
 // A heading above no records would say nothing.
@@ -93,10 +100,11 @@ fn print_list(t: &[u8], heading: &[u8], kind: u8)
     if count == 0 {
         return;
     }
-    print_heading(heading, kind);
+    let n = people_count(kind, has_identities(t));
+    print_heading(heading, kind, n);
     let mut i: usize = 0;
     while i < count {
-        print_position(t, kind, i + 1);
+        print_position(t, kind, i + 1, n);
         i += 1;
     }
 }
@@ -104,10 +112,8 @@ fn print_list(t: &[u8], heading: &[u8], kind: u8)
 pub fn print_people(t: &[u8])
     requires { ⌜ Accepted (now t) ⌝ }
 {
-    print_heading(b"NBFT Header:\n\n", Header::ID);
-    print_row(t, Header::ID, 0);
-    print_heading(b"\nNBFT Host:\n\n", Host::ID);
-    print_row(t, Host::ID, 0);
+    print_single(t, b"NBFT Header:\n\n", Header::ID);
+    print_single(t, b"\nNBFT Host:\n\n", Host::ID);
     print_list(t, b"\nNBFT HFIs:\n\n", Hfi::ID);
     print_list(t, b"\nNBFT Subsystems:\n\n", Ssns::ID);
     print_list(t, b"\nNBFT Security:\n\n", Security::ID);

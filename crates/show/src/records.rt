@@ -1,7 +1,9 @@
-// Which records there are: how many a list has, and whether one is used.
+// Which records there are: how many a list has, whether one is used, and whether any has what few have.
 use reads::fields::field_in;
+use reads::objects::object_in;
 use table::Control;
 use table::Hfi;
+use table::HfiExtended;
 use table::Security;
 use table::Ssns;
 ghost use Rattle.reader.specs.Accepted.{Accepted};
@@ -30,4 +32,27 @@ pub fn is_used(t: &[u8], kind: u8, n: usize) -> bool
 {
     let f = field_in(t, kind, n, 0);
     f.used
+}
+
+// An identity for DHCP has an IAID.
+fn has_identity(t: &[u8], n: usize) -> bool
+    requires { ⌜ Accepted (now t) ⌝ }
+{
+    let iaid = object_in(t, HfiExtended::ID, n, 8);
+    iaid.len() != 0
+}
+
+// Whether any interface has one.
+pub fn has_identities(t: &[u8]) -> bool
+    requires { ⌜ Accepted (now t) ⌝ }
+{
+    let count = count_of(t, Hfi::ID);
+    let mut i: usize = 0;
+    while i < count {
+        if has_identity(t, i + 1) {
+            return true;
+        }
+        i += 1;
+    }
+    false
 }

@@ -1,9 +1,10 @@
-// What is shown of each kind of record, and how. Both forms of the output go by these columns.
+// What is shown of each kind of record, and how. Both forms of the output go by these columns: JSON by all, people by the first of them.
 pub mod values; // values as they are printed
 
 use table::Discovery;
 use table::Header;
 use table::Hfi;
+use table::HfiExtended;
 use table::Host;
 use table::Info;
 use table::Security;
@@ -15,7 +16,8 @@ pub mod names; // the columns' names
 pub enum Form {
     Position,
     Number,
-    Flag,
+    Dhcp,
+    Autoconfigured,
     Transport,
     Name,
     Digits,
@@ -78,11 +80,15 @@ fn hfi_column(i: usize) -> Column {
         1 => column_of(Hfi::ID, 3, Form::Transport, 4),
         2 => column_of(Info::ID, 7, Form::Pci, 12),
         3 => column_of(Info::ID, 11, Form::Mac, 17),
-        4 => column_of(Info::ID, 6, Form::Flag, 4),
+        4 => column_of(Info::ID, 6, Form::Dhcp, 4),
         5 => column_of(Info::ID, 20, Form::Address, 15),
         6 => column_of(Info::ID, 36, Form::Number, 4),
         7 => column_of(Info::ID, 37, Form::Address, 15),
         8 => column_of(Info::ID, 56, Form::Address, 15),
+        9 => column_of(HfiExtended::ID, 8, Form::DigitsObject, 8),
+        10 => column_of(HfiExtended::ID, 14, Form::DigitsObject, 36),
+        11 => column_of(Info::ID, 3, Form::Number, 0),
+        12 => column_of(Info::ID, 6, Form::Autoconfigured, 0),
         _ => no_column(),
     }
 }
@@ -140,10 +146,21 @@ pub fn column_count(kind: u8) -> usize {
     match kind {
         Header::ID => 6,
         Host::ID => 3,
-        Hfi::ID => 9,
+        Hfi::ID => 13,
         Ssns::ID => 6,
         Security::ID => 8,
         Discovery::ID => 3,
         _ => 0,
     }
+}
+
+// How many of them are for people; IAID and DUID only where a table has some.
+pub fn people_count(kind: u8, identities: bool) -> usize {
+    if kind == Hfi::ID {
+        if identities {
+            return 11;
+        }
+        return 9;
+    }
+    column_count(kind)
 }

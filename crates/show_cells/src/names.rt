@@ -64,7 +64,7 @@ pub fn print_title(kind: u8, i: usize, width: usize) {
         ),
         Host::ID => print_name(b"Host ID|NQN|Flags", i, width),
         Hfi::ID => print_name(
-            b"Idx|Trsp|PCI Addr|MAC Addr|DHCP|IP Addr|Mask|Gateway|DNS",
+            b"Idx|Trsp|PCI Addr|MAC Addr|DHCP|IP Addr|Mask|Gateway|DNS|IAID|DUID",
             i,
             width,
         ),
@@ -89,7 +89,7 @@ pub fn print_key(kind: u8, i: usize) {
         ),
         Host::ID => print_name(b"host_id|nqn|flags", i, 0),
         Hfi::ID => print_name(
-            b"index|transport|pci_address|mac_address|dhcp|ip_address|mask|gateway|dns",
+            b"index|transport|pci_address|mac_address|dhcp|ip_address|mask|gateway|dns|iaid|duid|info_version|autoconfigured",
             i,
             0,
         ),

@@ -10,38 +10,15 @@ use Rattle.table.specs.declared.Field.{Field}
 use Rattle.table.specs.declared.Place.{Place}
 use Rattle.table.specs.declared.State.{State}
 use Rattle.table.specs.Bytes.{pick, same, padded, Edit, apply}
-use Rattle.table.specs.Layout.{image, isRight, slotAt, nil, bytes, rec}
-use Rattle.table.specs.FixedLayouts.{header, control, host, info, extended, hfi, ssns, security, discovery}
-use Rattle.table.specs.Objects.{
-  readSlots,
-  readEntry,
-  readList,
-  readBody,
-  usedAt,
-  usedIn,
-  countIn,
-  sizeOf,
-  stores,
-  patched,
-  heapOf,
-  sizeEntry,
-  recEntry,
-  heapEntry,
-  sizeList,
-  recsList,
-  heapList,
-  sizeBody,
-  recsBody,
-  heapBody,
-  spanBody,
-  placesBody,
-}
+use Rattle.table.specs.Layout.{image, isRight, slotAt, recAt, Slots, nil, bytes, gone, rec}
+use Rattle.table.specs.FixedLayouts.{header, control, host, info, extended, hfiExtended, hfi, ssns, security, discovery}
+use Rattle.table.specs.Objects.{readSlots, readEntry, readList, readBody, usedAt, usedIn, countIn, newerEntry, newerList, newerBody, sizeOf, stores, patched, heapOf, sizeEntry, recEntry, heapEntry, sizeList, recsList, heapList, sizeBody, recsBody, heapBody, spanBody, placesBody}
 use Rattle.table.specs.Rules.{answer, done, listRegions, longEnough, versioned, refsRule, usedRule, entryRule, listRule, bodyRule}
-use Rattle.table.specs.Meaning.{limit, meaning, heapAt, heapLen, formLength, driverRef, headFront, headBack, controlBytes, behind, laidOut, form}
+use Rattle.table.specs.Meaning.{limit, meaning, heapAt, heapLen, formLength, driverRef, minorOf, headFront, headBack, controlBytes, behind, laidOut, form}
 use Rattle.table.specs.Numbers.{heapIn, regions, tests, driverRule, hostRule, records, check}
 use Rattle.table.specs.Reads.{seatOf, readRecord, readField, readPlace, readObject}
 use Rattle.table.specs.Rewriting.{rewriteAnswer, rewrite, rewriteBytes}
-use Rattle.table.specs.Builder.{Outcome, sameState, recordsEnd, placeOf, next, waits, toldImage, toldSlots, slotsRule, fillAnswer, placed, fill, leave, opened, begin, sealed, finish}
+use Rattle.table.specs.Builder.{Outcome, sameState, recordsEnd, placeOf, next, waits, toldImage, toldSlots, slotsRule, nestsRight, fillAnswer, placed, fill, leave, opened, begin, sealed, finish}
 
 -- ---- check and form: a table's bytes, the answer that `check` must give, and the one form of an accepted table
 
@@ -66,11 +43,7 @@ sameAnswer x y = eqb (x .number) (y .number) && (eqb (x .kind) (y .kind) && eqb 
 
 -- whether the definitions compute what the case says
 unfoldable pub fine : Case → Bool
-unfolding image isRight slotAt header host info extended hfi ssns security discovery readSlots readEntry readList
-    readBody usedAt usedIn countIn sizeOf stores patched heapOf sizeEntry recEntry heapEntry sizeList recsList heapList
-    sizeBody recsBody heapBody spanBody placesBody listRegions longEnough versioned refsRule usedRule entryRule listRule
-    bodyRule limit meaning heapAt heapLen formLength driverRef headFront headBack controlBytes behind laidOut form
-    heapIn regions tests driverRule hostRule records check
+unfolding image isRight slotAt recAt header host info extended hfiExtended hfi ssns security discovery readSlots readEntry readList readBody usedAt usedIn countIn newerEntry newerList newerBody sizeOf stores patched heapOf sizeEntry recEntry heapEntry sizeList recsList heapList sizeBody recsBody heapBody spanBody placesBody listRegions longEnough versioned refsRule usedRule entryRule listRule bodyRule limit meaning heapAt heapLen formLength driverRef minorOf headFront headBack controlBytes behind laidOut form heapIn regions tests driverRule hostRule records check
 fine c =
     let rewritten = form (meaning (c .table)) in
     let formed = same rewritten (c .becomes) in
@@ -131,9 +104,7 @@ isRead c (field q) = isField c (readField (c .table) (c .kind) (c .position) q)
 isRead c (object q) = isPlace c (readPlace (c .table) (c .kind) (c .position) q) (readObject (c .table) (c .kind) (c .position) q)
 
 unfoldable pub fineRead : ReadCase → Bool
-unfolding control seatOf readRecord readField readPlace readObject image isRight slotAt header host info extended hfi
-    ssns security discovery readSlots readEntry readList readBody usedAt usedIn countIn listRegions longEnough versioned
-    refsRule usedRule entryRule listRule bodyRule limit meaning heapIn regions tests driverRule hostRule records check
+unfolding control seatOf readRecord readField readPlace readObject image isRight slotAt recAt header host info extended hfiExtended hfi ssns security discovery readSlots readEntry readList readBody usedAt usedIn countIn listRegions longEnough versioned refsRule usedRule entryRule listRule bodyRule limit meaning heapIn regions tests driverRule hostRule records check
 fineRead c = isRead c (c .read)
 
 abbrev pub allFineReads : List ReadCase → Bool
@@ -156,11 +127,7 @@ abbrev pub written : List ℕ → List ℕ → ℕ → List ℕ → RewriteCase
 written t b n b′ = record { table = t; lent = b; says = done; size = n; leaves = b′ }
 
 unfoldable pub fineRewrite : RewriteCase → Bool
-unfolding rewriteAnswer rewrite rewriteBytes image isRight slotAt header host info extended hfi ssns security discovery
-    readSlots readEntry readList readBody usedAt usedIn countIn sizeOf stores patched heapOf sizeEntry recEntry
-    heapEntry sizeList recsList heapList sizeBody recsBody heapBody spanBody placesBody listRegions longEnough versioned
-    refsRule usedRule entryRule listRule bodyRule limit meaning heapAt heapLen formLength driverRef headFront headBack
-    controlBytes behind laidOut form heapIn regions tests driverRule hostRule records check
+unfolding rewriteAnswer rewrite rewriteBytes image isRight slotAt recAt header host info extended hfiExtended hfi ssns security discovery readSlots readEntry readList readBody usedAt usedIn countIn newerEntry newerList newerBody sizeOf stores patched heapOf sizeEntry recEntry heapEntry sizeList recsList heapList sizeBody recsBody heapBody spanBody placesBody listRegions longEnough versioned refsRule usedRule entryRule listRule bodyRule limit meaning heapAt heapLen formLength driverRef minorOf headFront headBack controlBytes behind laidOut form heapIn regions tests driverRule hostRule records check
 fineRewrite c =
     let x = rewrite (c .table) (length (c .lent)) in
     sameAnswer (x .answer) (c .says) && (eqb (x .len) (c .size) && same (rewriteBytes (c .table) (c .lent)) (c .leaves))
@@ -175,7 +142,8 @@ allFineRewrites (c ∷ cs) = fineRewrite c && allFineRewrites cs
 pub data Call : Type 0 where
   beginning : (oem counts signature : List ℕ) → Call
   aHost : (x name : List ℕ) → Call
-  anHfi : (x info hostName : List ℕ) → Call
+  -- with or without a record of kind 10, which is told in any case
+  anHfi : (x info hostName : List ℕ) (told : Bool) (extended iaid duid : List ℕ) → Call
   anSsns : (x extended address service secondary name rootPath : List ℕ) → Call
   aSecurity : (x algorithms protocols ciphers groups hashes keypath : List ℕ) → Call
   aDiscovery : (x address name : List ℕ) → Call
@@ -183,10 +151,10 @@ pub data Call : Type 0 where
   finishing : Call
 
 unfoldable pub made : Call → State → List ℕ → Outcome
-unfolding header host info extended hfi ssns security discovery
+unfolding header host info extended hfiExtended hfi ssns security discovery
 made (beginning oem cs sig) s b = begin s b oem cs (bytes sig nil)
 made (aHost x o) s b = fill host s b x (bytes o nil)
-made (anHfi x y o) s b = fill hfi s b x (rec y (bytes o nil) nil)
+made (anHfi x y o told z o₁ o₂) s b = fill hfi s b x (rec y (bytes o (pick told (rec z (bytes o₁ (bytes o₂ nil)) nil) (gone nil))) nil)
 made (anSsns x y o₁ o₂ o₃ o₄ o₅) s b = fill ssns s b x (bytes o₁ (bytes o₂ (bytes o₃ (bytes o₄ (rec y (bytes o₅ nil) nil)))))
 made (aSecurity x o₁ o₂ o₃ o₄ o₅ o₆) s b = fill security s b x (bytes o₁ (bytes o₂ (bytes o₃ (bytes o₄ (bytes o₅ (bytes o₆ nil))))))
 made (aDiscovery x o₁ o₂) s b = fill discovery s b x (bytes o₁ (bytes o₂ nil))
@@ -201,9 +169,9 @@ pub record BuildCase : Type 0 where
   pub after : State
   pub leaves : List ℕ
 
--- turn, position, the four counts, bytes used
-abbrev pub state : ℕ → ℕ → ℕ → ℕ → ℕ → ℕ → ℕ → State
-state x n c₁ c₂ c₃ c₄ u = record { turn = x; position = n; hfi = c₁; ssns = c₂; security = c₃; discovery = c₄; used = u }
+-- turn, position, the four counts, bytes used, header minor
+abbrev pub state : ℕ → ℕ → ℕ → ℕ → ℕ → ℕ → ℕ → ℕ → State
+state x n c₁ c₂ c₃ c₄ u r = record { turn = x; position = n; hfi = c₁; ssns = c₂; security = c₃; discovery = c₄; used = u; minor = r }
 
 abbrev pub halted : State → List ℕ → Call → ℕ → ℕ → ℕ → BuildCase
 halted s b x n k i = record { before = s; lent = b; call = x; says = answer n k i; after = s; leaves = b }
@@ -212,12 +180,7 @@ abbrev pub stepped : State → List ℕ → Call → State → List ℕ → Buil
 stepped s b x s′ b′ = record { before = s; lent = b; call = x; says = done; after = s′; leaves = b′ }
 
 unfoldable pub fineBuild : BuildCase → Bool
-unfolding made recordsEnd placeOf next waits toldImage toldSlots slotsRule fillAnswer placed fill leave opened begin
-    sealed finish image isRight slotAt header host info extended hfi ssns security discovery readSlots readEntry
-    readList readBody usedAt usedIn countIn sizeOf stores patched heapOf sizeEntry recEntry heapEntry sizeList recsList
-    heapList sizeBody recsBody heapBody spanBody placesBody listRegions longEnough versioned refsRule usedRule entryRule
-    listRule bodyRule limit meaning heapAt heapLen formLength driverRef headFront headBack controlBytes behind laidOut
-    form heapIn regions tests driverRule hostRule records check
+unfolding made recordsEnd placeOf next waits toldImage toldSlots slotsRule nestsRight fillAnswer placed fill leave opened begin sealed finish image isRight slotAt recAt header host info extended hfiExtended hfi ssns security discovery readSlots readEntry readList readBody usedAt usedIn countIn newerEntry newerList newerBody sizeOf stores patched heapOf sizeEntry recEntry heapEntry sizeList recsList heapList sizeBody recsBody heapBody spanBody placesBody listRegions longEnough versioned refsRule usedRule entryRule listRule bodyRule limit meaning heapAt heapLen formLength driverRef minorOf headFront headBack controlBytes behind laidOut form heapIn regions tests driverRule hostRule records check
 fineBuild c =
     let x = made (c .call) (c .before) (c .lent) in
     sameAnswer (x .step .answer) (c .says) && (sameState (x .step .state) (c .after) && same (x .buffer) (c .leaves))

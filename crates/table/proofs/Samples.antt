@@ -169,6 +169,71 @@ longRecords =
     ∷ edit 683 (0xFF ∷ [])
     ∷ []))
 
+-- one HFI whose info has version 2 and IP origin 3, with a host name; its extended info has a client identifier, IAID and DUID; in the order of the one form
+abbrev identity : List ℕ
+identity =
+    summed
+    (sheet 345
+    (edit 0 (0x4E ∷ 0x42 ∷ 0x46 ∷ 0x54 ∷ 0x59 ∷ 0x01 ∷ 0 ∷ 0 ∷ 1 ∷ [])
+    ∷ edit 36 (0xC0 ∷ 0 ∷ 0 ∷ 0 ∷ 0x99 ∷ [])
+    ∷ edit 50 (1 ∷ [])
+    ∷ edit 64 (1 ∷ 1 ∷ 0 ∷ 0 ∷ 0x40 ∷ 0 ∷ 1 ∷ 0 ∷ 0x80 ∷ 0 ∷ 0 ∷ 0 ∷ 0x20 ∷ 0 ∷ 1 ∷ 0 ∷ [])
+    ∷ edit 80 (0xA0 ∷ 0 ∷ 0 ∷ 0 ∷ 0x20 ∷ 0 ∷ 1 ∷ 1 ∷ [])
+    ∷ edit 94 (1 ∷ [])
+    ∷ edit 102 (1 ∷ [])
+    ∷ edit 110 (1 ∷ [])
+    ∷ edit 128 (2 ∷ 1 ∷ [])
+    ∷ edit 146 (0xC0 ∷ 0 ∷ 0 ∷ 0 ∷ 1 ∷ [])
+    ∷ edit 160 (3 ∷ 1 ∷ 1 ∷ 3 ∷ [])
+    ∷ edit 176 (0xC1 ∷ 0 ∷ 0 ∷ 0 ∷ 0x80 ∷ [])
+    ∷ edit 192 (0x6E ∷ [])
+    ∷ edit 193 (7 ∷ 1 ∷ 3 ∷ 2 ∷ 1 ∷ 0 ∷ 1 ∷ [])
+    ∷ edit 212 (3 ∷ 0xFE ∷ [])
+    ∷ edit 297 (0x41 ∷ 0x01 ∷ 0 ∷ 0 ∷ 1 ∷ 0 ∷ 0x42 ∷ 0x01 ∷ 0 ∷ 0 ∷ 20 ∷ [])
+    ∷ edit 321 (0x68 ∷ [])
+    ∷ edit 322 (10 ∷ 1 ∷ 1 ∷ 0 ∷ 3 ∷ [])
+    ∷ edit 330 (0x56 ∷ 0x01 ∷ 0 ∷ 0 ∷ 2 ∷ 0 ∷ 0x58 ∷ 0x01 ∷ 0 ∷ 0 ∷ 1 ∷ [])
+    ∷ edit 342 (0x69 ∷ 0x61 ∷ 0x64 ∷ [])
+    ∷ []))
+
+abbrev identityWith : List Edit → List ℕ
+identityWith es = summed (apply identity es)
+
+-- its form of n bytes without what stands behind them
+abbrev identityCut : ℕ → List Edit → List ℕ
+identityCut n es = summed (take n (apply identity es))
+
+-- In order: the same, and with noise; version 1 with noise in flag 3 and a reference at 110; no extended info; flag 3 without DHCP and origin; no client
+-- identifier, its references ignored; versions 0 and 3; flag 3 with an origin, and with flag 2; a client identifier without IP origin 3; extended info of 19 bytes,
+-- not valid, with a wrong ID, version, index; no IAID, no DUID, half a reference at 110; a wrong host name before a wrong extended info, and that before no IAID
+abbrev identities : List Case
+identities =
+    taken identity identity
+    ∷ taken (identityWith (edit 199 (0xF1 ∷ []) ∷ edit 309 (replicate 12 0xFF) ∷ edit 326 (replicate 4 0xFF) ∷ edit 50 (0xFF ∷ 0xFF ∷ []) ∷ [])) identity
+    ∷ taken (identityWith (edit 196 (1 ∷ []) ∷ edit 199 (0x0D ∷ []) ∷ edit 303 (replicate 6 0xFF) ∷ []))
+    (identityCut 322 (edit 4 (0x42 ∷ []) ∷ edit 40 (0x82 ∷ []) ∷ edit 50 (0 ∷ []) ∷ edit 196 (1 ∷ []) ∷ edit 199 (5 ∷ []) ∷ edit 303 (replicate 6 0) ∷ []))
+    ∷ taken (identityWith (edit 303 (replicate 6 0) ∷ [])) (identityCut 322 (edit 4 (0x42 ∷ []) ∷ edit 40 (0x82 ∷ []) ∷ edit 303 (replicate 6 0) ∷ []))
+    ∷ taken (identityWith (edit 199 (9 ∷ []) ∷ edit 212 (0 ∷ []) ∷ edit 326 (1 ∷ []) ∷ []))
+    (identityCut 342 (edit 4 (0x56 ∷ []) ∷ edit 40 (0x96 ∷ []) ∷ edit 199 (9 ∷ []) ∷ edit 212 (0 ∷ []) ∷ edit 326 (1 ∷ []) ∷ edit 330 (replicate 12 0) ∷ []))
+    ∷ taken (identityWith (edit 326 (1 ∷ []) ∷ edit 330 (replicate 12 0xFF) ∷ []))
+    (identityCut 342 (edit 4 (0x56 ∷ []) ∷ edit 40 (0x96 ∷ []) ∷ edit 326 (1 ∷ []) ∷ edit 330 (replicate 12 0) ∷ []))
+    ∷ refused (identityWith (edit 196 (0 ∷ []) ∷ [])) 12 3 1
+    ∷ refused (identityWith (edit 196 (3 ∷ []) ∷ [])) 12 3 1
+    ∷ refused (identityWith (edit 199 (9 ∷ []) ∷ [])) 12 3 1
+    ∷ refused (identityWith (edit 199 (13 ∷ []) ∷ edit 212 (0 ∷ []) ∷ edit 326 (1 ∷ []) ∷ [])) 12 3 1
+    ∷ refused (identityWith (edit 212 (4 ∷ []) ∷ [])) 12 3 1
+    ∷ refused (identityWith (edit 307 (19 ∷ []) ∷ [])) 12 3 1
+    ∷ refused (identityWith (edit 326 (2 ∷ []) ∷ [])) 12 3 1
+    ∷ refused (identityWith (edit 322 (9 ∷ []) ∷ [])) 12 3 1
+    ∷ refused (identityWith (edit 323 (2 ∷ []) ∷ [])) 12 3 1
+    ∷ refused (identityWith (edit 324 (2 ∷ []) ∷ [])) 12 3 1
+    ∷ refused (identityWith (edit 330 (replicate 6 0) ∷ [])) 11 3 1
+    ∷ refused (identityWith (edit 336 (replicate 6 0) ∷ [])) 11 3 1
+    ∷ refused (identityWith (edit 307 (0 ∷ []) ∷ [])) 11 3 1
+    ∷ refused (identityWith (edit 301 (0 ∷ []) ∷ edit 322 (9 ∷ []) ∷ [])) 11 3 1
+    ∷ refused (identityWith (edit 322 (9 ∷ []) ∷ edit 330 (replicate 6 0) ∷ [])) 12 3 1
+    ∷ []
+
 -- In order: all kinds, the same with noise, the same with longer records; a checksum 128 off; a wrong sum before a wrong header major, and that before a wrong
 -- control ID; CSL 63; the host before 64 + CSL; a heap that ends behind Length; host version 2; a wrong driver signature before a wrong host; a two-bit field before
 -- a reference; security flags 6:5; a missing reference before an unused HFI's index; info of version 2 before its own reference; extended info of 17 bytes; a
@@ -223,6 +288,11 @@ samples =
     ∷ taken (k12Like 1 1) (k12Like 1 0)
     ∷ minors
 
+-- an info of version 2 and its extended info
+pub identities-fine : T (allFine identities)
+unfolding fine
+identities-fine = tt
+
 pub samples-fine : T (allFine samples)
 unfolding fine
 samples-fine = tt
@@ -263,10 +333,10 @@ opened = apply unfinished (edit 128 (0 ∷ 0 ∷ []) ∷ edit 146 (0 ∷ []) ∷
 abbrev pub buildSamples : List BuildCase
 buildSamples =
     let oem : List ℕ = replicate 26 0 in
-    stepped empty (replicate 162 7) (beginning oem (0 ∷ 0 ∷ 0 ∷ 0 ∷ []) []) (state 2 0 0 0 0 0 160) opened
-    ∷ stepped (state 2 0 0 0 0 0 160) opened (aHost (replicate 32 0) (0x6E ∷ 0 ∷ [])) (state 7 0 0 0 0 0 162) unfinished
-    ∷ stepped (state 7 0 0 0 0 0 162) unfinished finishing (state 8 0 0 0 0 0 162) k1
-    ∷ halted (state 8 0 0 0 0 0 162) k1 finishing 15 0 0
+    stepped empty (replicate 162 7) (beginning oem (0 ∷ 0 ∷ 0 ∷ 0 ∷ []) []) (state 2 0 0 0 0 0 160 0) opened
+    ∷ stepped (state 2 0 0 0 0 0 160 0) opened (aHost (replicate 32 0) (0x6E ∷ 0 ∷ [])) (state 7 0 0 0 0 0 162 0) unfinished
+    ∷ stepped (state 7 0 0 0 0 0 162 0) unfinished finishing (state 8 0 0 0 0 0 162 0) k1
+    ∷ halted (state 8 0 0 0 0 0 162 0) k1 finishing 15 0 0
     ∷ []
 
 pub builds-fine : T (allFineBuilds buildSamples)

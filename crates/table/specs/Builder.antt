@@ -37,7 +37,7 @@ outcome a s s′ b b′ =
 -- ---- states
 
 abbrev pub empty : State
-empty = record { turn = 0; position = 0; hfi = 0; ssns = 0; security = 0; discovery = 0; used = 0 }
+empty = record { turn = 0; position = 0; hfi = 0; ssns = 0; security = 0; discovery = 0; used = 0; minor = 0 }
 
 abbrev pub sameState : State → State → Bool
 sameState x y =
@@ -45,7 +45,7 @@ sameState x y =
     && (eqb (x .position) (y .position)
     && (eqb (x .hfi) (y .hfi)
     && (eqb (x .ssns) (y .ssns)
-    && (eqb (x .security) (y .security) && (eqb (x .discovery) (y .discovery) && eqb (x .used) (y .used))))))
+    && (eqb (x .security) (y .security) && (eqb (x .discovery) (y .discovery) && (eqb (x .used) (y .used) && eqb (x .minor) (y .minor)))))))
 
 -- the turns behind the lists: to finish, and finished
 abbrev pub finishing : ℕ
@@ -103,8 +103,8 @@ turnAfter k n (l ∷ ls) (c ∷ cs) = pick (eqb k (l .kind)) (pick (ltb n c) (tu
 abbrev pub nextTurn : State → Turn
 nextTurn s = pick (eqb (s .turn) 2) (firstTurn listKinds (counts s)) (turnAfter (s .turn) (s .position) listKinds (counts s))
 
-abbrev pub moved : State → Turn → ℕ → State
-moved s x n = record {
+abbrev pub moved : State → Turn → ℕ → ℕ → State
+moved s x n r = record {
   turn = x .kind;
   position = x .position;
   hfi = s .hfi;
@@ -112,11 +112,12 @@ moved s x n = record {
   security = s .security;
   discovery = s .discovery;
   used = n;
+  minor = r;
 }
 
--- the state after a done call that wrote n bytes of objects and heap records
-unfoldable pub next : State → ℕ → State
-next s n = moved s (nextTurn s) (s .used + n)
+-- the state after a done call that wrote n bytes of objects and heap records; `newer` says that it asks for header minor 1
+unfoldable pub next : State → ℕ → Bool → State
+next s n newer = moved s (nextTurn s) (s .used + n) (pick newer 1 (s .minor))
 
 -- ---- 15
 
@@ -129,7 +130,7 @@ unfoldable pub waits : State → ℕ → Bool
 waits s k =
     eqb (s .turn) k
     && (pick (eqb k 2 || eqb k finishing) (eqb (s .position) 0) (inList s)
-    && (leb (recordsEnd s) (s .used) && leb (s .used) limit))
+    && (leb (recordsEnd s) (s .used) && (leb (s .used) limit && leb (s .minor) 1)))
 
 -- ---- what is told: the caller's bytes of a record in table layout, and its objects
 
@@ -174,6 +175,13 @@ slotsRule e img (bytes {need = need} {content = content} b ss) =
 slotsRule e img (gone {need = need} ss) = firstOf (pick (mayLack (need img)) 0 11) (slotsRule e img ss)
 slotsRule e img (rec {need = need} img′ own ss) = firstOf (firstOf (pick (mayHave (need img)) 0 11) (slotsRule e img′ own)) (slotsRule e img ss)
 
+-- the told heap records, each with its owner: their further rules hold; ID, version, index and valid bit are the builder's
+unfoldable pub nestsRight : {rs : Refs} → List ℕ → Slots rs → Bool
+nestsRight img nil = true
+nestsRight img (bytes b ss) = nestsRight img ss
+nestsRight img (gone ss) = nestsRight img ss
+nestsRight img (rec {shape = shape} img′ own ss) = shape .further img img′ && (nestsRight img′ own && nestsRight img ss)
+
 -- ---- the calls: the record and, behind the bytes used, its objects; an unused position writes none
 
 -- 17 and 14: n bytes would then be used, of which the buffer has b
@@ -183,13 +191,14 @@ roomTests n b = test (leb n limit) 17 0 0 ∷ test (leb n b) 14 0 0 ∷ []
 abbrev pub envOf : State → Env
 envOf s = env (countOf listKinds (counts s)) (s .position)
 
--- 15, 10, 11 (or an object's further number), 17, 14
+-- 15, 10, 12, 11 (or an object's further number), 17, 14
 unfoldable pub fillAnswer : (l : Layout) → State → ℕ → List ℕ → Slots (l .refs) → Answer
 fillAnswer l s room img ss =
     let n = slotsRule (envOf s) img ss in
     firstFail
     (test (waits s (l .kind)) 15 0 0
     ∷ test (pairsRight (l .shape) img) 10 (l .kind) (s .position)
+    ∷ test (nestsRight img ss) 12 (l .kind) (s .position)
     ∷ test (eqb n 0) n (l .kind) (s .position)
     ∷ roomTests (s .used + sizeOf ss) room)
 
@@ -202,13 +211,13 @@ unfoldable pub fill : (l : Layout) → State → List ℕ → List ℕ → Slots
 fill l s b x told =
     let img = toldImage (l .shape) (s .position) x in
     let ss = toldSlots (s .position) img told in
-    outcome (fillAnswer l s (length b) img ss) s (next s (sizeOf ss)) b (placed b (placeOf s l) (s .used) img ss)
+    outcome (fillAnswer l s (length b) img ss) s (next s (sizeOf ss) (l .newer ss)) b (placed b (placeOf s l) (s .used) img ss)
 
 -- a list position is left unused
 unfoldable pub leave : State → List ℕ → Outcome
 leave s b =
     let a = firstFail (test (waits s (s .turn) && leb 1 (s .position)) 15 0 0 ∷ test (leb (s .used) (length b)) 14 0 0 ∷ []) in
-    outcome a s (next s 0) b b
+    outcome a s (next s 0 false) b b
 
 abbrev pub allUnused : (ls : List Layout) → List ℕ → Body ls
 allUnused [] cs = stop
@@ -221,20 +230,20 @@ opened oem cs sig = record { oem = oem; driver = sig; owner = unused; lists = al
 
 -- the first state: the host's turn, behind the driver signature
 abbrev pub begun : List ℕ → ℕ → State
-begun cs n = record { turn = 2; position = 0; hfi = getD cs 0 0; ssns = getD cs 1 0; security = getD cs 2 0; discovery = getD cs 3 0; used = n }
+begun cs n = record { turn = 2; position = 0; hfi = getD cs 0 0; ssns = getD cs 1 0; security = getD cs 2 0; discovery = getD cs 3 0; used = n; minor = 0 }
 
--- begin lays out the table of which nothing but that is told, with Length, checksum and heap length 0
+-- begin lays out the table of which nothing but that is told, with Length, checksum, heap length and header minor 0
 unfoldable pub begin : State → List ℕ → List ℕ → List ℕ → Slots (header .refs) → Outcome
 begin s b oem cs sig =
     let m = opened oem cs sig in
     let n = slotsRule (env (countOf listKinds cs) 0) [] sig in
     let a = firstFail (test (sameState s empty) 15 0 0 ∷ test (eqb n 0) n 0 0 ∷ roomTests (formLength m) (length b)) in
-    outcome a s (begun cs (formLength m)) b (splice b 0 (laidOut m 0 0 0))
+    outcome a s (begun cs (formLength m)) b (splice b 0 (laidOut m 0 0 0 0))
 
--- the buffer with heap length, Length and checksum stored
+-- the buffer with header minor, heap length, Length and checksum stored
 unfoldable pub sealed : State → List ℕ → List ℕ
 sealed s b =
-    let y = splice (splice (splice b 40 (le 4 (s .used - recordsEnd s))) 4 (le 4 (s .used))) 9 (0 ∷ []) in
+    let y = splice (splice (splice (splice b 50 (s .minor ∷ [])) 40 (le 4 (s .used - recordsEnd s))) 4 (le 4 (s .used))) 9 (0 ∷ []) in
     splice y 9 (checksum (take (s .used) y) ∷ [])
 
 -- 15, 14, then what the reader says of the finished bytes
@@ -243,4 +252,4 @@ finish s b =
     let a = first
     (firstFail (test (waits s finishing) 15 0 0 ∷ test (leb (s .used) (length b)) 14 0 0 ∷ []))
     (check (take (s .used) (sealed s b))) in
-    outcome a s (moved s (turn finished 0) (s .used)) b (sealed s b)
+    outcome a s (moved s (turn finished 0) (s .used) (s .minor)) b (sealed s b)

@@ -1,5 +1,6 @@
--- Rules 2.1 to 2.9, 3.7, 3.9 (docs/RULES.md): header, control, host, HFI, SSNS, security, discovery, info (7), extended (9), index rules. Definitions only.
-use mathlib.Core.Bool.{Bool, true, _&&_, _||_}
+-- Rules 2.1 to 2.10, 3.7, 3.9 (docs/RULES.md): header, control, host, HFI, SSNS, security, discovery, info (7), extended (9), HFI extended (10), index rules.
+-- Definitions only.
+use mathlib.Core.Bool.{Bool, true, false, _&&_, _||_}
 use mathlib.Core.List.{List, [], _∷_}
 use Prim.Native.Nat.{ℕ}
 use lib.ListN.{getD}
@@ -7,7 +8,7 @@ use lib.Dec.{eqb}
 use Rattle.table.specs.declared.Need.{Need}
 use Rattle.table.specs.declared.Need.the-variants.{Ignored, Optional, Required}
 use Rattle.table.specs.Bytes.{pick, bits, every, edit}
-use Rattle.table.specs.Layout.{region, field, flags, onlyIf, reference, frame, reserved, at, nowhere, shaped, anything, Refs, none, plain, nest, Slots, slotAt, Layout}
+use Rattle.table.specs.Layout.{region, field, flags, flagsIf, onlyIf, reference, frame, reserved, at, nowhere, shaped, asking, anything, Refs, none, plain, nest, Slots, slotAt, recAt, Layout}
 
 -- ---- when a reference counts
 
@@ -21,6 +22,10 @@ optional img = Optional
 abbrev pub whenSet : ℕ → ℕ → ℕ → ℕ → List ℕ → Need
 whenSet a n hi lo img = pick (eqb (bits a n hi lo img) 0) Ignored Required
 
+-- optional where byte a is v, and else ignored
+abbrev pub whenIs : ℕ → ℕ → List ℕ → Need
+whenIs a v img = pick (eqb (getD img a 0) v) Optional Ignored
+
 -- ---- index rules
 
 abbrev pub noNames : {rs : Refs} → (ℕ → ℕ → Bool) → List ℕ → Slots rs → Bool
@@ -29,10 +34,16 @@ noNames used img ss = true
 abbrev pub zeroOr : (ℕ → Bool) → ℕ → Bool
 zeroOr named n = eqb n 0 || named n
 
+-- ---- the header minor
+
+abbrev pub notNewer : {rs : Refs} → Slots rs → Bool
+notNewer ss = false
+
 -- ---- how the lines of a figure are read: first byte, name, stretch (Layout)
 
--- flags 2 9: two bytes, of which the lowest nine bits count. onlyIf 16 6 2: sixteen bytes, which count if bit 2 of byte 6 is set. No fields are the bytes of a
--- reference, those of header and control record that tests look at or the form fixes (frame), and reserved ones
+-- flags 2 9: two bytes, of which the lowest nine bits count. flagsIf 1 3 3 1 1: one byte, of which the lowest three bits count, and one more if bit 1 of byte 3 is
+-- set. onlyIf 16 6 2: sixteen bytes, which count if bit 2 of byte 6 is set. No fields are the bytes of a reference, those of header and control record that tests
+-- look at or the form fixes (frame), and reserved ones
 
 -- ---- outside the lists
 
@@ -63,6 +74,7 @@ header = record {
   });
   refs = plain 44 optional anything none;
   names = noNames;
+  newer = notNewer;
 }
 
 -- its offsets are absolute, so it is read from the table's first byte on
@@ -108,6 +120,7 @@ control = record {
   });
   refs = none;
   names = noNames;
+  newer = notNewer;
 }
 
 unfoldable pub host : Layout
@@ -128,21 +141,56 @@ host = record {
   });
   refs = plain 18 required anything none;
   names = noNames;
+  newer = notNewer;
 }
 
 -- ---- in the heap
 
+-- the info's version is 1 or 2; autoconfigured (bit 3) goes with neither DHCP (bit 2) nor an IP origin
+abbrev pub infoRule : List ℕ → List ℕ → Bool
+infoRule owner img =
+    (eqb (getD img 3 0) 1 || eqb (getD img 3 0) 2)
+    && (eqb (bits 6 1 3 3 img) 0 || (eqb (bits 6 1 2 2 img) 0 && eqb (getD img 19 0) 0))
+
+-- a client identifier (bit 1) goes with the info's IP origin 3
+abbrev pub identityRule : List ℕ → List ℕ → Bool
+identityRule info img = eqb (bits 4 4 1 1 img) 0 || eqb (getD info 19 0) 3
+
+-- named by an info of version 2; its references are the IAID and the DUID
+unfoldable pub hfiExtended : Layout
+hfiExtended = record {
+  kind = 10;
+  shape = asking identityRule (shaped (record {
+    lines =
+        at 0 "ID" (field 1)
+        ∷ at 1 "version" (field 1)
+        ∷ at 2 "HFI index" (field 2)
+        ∷ at 4 "flags" (flags 4 2)
+        ∷ at 8 "IAID" reference
+        ∷ at 14 "DUID" reference
+        ∷ [];
+    fixed = edit 0 (10 ∷ 1 ∷ []) ∷ [];
+    index = region 2 2;
+    flags = region 4 4;
+    pairs = [];
+  }));
+  refs = plain 8 (whenSet 4 4 1 1) anything (plain 14 (whenSet 4 4 1 1) anything none);
+  names = noNames;
+  newer = notNewer;
+}
+
+-- byte 3 is its version; under version 2 flag 3 counts
 unfoldable pub info : Layout
 info = record {
   kind = 7;
-  shape = shaped (record {
+  shape = asking infoRule (shaped (record {
     lines =
         at 0 "ID" (field 1)
         ∷ at 1 "version" (field 1)
         ∷ at 2 "transport type" (field 1)
         ∷ at 3 "transport info version" (field 1)
         ∷ at 4 "HFI index" (field 2)
-        ∷ at 6 "flags" (flags 1 3)
+        ∷ at 6 "flags" (flagsIf 1 3 3 1 1)
         ∷ at 7 "PCI Express routing ID" (field 4)
         ∷ at 11 "MAC address" (field 6)
         ∷ at 17 "VLAN" (field 2)
@@ -156,15 +204,17 @@ info = record {
         ∷ at 72 "secondary DNS" (field 16)
         ∷ at 88 "DHCP server" (onlyIf 16 6 2)
         ∷ at 104 "host name" reference
-        ∷ at 110 "reserved" (reserved 18)
+        ∷ at 110 "HFI extended info" reference
+        ∷ at 116 "reserved" (reserved 12)
         ∷ [];
-    fixed = edit 0 (7 ∷ 1 ∷ 3 ∷ 1 ∷ []) ∷ [];
+    fixed = edit 0 (7 ∷ 1 ∷ 3 ∷ []) ∷ [];
     index = region 4 2;
     flags = region 6 1;
     pairs = [];
-  });
-  refs = plain 104 optional anything none;
+  }));
+  refs = plain 104 optional anything (nest 110 (whenIs 3 2) (hfiExtended .shape) (hfiExtended .refs) none);
   names = noNames;
+  newer = notNewer;
 }
 
 unfoldable pub extended : Layout
@@ -187,10 +237,12 @@ extended = record {
   });
   refs = plain 12 optional anything none;
   names = noNames;
+  newer = notNewer;
 }
 
 -- ---- the four lists
 
+-- an info of version 2 asks for header minor 1
 unfoldable pub hfi : Layout
 hfi = record {
   kind = 3;
@@ -211,6 +263,7 @@ hfi = record {
   });
   refs = nest 16 required (info .shape) (info .refs) none;
   names = noNames;
+  newer = λ ss. eqb (getD (recAt 16 ss) 3 0) 2;
 }
 
 unfoldable pub ssns : Layout
@@ -253,6 +306,7 @@ ssns = record {
       zeroOr (used 6) (getD img 8 0)
       && ((eqb (bits 3 2 2 2 img) 0 || used 5 (getD img 45 0))
       && (used 3 (getD img 46 0) && every (used 3) (slotAt 48 ss)));
+  newer = notNewer;
 }
 
 unfoldable pub security : Layout
@@ -286,6 +340,7 @@ security = record {
       (plain 30 (whenSet 2 2 11 11) anything
       (plain 36 (whenSet 4 1 0 0) anything none)))));
   names = noNames;
+  newer = notNewer;
 }
 
 unfoldable pub discovery : Layout
@@ -310,6 +365,7 @@ discovery = record {
   });
   refs = plain 6 optional anything (plain 12 optional anything none);
   names = λ used img ss. used 3 (getD img 3 0) && zeroOr (used 5) (getD img 4 0);
+  newer = notNewer;
 }
 
 -- in the order of their entries in the control record
@@ -320,7 +376,13 @@ listKinds = hfi ∷ ssns ∷ security ∷ discovery ∷ []
 
 -- a number that is no kind: no fields and no references
 unfoldable pub noKind : Layout
-noKind = record { kind = 16; shape = shaped (record { lines = []; fixed = []; index = nowhere; flags = nowhere; pairs = [] }); refs = none; names = noNames }
+noKind = record {
+  kind = 16;
+  shape = shaped (record { lines = []; fixed = []; index = nowhere; flags = nowhere; pairs = [] });
+  refs = none;
+  names = noNames;
+  newer = notNewer;
+}
 
 unfoldable pub layoutOf : ℕ → Layout
 layoutOf k =
@@ -329,4 +391,4 @@ layoutOf k =
     (pick (eqb k 2) host
     (pick (eqb k 3) hfi
     (pick (eqb k 4) ssns
-    (pick (eqb k 5) security (pick (eqb k 6) discovery (pick (eqb k 7) info (pick (eqb k 9) extended noKind))))))))
+    (pick (eqb k 5) security (pick (eqb k 6) discovery (pick (eqb k 7) info (pick (eqb k 9) extended (pick (eqb k 10) hfiExtended noKind)))))))))

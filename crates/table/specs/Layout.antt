@@ -39,25 +39,37 @@ referenceAt t r = region (num t r 4) (num t (r + 4) 2)
 abbrev pub namedAt : List ℕ → ℕ → List ℕ
 namedAt t r = part t (referenceAt t r .at) (referenceAt t r .len)
 
--- A stretch of a record: a field of so many bytes; one of which only the lowest bits count; one that counts only if a bit of another byte is set; a reference;
--- bytes of the frame, which are judged and laid out apart from the meaning; or reserved ones. Only the first three are fields
+-- A stretch of a record: a field of so many bytes; one of which only the lowest bits count; one of which so many more count if a bit of another byte is set; one
+-- that counts only if a bit of another byte is set; a reference; bytes of the frame, which are judged and laid out apart from the meaning; or reserved ones. Only
+-- the first four are fields
 pub data Stretch : Type 0 where
   field : (width : ℕ) → Stretch
   flags : (width count : ℕ) → Stretch
+  flagsIf : (width count byte bit further : ℕ) → Stretch
   onlyIf : (width byte bit : ℕ) → Stretch
   reference : Stretch
   frame : (width : ℕ) → Stretch
   reserved : (width : ℕ) → Stretch
 
+-- the modulus of a byte of which the lowest b bits count
+abbrev pub below : ℕ → ℕ
+below b = pick (leb 8 b) 256 (2 ^ b)
+
 -- of a field's n bytes, those of the lowest b bits
 abbrev pub lowest : ℕ → ℕ → List Keep
 lowest zero b = []
-lowest (suc n) b = low (pick (leb 8 b) 256 (2 ^ b)) ∷ lowest n (b - 8)
+lowest (suc n) b = low (below b) ∷ lowest n (b - 8)
+
+-- the lowest b bits, or the lowest c where bit d (a power of two) of byte f is set
+abbrev pub lowestIf : ℕ → ℕ → ℕ → ℕ → ℕ → List Keep
+lowestIf zero f d b c = []
+lowestIf (suc n) f d b c = sel f d (below b) (below c) ∷ lowestIf n f d (b - 8) (c - 8)
 
 -- which bits of a stretch's bytes count
 abbrev pub counting : Stretch → List Keep
 counting (field n) = replicate n (low 256)
 counting (flags n b) = lowest n b
+counting (flagsIf n b f d m) = lowestIf n f (2 ^ d) b (b + m)
 counting (onlyIf n f b) = replicate n (sel f (2 ^ b) 1 256)
 counting reference = replicate 6 (low 1)
 counting (frame n) = replicate n (low 1)
@@ -67,6 +79,7 @@ counting (reserved n) = replicate n (low 1)
 abbrev pub fieldFrom : ℕ → Stretch → List Region
 fieldFrom a (field n) = region a n ∷ []
 fieldFrom a (flags n b) = region a n ∷ []
+fieldFrom a (flagsIf n b f d m) = region a n ∷ []
 fieldFrom a (onlyIf n f b) = region a n ∷ []
 fieldFrom a reference = []
 fieldFrom a (frame n) = []
@@ -101,7 +114,7 @@ pub record Figure : Type 0 where
 abbrev pub nowhere : Region
 nowhere = region 0 0
 
--- The same as definitions use it: with which bits count, and the fields
+-- The same as definitions use it: with which bits count, the fields, and of a heap record a further rule, of its owner's image and its own
 pub record Shape : Type 0 where
   pub lines : List Line
   pub keep : List Keep
@@ -110,6 +123,11 @@ pub record Shape : Type 0 where
   pub index : Region
   pub flags : Region
   pub pairs : List ℕ
+  pub further : List ℕ → List ℕ → Bool
+
+-- no further rule
+abbrev pub noFurther : List ℕ → List ℕ → Bool
+noFurther owner img = true
 
 abbrev pub shaped : Figure → Shape
 shaped g = record {
@@ -120,6 +138,20 @@ shaped g = record {
   index = g .index;
   flags = g .flags;
   pairs = g .pairs;
+  further = noFurther;
+}
+
+-- the same with a further rule
+abbrev pub asking : (List ℕ → List ℕ → Bool) → Shape → Shape
+asking rule s = record {
+  lines = s .lines;
+  keep = s .keep;
+  fields = s .fields;
+  fixed = s .fixed;
+  index = s .index;
+  flags = s .flags;
+  pairs = s .pairs;
+  further = rule;
 }
 
 -- Where a record stands: its position (0 outside lists), and how many records of each kind there are
@@ -179,12 +211,21 @@ slotAt q (bytes {p = p} x ss) = pick (eqb q p) x (slotAt q ss)
 slotAt q (gone ss) = slotAt q ss
 slotAt q (rec img own ss) = slotAt q ss
 
--- A record kind: its own bytes, its references, and the rule of its indexes (`used k n` says that position n of kind k is used)
+-- the image of the heap record at reference q, [] where there is none
+unfoldable pub recAt : {rs : Refs} → ℕ → Slots rs → List ℕ
+recAt q nil = []
+recAt q (bytes x ss) = recAt q ss
+recAt q (gone ss) = recAt q ss
+recAt q (rec {p = p} img own ss) = pick (eqb q p) img (recAt q ss)
+
+-- A record kind: its own bytes, its references, the rule of its indexes (`used k n` says that position n of kind k is used), and whether a used record asks for
+-- header minor 1
 pub record Layout : Type 0 where
   pub kind : ℕ
   pub shape : Shape
   pub refs : Refs
   pub names : (ℕ → ℕ → Bool) → List ℕ → Slots refs → Bool
+  pub newer : Slots refs → Bool
 
 abbrev pub baseOf : Layout → ℕ
 baseOf l = length (l .shape .keep)

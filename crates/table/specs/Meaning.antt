@@ -2,10 +2,10 @@
 use mathlib.Core.List.{List, [], _∷_, _++_}
 use Prim.Native.Nat.{ℕ, _+_}
 use lib.ListN.{replicate}
-use Rattle.table.specs.Bytes.{part, le, checksum}
+use Rattle.table.specs.Bytes.{pick, part, le, checksum}
 use Rattle.table.specs.Layout.{referenceAt, Slots, slotAt, baseOf, Entry, Body}
 use Rattle.table.specs.FixedLayouts.{header, host, listKinds}
-use Rattle.table.specs.Objects.{readSlots, readEntry, readBody, refFor, sizeOf, heapOf, sizeEntry, recEntry, heapEntry, sizeBody, recsBody, heapBody, spanBody, placesBody}
+use Rattle.table.specs.Objects.{readSlots, readEntry, readBody, newerBody, refFor, sizeOf, heapOf, sizeEntry, recEntry, heapEntry, sizeBody, recsBody, heapBody, spanBody, placesBody}
 
 -- no table is longer
 unfoldable pub limit : ℕ
@@ -42,12 +42,16 @@ formLength m = heapAt m + heapLen m
 unfoldable pub driverRef : Meaning → List ℕ
 driverRef m = refFor (heapAt m) (slotAt 44 (m .driver))
 
--- the header up to its checksum (n is Length), and behind it (k is the heap length)
+-- the header minor: 1 if some HFI's info has version 2
+unfoldable pub minorOf : Meaning → ℕ
+minorOf m = pick (newerBody (m .lists)) 1 0
+
+-- the header up to its checksum (n is Length), and behind it (k is the heap length, r the minor)
 unfoldable pub headFront : ℕ → List ℕ
 headFront n = 0x4E ∷ 0x42 ∷ 0x46 ∷ 0x54 ∷ (le 4 n ++ (1 ∷ []))
 
-unfoldable pub headBack : Meaning → ℕ → List ℕ
-headBack m k = m .oem ++ (le 4 (heapAt m) ++ (le 4 k ++ (driverRef m ++ replicate 14 0)))
+unfoldable pub headBack : Meaning → ℕ → ℕ → List ℕ
+headBack m k r = m .oem ++ (le 4 (heapAt m) ++ (le 4 k ++ (driverRef m ++ (r ∷ replicate 13 0))))
 
 unfoldable pub controlBytes : Meaning → List ℕ
 controlBytes m =
@@ -67,9 +71,9 @@ behind m =
     ++ (heapEntry h₁ (m .owner)
     ++ heapBody h₂ (m .lists)))))
 
--- a table with Length n, checksum c and heap length k
-unfoldable pub laidOut : Meaning → ℕ → ℕ → ℕ → List ℕ
-laidOut m n c k = headFront n ++ (c ∷ (headBack m k ++ behind m))
+-- a table with Length n, checksum c, heap length k and header minor r
+unfoldable pub laidOut : Meaning → ℕ → ℕ → ℕ → ℕ → List ℕ
+laidOut m n c k r = headFront n ++ (c ∷ (headBack m k r ++ behind m))
 
 unfoldable pub form : Meaning → List ℕ
-form m = laidOut m (formLength m) (checksum (laidOut m (formLength m) 0 (heapLen m))) (heapLen m)
+form m = laidOut m (formLength m) (checksum (laidOut m (formLength m) 0 (heapLen m) (minorOf m))) (heapLen m) (minorOf m)

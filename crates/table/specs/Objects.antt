@@ -1,5 +1,5 @@
 -- Rules 3 and 6 (docs/RULES.md), objects and records: read from a table, and laid out one behind the other in a heap. Definitions only.
-use mathlib.Core.Bool.{Bool, true, false}
+use mathlib.Core.Bool.{Bool, true, false, _||_}
 use mathlib.Core.List.{List, [], _∷_, _++_}
 use Prim.Native.Nat.{ℕ, zero, suc, _+_, _*_}
 use lib.ListN.{length, getD, drop, replicate}
@@ -66,6 +66,20 @@ usedIn (more {l = l} es rest) k n = pick (eqb k (l .kind)) (usedAt es n) (usedIn
 unfoldable pub countIn : {ls : List Layout} → Body ls → ℕ → ℕ
 countIn stop k = 0
 countIn (more {l = l} es rest) k = pick (eqb k (l .kind)) (length es) (countIn rest k)
+
+-- ---- whether some used record asks for header minor 1
+
+unfoldable pub newerEntry : {l : Layout} → Entry l → Bool
+newerEntry unused = false
+newerEntry {l} (used img ss) = l .newer ss
+
+unfoldable pub newerList : {l : Layout} → List (Entry l) → Bool
+newerList [] = false
+newerList (e ∷ es) = newerEntry e || newerList es
+
+unfoldable pub newerBody : {ls : List Layout} → Body ls → Bool
+newerBody stop = false
+newerBody (more es rest) = newerList es || newerBody rest
 
 -- ---- laying out: objects stand from h on
 

@@ -13,7 +13,7 @@ use Rattle.table.specs.declared.Field.{Field}
 use Rattle.table.specs.declared.Place.{Place}
 use Rattle.table.specs.Bytes.{pick, part, num, padded}
 use Rattle.table.specs.Layout.{image, referenceAt, isValid, Refs, none, plain, nest, Layout, baseOf}
-use Rattle.table.specs.FixedLayouts.{header, control, host, hfi, ssns, security, discovery, info, extended}
+use Rattle.table.specs.FixedLayouts.{header, control, host, hfi, ssns, security, discovery, info, extended, hfiExtended}
 use Rattle.table.specs.Objects.{under}
 use Rattle.table.specs.Rules.{answer, done}
 use Rattle.table.specs.Numbers.{check}
@@ -43,7 +43,7 @@ heapSeat l q t (seat owner a on) =
     let here = under (needAt q (owner .refs) (image (owner .shape .keep) (drop a t))) nowhere (pick (eqb (r .len) 0) nowhere (seat l (r .at) true)) in
     pick on here nowhere
 
--- kinds 0 to 2 take position 0, the others a list's position, that of the owner for 7 and 9
+-- kinds 0 to 2 take position 0, the others a list's position, that of the owner for 7, 9 and 10
 unfoldable pub seatOf : List ℕ → ℕ → ℕ → Seat
 seatOf t k n =
     pick (eqb k 0) (pick (eqb n 0) (seat header 0 true) nowhere)
@@ -54,7 +54,8 @@ seatOf t k n =
     (pick (eqb k 5) (listSeat security t 96 n)
     (pick (eqb k 6) (listSeat discovery t 104 n)
     (pick (eqb k 7) (heapSeat info 16 t (listSeat hfi t 80 n))
-    (pick (eqb k 9) (heapSeat extended 60 t (listSeat ssns t 88 n)) nowhere))))))))
+    (pick (eqb k 9) (heapSeat extended 60 t (listSeat ssns t 88 n))
+    (pick (eqb k 10) (heapSeat hfiExtended 110 t (heapSeat info 16 t (listSeat hfi t 80 n))) nowhere)))))))))
 
 -- ---- a record: its image, all zero where it is unused
 

@@ -97,18 +97,18 @@ plainRule heap n content e t r =
     let x = referenceAt t r in
     firstOf (refRule heap n (x .at) (x .len)) (under n 0 (ruled content e (namedAt t r)))
 
--- a heap record is valid and right: its owner's position is its index
-abbrev pub isSound : Shape → Env → List ℕ → Bool
-isSound s e img = isValid s img && isRight s e img
+-- a heap record is valid and right: its owner's position is its index; and its further rule holds, of its owner's image and its own
+abbrev pub isSound : Shape → Env → List ℕ → List ℕ → Bool
+isSound s e owner img = isValid s img && (isRight s e img && s .further owner img)
 
--- the reference at r, under a need, to a heap record, whose own references give `inner`
-abbrev pub nestRule : Region → Need → Shape → Env → List ℕ → ℕ → ℕ → ℕ
-nestRule heap n shape e t r inner =
+-- the reference at r of a record whose image is `owner`, under a need, to a heap record, whose own references give `inner`
+abbrev pub nestRule : Region → Need → Shape → Env → List ℕ → List ℕ → ℕ → ℕ → ℕ
+nestRule heap n shape e owner t r inner =
     let x = referenceAt t r in
     firstOf (refRule heap n (x .at) (x .len))
     (under n 0
     (pick (eqb (x .len) 0) 0
-    (firstOf (pick (leb (length (shape .keep)) (x .len) && isSound shape e (image (shape .keep) (drop (x .at) t))) 0 12) inner)))
+    (firstOf (pick (leb (length (shape .keep)) (x .len) && isSound shape e owner (image (shape .keep) (drop (x .at) t))) 0 12) inner)))
 
 -- the references of a record in order, each with its heap record and that one's own: 0, 11, 12 or an object's further number
 unfoldable pub refsRule : Region → Env → List ℕ → ℕ → List ℕ → Refs → ℕ
@@ -117,7 +117,7 @@ refsRule heap e t a img (plain p need content rest) = firstOf (plainRule heap (n
 refsRule heap e t a img (nest p need shape own rest) =
     let b = referenceAt t (a + p) .at in
     firstOf
-    (nestRule heap (need img) shape e t (a + p) (refsRule heap e t b (image (shape .keep) (drop b t)) own))
+    (nestRule heap (need img) shape e img t (a + p) (refsRule heap e t b (image (shape .keep) (drop b t)) own))
     (refsRule heap e t a img rest)
 
 -- ---- records

@@ -10,6 +10,7 @@ pub use records::Discovery;
 pub use records::Extended;
 pub use records::Header;
 pub use records::Hfi;
+pub use records::HfiExtended;
 pub use records::Host;
 pub use records::Info;
 pub use records::Security;
@@ -101,7 +102,8 @@ pub struct Rewritten {
     pub len: usize,
 }
 
-// How far a build has come. Turn 0 is the empty state (all fields zero), 2 to 6 wait for a record of that kind, 7 for finish, 8 is finished.
+// How far a build has come. Turn 0 is the empty state (all fields zero), 2 to 6 wait for a record of that kind, 7 for finish, 8 is finished. `minor` is the
+// header minor that the records told so far ask for.
 pub struct State {
     pub turn: u16,
     pub position: u16,
@@ -110,6 +112,7 @@ pub struct State {
     pub security: u8,
     pub discovery: u8,
     pub used: usize,
+    pub minor: usize,
 }
 
 // What a builder call hands back.

@@ -115,3 +115,14 @@ impl Extended {
 
     pub const ID: u8 = 9;
 }
+
+// HFI extended info (DHCP identity), in the heap, named by an info of version 2.
+pub struct HfiExtended {
+    pub bytes: [u8; HfiExtended::SIZE],
+}
+
+impl HfiExtended {
+    pub const SIZE: usize = 20;
+
+    pub const ID: u8 = 10;
+}

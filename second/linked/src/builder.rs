@@ -30,7 +30,13 @@ extern "C" {
         record: Fixed,
         info: Fixed,
         name: Object,
-        length: usize,
+        name_length: usize,
+        extended_told: u8,
+        extended: Fixed,
+        iaid: Object,
+        iaid_length: usize,
+        duid: Object,
+        duid_length: usize,
     ) -> u32;
     fn nbft_ssns(
         state: *mut u8,
@@ -101,8 +107,8 @@ impl Lent<'_> {
                 nbft_begin(state, out, room, header, counts, object, length)
             }
             (Call::Host(..), &[(record, _), (nqn, length)]) => nbft_host(state, out, room, record, nqn, length),
-            (Call::Hfi(..), &[(record, _), (info, _), (name, length)]) => {
-                nbft_hfi(state, out, room, record, info, name, length)
+            (Call::Hfi { .. }, &[(record, _), (info, _), a, (whether, _), (extended, _), b, c]) => {
+                nbft_hfi(state, out, room, record, info, a.0, a.1, *whether, extended, b.0, b.1, c.0, c.1)
             }
             (Call::Ssns(..), &[(record, _), a, b, c, d, (extended, _), path]) => {
                 nbft_ssns(state, out, room, record, a.0, a.1, b.0, b.1, c.0, c.1, d.0, d.1, extended, path.0, path.1)

@@ -8,6 +8,7 @@ use crate::tally::Tally;
 use second::random::Random;
 use second::retell::Call;
 use second::{Answer, State};
+use std::slice::from_ref;
 
 /// What a call gives, with the state and every byte of the buffer when it has ended.
 #[derive(PartialEq, Eq)]
@@ -22,7 +23,9 @@ pub fn told(call: &Call) -> Vec<&[u8]> {
     match call {
         Call::Begin(header, counts, signature) => vec![header, counts, signature],
         Call::Host(record, name) => vec![record, name],
-        Call::Hfi(record, info, name) => vec![record, &info[..], name],
+        Call::Hfi { record, info, extended_told, extended, objects: [name, iaid, duid] } => {
+            vec![record, &info[..], name, from_ref(extended_told), extended, iaid, duid]
+        }
         Call::Ssns(record, extended, [address, service, others, name, path]) => {
             vec![&record[..], address, service, others, name, extended, path]
         }
@@ -40,7 +43,7 @@ fn name(call: &Call) -> &'static str {
     match call {
         Call::Begin(..) => "begin",
         Call::Host(..) => "host",
-        Call::Hfi(..) => "hfi",
+        Call::Hfi { .. } => "hfi",
         Call::Ssns(..) => "ssns",
         Call::Security(..) => "security",
         Call::Discovery(..) => "discovery",
@@ -130,7 +133,7 @@ impl<'t, F: Make> Comparison<'t, F> {
 
     /// The reader takes a finished table, and a call that comes after the last leaves it as it is.
     fn finished(&mut self, kept: &mut Kept) -> Result<(), String> {
-        let answer = second::check(&kept.buffer[..kept.state.used]);
+        let answer = second::check(&kept.buffer[..kept.state.end()]);
         if !answer.is_done() {
             return Err(format!("a finished table is refused: {answer:?}, on\n{}", hex(&kept.buffer)));
         }
@@ -184,6 +187,7 @@ fn shown(call: &Call, kept: &Kept) -> String {
 #[cfg(test)]
 mod tests {
     use super::*;
+    use std::collections::BTreeSet;
 
     /// The second program itself, as the library.
     fn by_itself(call: &Call, state: [u8; 16], buffer: &[u8]) -> Outcome {
@@ -197,6 +201,45 @@ mod tests {
         for number in [0, 2, 6, 7, 8, 9, 10, 11, 12, 13, 14, 15, 17] {
             assert!(line.contains(&format!(" {number}: ")), "{number} is missing: {line}");
         }
+    }
+
+    /// What is met of the calls that tell an HFI.
+    #[derive(Default)]
+    struct Met {
+        refusals: BTreeSet<u8>,
+        told_by: BTreeSet<u8>,
+        minors_before: BTreeSet<u32>,
+        raised: u32,
+        kept: u32,
+    }
+
+    impl Met {
+        fn add(&mut self, call: &Call, before: State, outcome: &Outcome) {
+            self.minors_before.insert(before.minor);
+            let Call::Hfi { extended_told, .. } = call else { return };
+            self.told_by.insert(*extended_told);
+            self.refusals.insert(outcome.answer.number);
+            let after = State::from_bytes(outcome.state);
+            if outcome.answer.is_done() && before.minor == 0 {
+                self.raised += after.minor;
+                self.kept += 1 - after.minor;
+            }
+        }
+    }
+
+    #[test]
+    fn runs_tell_interfaces_in_every_way() {
+        let mut met = Met::default();
+        compare(1000, 6, |call, state, buffer| {
+            let outcome = by_itself(call, state, buffer);
+            met.add(call, State::from_bytes(state), &outcome);
+            Ok(outcome)
+        })
+        .expect("it agrees with itself");
+        assert_eq!(met.refusals, BTreeSet::from([0, 11, 12, 14, 15, 17]));
+        assert!(met.told_by.len() > 100 && met.told_by.contains(&0));
+        assert!(met.minors_before.len() > 40 && met.minors_before.is_superset(&BTreeSet::from([0, 1, 2, u32::MAX])));
+        assert!(met.raised > 100 && met.kept > 100);
     }
 
     #[test]

@@ -36,12 +36,13 @@ pub fn compare(count: u64, seed: u64, mut check: impl Check) -> Result<String, S
     Ok(format!("{count} tables agree (seed {seed}); by number {}", tally.by_number()))
 }
 
-/// No bytes, the known samples, and tables whose sum is off by one.
+/// No bytes, the known samples and the examples, and tables whose sum is off by one.
 pub fn known(mut check: impl Check) -> Result<(), String> {
     for answer in crate::check_nothing() {
         same(&[], Answer::plain(TOO_FEW_BYTES), answer)?;
     }
-    let samples = samples::known();
+    let mut samples = samples::known();
+    samples.extend(samples::examples());
     samples.iter().try_for_each(|sample| same(&sample.table, sample.answer, check(&sample.table)?))?;
     sums::each(|table| same(table, second::check(table), check(table)?))
 }

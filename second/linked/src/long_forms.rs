@@ -4,11 +4,14 @@
 use second::form::put_checksum;
 use second::frame::{Frame, DRIVER_SIGNATURE_AT, GREATEST_LENGTH};
 use second::generate::random_meaning;
+use second::identity::Identity;
+use second::interface::{Info, Interface};
 use second::layout::{lay_out_freely, Style};
 use second::random::Random;
+use second::record::Record;
 use second::samples::machine;
 use second::subsystem::Subsystem;
-use second::wire::{put_reference, u16_at, u32_at};
+use second::wire::{bit, put_reference, u16_at, u32_at};
 use second::{form, form_length, Entry, Meaning};
 
 /// A form of the greatest length, or some bytes shorter or longer.
@@ -54,7 +57,17 @@ fn references_to_any_bytes(table: &[u8]) -> Vec<usize> {
     let used = (1..=list.count).filter(|position| frame.names_valid::<Subsystem>(*position));
     let mut places = vec![DRIVER_SIGNATURE_AT, frame.host.start as usize + 18];
     places.extend(used.flat_map(|position| [10, 16, 54].map(|field| start(position) + field)));
+    let interfaces = (1..=frame.interfaces.count).filter(|position| frame.names_valid::<Interface>(*position));
+    places.extend(interfaces.filter_map(|position| client(&frame, position)).flat_map(|at| [at + 8, at + 14]));
     places
+}
+
+/// Where the extended info of an interface stands, if it has one with a client identifier.
+fn client(frame: &Frame, position: u8) -> Option<usize> {
+    let info = u32_at(frame.list_record(Interface::ID, position.into()), 16) as usize;
+    let extended = u32_at(frame.table, info + 110) as usize;
+    let is_read = frame.table[info + Info::VERSION_AT] == 2 && extended != 0;
+    (is_read && bit(u32_at(frame.table, extended + 4), Identity::CLIENT_BIT)).then_some(extended)
 }
 
 /// Many records: each list of a random meaning several times over, in any layout.

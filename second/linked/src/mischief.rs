@@ -4,7 +4,10 @@
 use second::faults::damages;
 use second::form::records_end;
 use second::frame::GREATEST_LENGTH;
+use second::identity::{Identity, DHCP_ORIGIN};
+use second::interface::Info;
 use second::random::Random;
+use second::record::Record;
 use second::retell::Call;
 use second::state::{FINISHED, READY};
 use second::wire::set_two_bits;
@@ -13,7 +16,8 @@ use second::State;
 /// The objects of a call, in the order of their arguments but for the SSNS's, whose root path is the last.
 pub fn objects(call: &mut Call) -> Vec<&mut Vec<u8>> {
     match call {
-        Call::Begin(_, _, object) | Call::Host(_, object) | Call::Hfi(_, _, object) => vec![object],
+        Call::Begin(_, _, object) | Call::Host(_, object) => vec![object],
+        Call::Hfi { objects, .. } => objects.iter_mut().collect(),
         Call::Ssns(_, _, objects) => objects.iter_mut().collect(),
         Call::Security(_, objects) => objects.iter_mut().collect(),
         Call::Discovery(_, address, name) => vec![address, name],
@@ -31,8 +35,9 @@ fn record_with_pairs(call: &mut Call) -> Option<(&mut [u8], &'static [(usize, us
     }
 }
 
-/// The same call with one thing told in another way: a two-bit field wrong, an object empty, too long for its length
-/// field or as long as that can say, or all bytes of the records noise.
+/// The same call with one thing told in another way: a two-bit field wrong, what an info says of its version or its
+/// address, an object empty, too long for its length field or as long as that can say, or all bytes of the records
+/// noise.
 pub fn spoiled(random: &mut Random, call: &Call) -> Call {
     let mut call = call.clone();
     let kind = random.below(6);
@@ -45,6 +50,10 @@ pub fn spoiled(random: &mut Random, call: &Call) -> Call {
             set_two_bits(record, at, place, 3);
             return call;
         }
+        if let Call::Hfi { info, extended_told, extended, .. } = &mut call {
+            retell_address(random, &mut info[..], extended_told, extended);
+            return call;
+        }
     }
     let length = *random.pick(&[0, 0, 0, 1, 65_535, 65_536, 70_000]);
     let mut objects = objects(&mut call);
@@ -55,12 +64,42 @@ pub fn spoiled(random: &mut Random, call: &Call) -> Call {
     call
 }
 
+/// One of the places that the rules of an info and its extended info are about: version, flags, IP origin, whether the
+/// extended info is told, and its flags.
+fn retell_address(random: &mut Random, info: &mut [u8], extended_told: &mut u8, extended: &mut [u8]) {
+    let any = random.byte();
+    match random.below(5) {
+        0 => info[Info::VERSION_AT] = *random.pick(&[0, 1, 2, 2, 3, 255, any]),
+        1 => info[Info::VALID_AT] ^= 1 << *random.pick(&[Info::DHCP_BIT, Info::AUTOCONFIGURED_BIT]),
+        2 => info[Info::ORIGIN_AT] = *random.pick(&[0, 1, 2, DHCP_ORIGIN, 4, any]),
+        3 => *extended_told = *random.pick(&[0, 1, 2, 128, any]),
+        _ => extended[Identity::VALID_AT] ^= 1 << Identity::CLIENT_BIT,
+    }
+}
+
+/// Noise, of which version and IP origin are most often such that the rules can hold.
+fn info_of_noise(random: &mut Random) -> Box<[u8; 128]> {
+    let mut info: [u8; 128] = random.array();
+    if !random.one_in(8) {
+        info[Info::VERSION_AT] = *random.pick(&[1, 2, 2]);
+        info[Info::ORIGIN_AT] = *random.pick(&[0, 1, DHCP_ORIGIN, DHCP_ORIGIN]);
+    }
+    Box::new(info)
+}
+
+/// The call of an HFI with these objects and noise for all that is told at a fixed length.
+fn noisy_hfi(random: &mut Random, objects: [Vec<u8>; 3]) -> Call {
+    let (any, extended) = (random.byte(), random.array());
+    let extended_told = *random.pick(&[0, 1, any]);
+    Call::Hfi { record: random.array(), info: info_of_noise(random), extended_told, extended, objects }
+}
+
 /// The same objects, but noise for all that is told at a fixed length.
 fn noisy(random: &mut Random, call: Call) -> Call {
     match call {
         Call::Begin(_, _, signature) => Call::Begin(random.array(), random.array(), signature),
         Call::Host(_, name) => Call::Host(random.array(), name),
-        Call::Hfi(_, _, name) => Call::Hfi(random.array(), Box::new(random.array()), name),
+        Call::Hfi { objects, .. } => noisy_hfi(random, objects),
         Call::Ssns(_, _, objects) => Call::Ssns(Box::new(random.array()), random.array(), objects),
         Call::Security(_, objects) => Call::Security(random.array(), objects),
         Call::Discovery(_, address, name) => Call::Discovery(random.array(), address, name),
@@ -83,7 +122,10 @@ pub fn call_of_noise(random: &mut Random, turn: u16) -> Call {
             Call::Begin(random.array(), counts, any_object(random))
         }
         2 => Call::Host(random.array(), any_object(random)),
-        3 => Call::Hfi(random.array(), Box::new(random.array()), any_object(random)),
+        3 => {
+            let objects = std::array::from_fn(|_| any_object(random));
+            noisy_hfi(random, objects)
+        }
         4 => {
             let objects = std::array::from_fn(|_| any_object(random));
             Call::Ssns(Box::new(random.array()), random.array(), objects)
@@ -103,7 +145,7 @@ fn any_object(random: &mut Random) -> Vec<u8> {
 
 /// A state that differs from this one, most often in one field alone.
 pub fn forged(random: &mut Random, state: State) -> State {
-    match random.below(10) {
+    match random.below(12) {
         0 => State::from_bytes(random.array()),
         1 => State { turn: random.below(10) as u16, ..state },
         2 => State { turn: random.word() as u16, ..state },
@@ -111,6 +153,7 @@ pub fn forged(random: &mut Random, state: State) -> State {
         4 | 5 => State { counts: counts_near(random, state.counts), ..state },
         6 | 7 => State { used: used_near(random, state), ..state },
         8 => State { turn: *random.pick(&[READY, FINISHED]), position: 0, ..state },
+        9 | 10 => State { minor: any_minor(random), ..state },
         _ => in_some_list(random, state),
     }
 }
@@ -127,17 +170,25 @@ fn counts_near(random: &mut Random, mut counts: [u8; 4]) -> [u8; 4] {
     counts
 }
 
-/// Around the least and the most that can be used, around what is used, and the same with a bit above these set.
-fn used_near(random: &mut Random, state: State) -> usize {
-    let end = records_end(state.counts);
-    let near = *random.pick(&[end, state.used, GREATEST_LENGTH]);
-    match random.below(8) {
+/// Around the least and the most that can be used, around what is used, the same with a bit above these set, and any.
+fn used_near(random: &mut Random, state: State) -> u32 {
+    const GREATEST: u32 = GREATEST_LENGTH as u32;
+    let end = records_end(state.counts) as u32;
+    let near = *random.pick(&[end, state.used, GREATEST]);
+    match random.below(9) {
         0 => 0,
-        1 => usize::MAX,
-        2 => near | 1 << (17 + random.below(47)),
-        3 => end + random.below(GREATEST_LENGTH + 1 - end),
-        _ => near.wrapping_sub(2).wrapping_add(random.below(5)),
+        1 => u32::MAX,
+        2 => near | 1 << (17 + random.below(15)),
+        3 => end + random.below((GREATEST + 1 - end) as usize) as u32,
+        4 => random.word() as u32,
+        _ => near.wrapping_sub(2).wrapping_add(random.below(5) as u32),
     }
+}
+
+/// The two that are possible, those next to them, a possible one with a higher bit set, and any.
+fn any_minor(random: &mut Random) -> u32 {
+    let (higher, any) = (1 << (1 + random.below(31)), random.word() as u32);
+    *random.pick(&[0, 0, 1, 1, 2, u32::MAX, higher, higher | 1, any])
 }
 
 /// A position of a list, as if its turn had come.

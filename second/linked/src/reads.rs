@@ -11,7 +11,7 @@ use std::fmt::Debug;
 use std::ops::Range;
 
 /// All kinds, and numbers that are none.
-const KINDS: [u8; 12] = [0, 1, 2, 3, 4, 5, 6, 7, 8, 9, 10, 255];
+const KINDS: [u8; 13] = [0, 1, 2, 3, 4, 5, 6, 7, 8, 9, 10, 11, 255];
 /// A record has at most 128 bytes, and some offsets behind it.
 const OFFSETS: u32 = 131;
 

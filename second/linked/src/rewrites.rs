@@ -11,7 +11,7 @@ use second::faults::damages;
 use second::frame::GREATEST_LENGTH;
 use second::goods::goods;
 use second::random::Random;
-use second::samples::{crowded, known, machine, smallest};
+use second::samples::{crowded, dhcp, known, machine, smallest};
 use second::{form, form_length, Answer, Meaning};
 
 /// What a rewrite gives, and every byte of the output when it has ended.
@@ -125,13 +125,15 @@ fn next(random: &mut Random) -> Vec<u8> {
     }
 }
 
-/// The samples, good tables that each show one thing, every damage of one
-/// table, and forms around the greatest length and its multiples.
+/// The samples, good tables that each show one thing, every damage of two
+/// tables, and forms around the greatest length and its multiples.
 fn directed_tables() -> Vec<Vec<u8>> {
-    let good = form(&machine());
+    let (good, with_clients) = (form(&machine()), form(&dhcp()));
     let mut samples = known();
     samples.extend(goods());
-    samples.extend(damages(&good).iter().map(|damage| damage.apply(&good)));
+    for table in [&good, &with_clients] {
+        samples.extend(damages(table).iter().map(|damage| damage.apply(table)));
+    }
     samples.extend(outer_damage(&good));
     samples.push(empty_heap(&good));
     let mut tables: Vec<Vec<u8>> = samples.into_iter().map(|sample| sample.table).collect();
@@ -233,4 +235,17 @@ fn same(expected: &Rewrite, given: Rewrite) -> Result<Rewrite, String> {
         None => String::new(),
     };
     Err(format!("the library gives {}, the second program {}{bytes}", told(&given), told(expected)))
+}
+
+#[cfg(test)]
+mod tests {
+    use super::*;
+
+    #[test]
+    fn tables_meet_every_number_that_a_rewrite_can_give() {
+        let line = compare(300, 3, |table, output| Ok(by_second(table, output))).expect("it agrees with itself");
+        for number in (0..=14).chain([17]) {
+            assert!(line.contains(&format!(" {number}: ")), "{number} is missing: {line}");
+        }
+    }
 }

@@ -26,7 +26,7 @@ impl<F: Make> Comparison<'_, F> {
             }
             self.call_known(&mut kept, call, Answer::DONE)?;
         }
-        let end = (kept.state.turn, kept.state.used);
+        let end = (kept.state.turn, kept.state.end());
         if end == (FINISHED, GREATEST_LENGTH) {
             return Ok(());
         }
@@ -83,7 +83,7 @@ impl<F: Make> Comparison<'_, F> {
 
     /// Just as many bytes as the call needs, one less, none, and any number below.
     fn short_buffers(&mut self, kept: &Kept, call: &Call) -> Result<(), String> {
-        let needed = call.make(&mut kept.buffer.clone(), kept.state).1.used;
+        let needed = call.make(&mut kept.buffer.clone(), kept.state).1.end();
         let any = self.random.below(needed);
         for room in [needed, needed - 1, 0, any] {
             self.call_aside(kept.state, &kept.buffer[..room], call)?;
@@ -109,7 +109,8 @@ impl<F: Make> Comparison<'_, F> {
 
     /// The call told wrong where few bytes are left, so that it may be refused for either.
     fn spoiled_at_the_limit(&mut self, kept: &Kept, call: &Call) -> Result<(), String> {
-        let state = State { used: GREATEST_LENGTH - self.random.below(40), ..kept.state };
+        let used = (GREATEST_LENGTH - self.random.below(40)) as u32;
+        let state = State { used, ..kept.state };
         let spoiled = spoiled(&mut self.random, call);
         self.call_aside(state, &kept.buffer, &spoiled).map(|_| ())
     }
@@ -140,7 +141,7 @@ impl<F: Make> Comparison<'_, F> {
                     let length = self.random.below(5000);
                     kept.buffer = self.start(length).buffer;
                 }
-                1 | 2 if !kept.buffer.is_empty() => overwrite(&mut self.random, &mut kept.buffer, kept.state.used),
+                1 | 2 if !kept.buffer.is_empty() => overwrite(&mut self.random, &mut kept.buffer, kept.state.end()),
                 _ => (),
             }
             self.call(&mut kept, call)?;

@@ -1,22 +1,28 @@
 //! An endless row of tables to compare: good ones in many layouts, damaged
-//! ones, ones with a few bytes changed, cut ones, and plain noise.
+//! ones, ones with a few bytes or the version of an info changed, cut ones,
+//! and plain noise.
 
 use second::damage::put_checksum_within_length;
 use second::faults::damages;
 use second::form::form;
+use second::frame::Frame;
 use second::generate::random_meaning;
+use second::interface::{Info, Interface};
 use second::layout::{lay_out_freely, with_tail, Style};
 use second::random::Random;
+use second::record::Record;
+use second::wire::u32_at;
 
 /// The next table. The same seed gives the same tables.
 pub fn next(random: &mut Random) -> Vec<u8> {
     let table = good(random);
-    match random.below(8) {
+    match random.below(9) {
         0 | 1 => table,
         2 => with_tail(random, table),
         3 => damaged(random),
         4 | 5 => changed(random, table),
         6 => cut(random, table),
+        7 => other_version(random, table),
         _ if random.one_in(50) => too_long(random, table),
         _ => noise(random),
     }
@@ -55,6 +61,24 @@ fn changed(random: &mut Random, mut table: Vec<u8>) -> Vec<u8> {
     table
 }
 
+/// The info of an interface taken for one of another version: what counted is reserved then, or the other way round.
+fn other_version(random: &mut Random, mut table: Vec<u8>) -> Vec<u8> {
+    let frame = Frame::read(&table).expect("only a good table has its regions");
+    let used: Vec<u8> =
+        (1..=frame.interfaces.count).filter(|position| frame.names_valid::<Interface>(*position)).collect();
+    if used.is_empty() {
+        return table;
+    }
+    let owner = frame.list_record(Interface::ID, (*random.pick(&used)).into());
+    let version = u32_at(owner, 16) as usize + Info::VERSION_AT;
+    table[version] = match table[version] {
+        1 => 2,
+        _ => *random.pick(&[1, 1, 1, 3]),
+    };
+    put_checksum_within_length(&mut table);
+    table
+}
+
 fn cut(random: &mut Random, mut table: Vec<u8>) -> Vec<u8> {
     table.truncate(random.below(table.len() + 1));
     table
@@ -79,4 +103,33 @@ fn noise(random: &mut Random) -> Vec<u8> {
         put_checksum_within_length(&mut table);
     }
     table
+}
+
+#[cfg(test)]
+mod tests {
+    use super::*;
+    use second::read::Reading;
+    use second::{check, Answer};
+
+    /// Whether the first info's version is this one, in a table that is taken.
+    fn has_version(table: &[u8], version: u8) -> bool {
+        let field = Reading::of(table).field(7, 1, 3);
+        field.answer.is_done() && field.bytes[0] == version
+    }
+
+    #[test]
+    fn infos_of_both_versions_come_with_and_without_an_extended_info() {
+        let mut random = Random::seeded(8);
+        let tables: Vec<Vec<u8>> = (0..1000).map(|_| next(&mut random)).collect();
+        let is_met = |has: &dyn Fn(&[u8]) -> bool| tables.iter().filter(|table| has(table)).count() >= 10;
+        let extended = |table: &[u8]| Reading::of(table).record(10, 1).answer.is_done();
+        let client = |table: &[u8]| Reading::of(table).object(10, 1, 8).1.is_some();
+        assert!(is_met(&|table| has_version(table, 1)));
+        assert!(is_met(&|table| has_version(table, 2) && !extended(table)));
+        assert!(is_met(&|table| extended(table) && !client(table)));
+        assert!(is_met(&client));
+        for number in [11, 12] {
+            assert!(is_met(&|table| check(table) == Answer::at(number, 3, 1)));
+        }
+    }
 }

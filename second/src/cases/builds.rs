@@ -5,6 +5,7 @@ use crate::cases::singles::single_steps;
 use crate::cases::source::{answer, argument, file, list, Family, Group, Shelf};
 use crate::discovery::Discovery;
 use crate::generate::random_meaning;
+use crate::identity::Identity;
 use crate::interface::Interface;
 use crate::meaning::{meaning, Meaning};
 use crate::random::Random;
@@ -20,6 +21,7 @@ use std::slice::from_ref;
 const FAMILY: Family = Family {
     about: "Calls of the builder with what the second program answers and leaves, and that the definitions compute the same.",
     uses: "\
+use mathlib.Core.Bool.{true, false}
 use Prim.Native.Nat.{ℕ}
 use Rattle.table.proofs.Cases.{BuildCase, beginning, aHost, anHfi, anSsns, aSecurity, aDiscovery, leaving, finishing, state, halted, stepped, sheet, fineBuild, allFineBuilds}
 ",
@@ -69,38 +71,56 @@ fn state_text(state: State) -> String {
         position,
         counts: [interfaces, subsystems, securities, discoveries],
         used,
+        minor,
     } = state;
-    format!("(state {turn} {position} {interfaces} {subsystems} {securities} {discoveries} {used})")
+    format!(
+        "(state {turn} {position} {interfaces} {subsystems} {securities} {discoveries} {used} {minor})"
+    )
+}
+
+/// A call's name, its records at their lengths, and its objects.
+fn words(name: &str, records: &[&[u8]], objects: &[Vec<u8>]) -> Vec<String> {
+    let mut words = vec![name.to_string()];
+    words.extend(records.iter().map(|record| argument(record)));
+    words.extend(objects.iter().map(|object| list(object)));
+    words
 }
 
 fn call_text(call: &Call) -> String {
-    let told = |word: &str, records: &[&[u8]], objects: &[Vec<u8>]| {
-        let mut words = vec![word.to_string()];
-        words.extend(records.iter().map(|record| argument(record)));
-        words.extend(objects.iter().map(|object| list(object)));
-        format!("({})", words.join(" "))
-    };
-    match call {
+    let words = match call {
         Call::Begin(header, counts, signature) => {
             let objects = [counts.to_vec(), signature.clone()];
-            told("beginning", &[header], &objects)
+            words("beginning", &[header], &objects)
         }
-        Call::Host(record, name) => told("aHost", &[record], from_ref(name)),
-        Call::Hfi(record, info, name) => told("anHfi", &[record, &info[..]], from_ref(name)),
-        Call::Ssns(record, extended, objects) => told("anSsns", &[&record[..], extended], objects),
-        Call::Security(record, objects) => told("aSecurity", &[record], objects),
+        Call::Host(record, name) => words("aHost", &[record], from_ref(name)),
+        Call::Hfi {
+            record,
+            info,
+            extended_told,
+            extended,
+            objects: [name, iaid, duid],
+        } => {
+            let mut owner = words("anHfi", &[record, &info[..]], from_ref(name));
+            let told = (*extended_told != 0).to_string();
+            owner.extend(words(&told, &[extended], &[iaid.clone(), duid.clone()]));
+            owner
+        }
+        Call::Ssns(record, extended, objects) => words("anSsns", &[&record[..], extended], objects),
+        Call::Security(record, objects) => words("aSecurity", &[record], objects),
         Call::Discovery(record, address, name) => {
-            told("aDiscovery", &[record], &[address.clone(), name.clone()])
+            words("aDiscovery", &[record], &[address.clone(), name.clone()])
         }
-        Call::Leave => "leaving".to_string(),
-        Call::Finish => "finishing".to_string(),
-    }
+        Call::Leave => return "leaving".to_string(),
+        Call::Finish => return "finishing".to_string(),
+    };
+    format!("({})", words.join(" "))
 }
 
 /// The calls that build a meaning, with noise in all that is dropped, but
 /// no ignored object of great length.
 fn short_calls(meaning: &Meaning) -> Vec<Call> {
     let is_short = |call: &Call| match call {
+        Call::Hfi { objects, .. } => objects.iter().all(|object| object.len() < 100),
         Call::Ssns(_, _, objects) => objects.iter().all(|object| object.len() < 100),
         Call::Security(_, objects) => objects.iter().all(|object| object.len() < 100),
         _ => true,
@@ -145,6 +165,7 @@ pub fn steps() -> Vec<(&'static str, Vec<Step>)> {
             "an interface behind an unused one",
             run(&small(Interface::ID, 2), 5),
         ),
+        ("a DHCP client", run(&small(Identity::ID, 1), 2)),
         (
             "every kind, and unused records",
             run(&small(Subsystem::ID, 1), 9),

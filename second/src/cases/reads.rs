@@ -5,7 +5,9 @@ use crate::cases::noisy;
 use crate::cases::source::{answer, argument, file, list, Family, Group, Shelf};
 use crate::discovery::Discovery;
 use crate::form::form;
+use crate::goods::{bare_identity, goods};
 use crate::host::Host;
+use crate::identity::Identity;
 use crate::interface::{Info, Interface};
 use crate::meaning::{Entry, Meaning};
 use crate::read::{Reading, LONGEST_RECORD};
@@ -195,11 +197,11 @@ fn unused() -> [Inquiry; 2] {
         discoveries: vec![Entry::Unused],
         ..host_only()
     });
-    let mut missing = vec![(0, 1), (1, 1), (2, 1), (8, 0), (8, 1), (10, 1), (255, 0)];
-    for kind in [3, 4, 5, 6, 7, 9] {
+    let mut missing = vec![(0, 1), (1, 1), (2, 1), (8, 0), (8, 1), (11, 1), (255, 0)];
+    for kind in [3, 4, 5, 6, 7, 9, 10] {
         missing.extend([(kind, 0), (kind, 2), (kind, 255)]);
     }
-    missing.extend([(7, 1), (9, 1), (3, 257), (4, 65_535)]);
+    missing.extend([(7, 1), (9, 1), (10, 1), (3, 257), (4, 65_535)]);
     let mut questions = fields(3, 1, &[4, 16, 22, 32]);
     questions.extend(objects(3, 1, &[0, 16]));
     questions.extend(fields(4, 1, &[2, 7, 10, 47, 54, 60, 128]));
@@ -283,6 +285,43 @@ fn scattered() -> [Inquiry; 3] {
     ]
 }
 
+/// The extended info of an interface, and none.
+fn identities() -> [Inquiry; 4] {
+    let whole = noisy(&small(Identity::ID, 1));
+    let mut questions = all_of(&whole, &[(Info::ID, 1), (Identity::ID, 1)]);
+    questions.extend(fields(Identity::ID, 1, &[3, 5, 8, 14, 20]));
+    questions.extend(objects(Identity::ID, 1, &[0, 4, 20]));
+    questions.extend(fields(Info::ID, 1, &[110, 116]));
+    questions.extend(objects(Info::ID, 1, &[110]));
+    let bare = noisy(&bare_identity(1));
+    let of_info = |offsets| fields(Info::ID, 1, offsets);
+    let nowhere = || three_ways(&[(Identity::ID, 1)]);
+    let mut goods = goods().into_iter();
+    let in_version_1 = goods.find(|good| good.name == "identity-ignored-in-version-1");
+    [
+        Inquiry {
+            title: "an info of version 2 and its extended info, among noise",
+            table: whole,
+            questions,
+        },
+        Inquiry {
+            title: "an extended info without a client, among noise",
+            questions: all_of(&bare, &[(Identity::ID, 1)]),
+            table: bare,
+        },
+        Inquiry {
+            title: "no extended info in version 1, though one stands there",
+            table: in_version_1.expect("it is among the good tables").table,
+            questions: [of_info(&[3, 6, 110]), nowhere()].concat(),
+        },
+        Inquiry {
+            title: "no extended info of an autoconfigured interface",
+            table: noisy(&small(Info::ID, 1)),
+            questions: [of_info(&[3, 6, 19]), nowhere()].concat(),
+        },
+    ]
+}
+
 /// The check's answer comes before everything else.
 fn refused() -> Vec<Inquiry> {
     let numbers = [
@@ -315,6 +354,7 @@ pub fn text() -> String {
     inquiries.extend(unused());
     inquiries.extend(ignored());
     inquiries.extend(scattered());
+    inquiries.extend(identities());
     inquiries.extend(refused());
     let mut shelf = Shelf::default();
     let groups: Vec<Group> = inquiries.iter().map(|i| i.group(&mut shelf)).collect();

@@ -3,6 +3,7 @@
 use crate::cases::source::{answer, file, Family, Group, Shelf};
 use crate::cases::{dirty, noisy};
 use crate::form::rewrite;
+use crate::identity::Identity;
 use crate::meaning::meaning;
 use crate::record::Record;
 use crate::samples::{host_only, known, small};
@@ -43,6 +44,7 @@ fn groups(shelf: &mut Shelf) -> [Group; 2] {
     tables.push(noisy(&small(Security::ID, 1)));
     tables.push(noisy(&small(Security::ID, 2)));
     tables.push(noisy(&small(Subsystem::ID, 1)));
+    tables.push(noisy(&small(Identity::ID, 1)));
     let mut cases = Vec::new();
     for table in &tables {
         let length = form_length(&meaning(table));

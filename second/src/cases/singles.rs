@@ -3,7 +3,8 @@
 
 use crate::cases::builds::{run, Step};
 use crate::cases::dirty;
-use crate::interface::Interface;
+use crate::identity::Identity;
+use crate::interface::{Info, Interface};
 use crate::meaning::{meaning, Entry, Meaning};
 use crate::record::Record;
 use crate::retell::Call;
@@ -11,12 +12,13 @@ use crate::samples::{small, smallest};
 use crate::state::{State, FINISHED, READY};
 use crate::subsystem::Subsystem;
 
-const fn at(turn: u16, position: u16, counts: [u8; 4], used: usize) -> State {
+const fn at(turn: u16, position: u16, counts: [u8; 4], used: u32) -> State {
     State {
         turn,
         position,
         counts,
         used,
+        minor: 0,
     }
 }
 
@@ -26,11 +28,30 @@ fn host(flags: u8, name: &[u8]) -> Call {
     Call::Host(record, name.to_vec())
 }
 
-/// An interface told as noise but for the info's flags.
+/// An interface of version 1 told as noise but for the info's flags.
 fn hfi(flags: u8, name: &[u8]) -> Call {
-    let mut info = [0xD7; 128];
-    info[6] = flags;
-    Call::Hfi([0xA6; 32], Box::new(info), name.to_vec())
+    interface([1, flags, 0xD7], [3, 0xC9], [name, b"i", b"d"])
+}
+
+/// An interface told as noise but for the info's version, flags and IP
+/// origin, whether there is an extended info, and the first of its flags.
+fn interface(info_told: [u8; 3], extended_told: [u8; 2], objects: [&[u8]; 3]) -> Call {
+    let (mut info, mut extended) = ([0xD7; 128], [0xC9; 20]);
+    [info[Info::VERSION_AT], info[6], info[Info::ORIGIN_AT]] = info_told;
+    let [extended_told, flags] = extended_told;
+    extended[4] = flags;
+    Call::Hfi {
+        record: [0xA6; 32],
+        info: Box::new(info),
+        extended_told,
+        extended,
+        objects: objects.map(<[u8]>::to_vec),
+    }
+}
+
+/// An interface with a client identifier.
+fn client(objects: [&[u8]; 3]) -> Call {
+    interface([2, 0xF4, 3], [1, 0xFE], objects)
 }
 
 /// A subsystem told as noise but for its flags; the last object is the
@@ -56,6 +77,8 @@ fn begin(counts: [u8; 4], signature: &[u8]) -> Call {
     Call::Begin(*b"oemid.oemtabidrev.crtr.rev", counts, signature.to_vec())
 }
 
+/// Host name, IAID and DUID.
+const CLIENT: [&[u8]; 3] = [b"h", b"ia", b"du"];
 const NAMES: [&[u8]; 5] = [b"a", b"b", &[1], b"n", b"r"];
 const LISTS: [&[u8]; 6] = [b"1", b"22", b"333", b"4444", b"55555", b"/k"];
 
@@ -98,10 +121,21 @@ fn out_of_turn() -> Vec<Step> {
     steps
 }
 
+const fn with_minor(minor: u32, state: State) -> State {
+    State { minor, ..state }
+}
+
 /// Begin from states that are not quite empty, and states with a turn,
-/// position or number of bytes used that no call hands out; each with the
-/// place of the call among one of each.
-const FORGED: [(usize, State); 28] = [
+/// position, number of bytes used or minor revision that no call hands out;
+/// each with the place of the call among one of each.
+const FORGED: [(usize, State); 35] = [
+    (0, with_minor(1, State::EMPTY)),
+    (1, with_minor(2, at(2, 0, [0; 4], 160))),
+    (2, with_minor(2, at(3, 1, [1; 4], 416))),
+    (4, with_minor(256, at(5, 1, [1; 4], 416))),
+    (6, with_minor(u32::MAX, at(6, 1, [1; 4], 416))),
+    (7, with_minor(2, at(READY, 0, [0; 4], 160))),
+    (7, with_minor(65_537, at(READY, 0, [1; 4], 416))),
     (0, at(0, 0, [0; 4], 1)),
     (0, at(0, 1, [0; 4], 0)),
     (0, at(0, 0, [0, 0, 0, 1], 0)),
@@ -116,7 +150,7 @@ const FORGED: [(usize, State); 28] = [
     (3, at(4, 65_535, [1; 4], 416)),
     (3, at(4, 1, [1; 4], 415)),
     (4, at(5, 0, [1; 4], 416)),
-    (4, at(5, 1, [1; 4], usize::MAX)),
+    (4, at(5, 1, [1; 4], u32::MAX)),
     (5, at(6, 2, [2, 2, 2, 1], 640)),
     (5, at(6, 1, [0; 4], 160)),
     (6, at(0, 1, [1; 4], 416)),
@@ -154,10 +188,29 @@ fn wrong_records() -> Vec<Step> {
     steps
 }
 
+/// Infos and extended infos that break their rules, before anything else
+/// is told wrong or too long.
+fn wrong_heap_records() -> Vec<Step> {
+    let told = [
+        interface([0, 0, 3], [1, 2], CLIENT),
+        interface([3, 0, 3], [1, 2], CLIENT),
+        interface([2, 0x0C, 0], [0, 2], CLIENT),
+        interface([2, 0x08, 1], [0, 2], CLIENT),
+        interface([2, 0x04, 2], [1, 2], [b""; 3]),
+        interface([2, 0x08, 0], [255, 3], CLIENT),
+    ];
+    let step = |call| step(at(3, 1, [1; 4], 65_536), 0, call);
+    told.map(step).into()
+}
+
 /// Required objects that are empty, before what would not fit.
 fn missing_objects() -> Vec<Step> {
     let one = [1; 4];
-    let mut steps = vec![step(at(2, 0, one, 416), 0, host(0, b""))];
+    let mut steps = vec![
+        step(at(2, 0, one, 416), 0, host(0, b"")),
+        step(at(3, 1, one, 65_536), 0, client([b"h", b"", b"du"])),
+        step(at(3, 1, one, 416), 0, client([b"", b"ia", b""])),
+    ];
     for place in [0, 1, 3] {
         let mut names = NAMES;
         names[place] = b"";
@@ -187,6 +240,8 @@ fn too_long() -> Vec<Step> {
         (at(2, 0, [0; 4], 65_530), host(0, b"123456")),
         (at(3, 1, one, 65_408), hfi(0, b"h")),
         (at(3, 1, one, 65_408), hfi(0, b"")),
+        (at(3, 1, one, 65_384), client(CLIENT)),
+        (at(3, 1, one, 65_383), client(CLIENT)),
         (at(4, 1, one, 65_514), ssns([0x10, 0], NAMES)),
         (at(4, 1, one, 65_513), ssns([0x10, 0], NAMES)),
         (at(4, 1, one, 65_532), ssns([0, 0], NAMES)),
@@ -208,7 +263,7 @@ fn too_short() -> Vec<Step> {
     let mut steps = run(&small(Subsystem::ID, 1), 0);
     for step in &mut steps {
         let (_, next, _) = step.made();
-        step.buffer.truncate(next.used - 1);
+        step.buffer.truncate(next.end() - 1);
     }
     steps
 }
@@ -221,6 +276,18 @@ fn dropped() -> Vec<Step> {
         step(at(2, 0, [0; 4], 160), 170, host(0xF6, b"nqn")),
         step(at(3, 1, [1, 0, 0, 0], 192), 330, hfi(0xFF, b"h")),
         step(at(3, 1, [2, 0, 0, 0], 224), 352, hfi(0xF8, b"")),
+        step(with_minor(1, at(3, 1, one, 416)), 544, hfi(0x0C, b"")),
+        step(at(3, 1, one, 416), 600, client(CLIENT)),
+        step(
+            at(3, 1, one, 416),
+            544,
+            interface([2, 0, 4], [0, 2], [b"", b"i", b""]),
+        ),
+        step(
+            with_minor(1, at(3, 1, [1, 0, 0, 0], 192)),
+            350,
+            interface([2, 0xF8, 0], [1, 0xFD], [b"h", b"", b"d"]),
+        ),
         step(at(4, 1, [0, 2, 0, 0], 416), 450, ssns([0xEA, 0xFE], NAMES)),
         step(at(4, 1, one, 416), 450, ssns([0x15, 0xFF], NAMES)),
         step(at(5, 1, one, 416), 416, security([0, 0xF0, 0xFE], LISTS)),
@@ -303,10 +370,24 @@ const INTERFACE_EDITS: [(usize, u8); 7] = [
     (308, 0),
 ];
 
+/// Likewise of a table with one interface whose identity stands behind that
+/// and its host name, at 332.
+const IDENTITY_EDITS: [(usize, u8); 8] = [
+    (50, 7),
+    (203, 1),
+    (203, 3),
+    (219, 1),
+    (314, 19),
+    (332, 9),
+    (336, 1),
+    (350, 0),
+];
+
 /// Finish with a buffer or a state that no run leaves.
 fn tampered() -> Vec<Step> {
     let smallest = finishing(&meaning(&smallest()));
     let interface = finishing(&small(Interface::ID, 1));
+    let identity = finishing(&small(Identity::ID, 1));
     let edited = |ready: &Step, (place, byte): (usize, u8)| {
         let mut step = ready.clone();
         step.buffer[place] = byte;
@@ -314,16 +395,22 @@ fn tampered() -> Vec<Step> {
     };
     let mut steps: Vec<Step> = SMALLEST_EDITS.map(|edit| edited(&smallest, edit)).into();
     steps.extend(INTERFACE_EDITS.map(|edit| edited(&interface, edit)));
+    steps.extend(IDENTITY_EDITS.map(|edit| edited(&identity, edit)));
     let states = [
         at(READY, 0, [0; 4], 161),
         at(READY, 0, [0; 4], 170),
         at(READY, 0, [0, 0, 0, 1], 192),
         at(READY, 0, [1, 0, 0, 0], 194),
+        with_minor(1, at(READY, 0, [0; 4], 162)),
     ];
     steps.extend(states.map(|state| Step {
         state,
         ..smallest.clone()
     }));
+    steps.push(Step {
+        state: with_minor(0, identity.state),
+        ..identity
+    });
     steps
 }
 
@@ -333,6 +420,7 @@ pub fn single_steps() -> Vec<(&'static str, Vec<Step>)> {
         ("calls out of turn", out_of_turn()),
         ("forged states", forged()),
         ("two-bit fields of 3", wrong_records()),
+        ("heap records that break their rules", wrong_heap_records()),
         ("required objects that are empty", missing_objects()),
         ("about 65,536 bytes", too_long()),
         ("one byte too few lent", too_short()),

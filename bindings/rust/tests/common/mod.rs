@@ -6,7 +6,8 @@ use nbft::Kind;
 pub const SMALLEST: &[u8] = include_bytes!("../../../../samples/smallest.nbft");
 pub const MACHINE: &[u8] = include_bytes!("../../../../samples/machine.nbft");
 pub const MIXED: &[u8] = include_bytes!("../../../../samples/mixed.nbft");
-pub const SAMPLES: [&[u8]; 3] = [SMALLEST, MACHINE, MIXED];
+pub const DHCP: &[u8] = include_bytes!("../../../../samples/dhcp.nbft");
+pub const SAMPLES: [&[u8]; 4] = [SMALLEST, MACHINE, MIXED, DHCP];
 
 /// A kind's fields, as offset and length, and the offsets of its references to objects.
 pub struct Layout {
@@ -15,7 +16,7 @@ pub struct Layout {
     pub objects: &'static [u32],
 }
 
-pub const LAYOUTS: [Layout; 9] = [
+pub const LAYOUTS: [Layout; 10] = [
     Layout { kind: Kind::Header, fields: &[(10, 6), (16, 8), (24, 4), (28, 4), (32, 4)], objects: &[44] },
     Layout { kind: Kind::Control, fields: &[(87, 1), (95, 1), (103, 1), (111, 1)], objects: &[] },
     Layout { kind: Kind::Host, fields: &[(0, 1), (1, 1), (2, 16)], objects: &[18] },
@@ -64,6 +65,7 @@ pub const LAYOUTS: [Layout; 9] = [
         objects: &[104],
     },
     Layout { kind: Kind::SsnsExtended, fields: &[(0, 1), (1, 1), (2, 2), (4, 4), (8, 2), (10, 2)], objects: &[12] },
+    Layout { kind: Kind::HfiExtended, fields: &[(0, 1), (1, 1), (2, 2), (4, 4)], objects: &[8, 14] },
 ];
 
 pub fn layout(kind: Kind) -> &'static Layout {

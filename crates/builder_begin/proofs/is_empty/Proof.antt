@@ -65,11 +65,28 @@ returns-6 c =
 
 returns-7 : tie.Need-returns-7
 returns-7 c =
+    let at4 = c .before .before .before .before in
+    let at8 = at4 .before .before .before .before in
+    let at12 = at8 .before .before .before .before in
+    let s = at12 .before .before .args .state in
+    rw (
+      eq-eqb (s .turn) 0 (at12 .if1 .left),
+      eq-eqb (s .position) 0 (at8 .before .before .if2 .left),
+      eq-eqb (s .hfi) 0 (at8 .if3 .left),
+      eq-eqb (s .ssns) 0 (at4 .before .before .if4 .left),
+      eq-eqb (s .security) 0 (at4 .if5 .left),
+      eq-eqb (s .discovery) 0 (c .before .before .if6 .left),
+      ne-eqb (s .used) 0 (c .if7 .taken),
+    ) refl
+
+returns-8 : tie.Need-returns-8
+returns-8 c =
     let at5 = c .before .before .before .before .before in
     let at9 = at5 .before .before .before .before in
-    same-state (at9 .before .before .before .before .args .state) (at9 .before .before .if1 .left) (at9 .if2 .left)
-    (at5 .before .before .if3 .left) (at5 .if4 .left) (c .before .before .before .if5 .left) (c .before .if6 .left)
+    let at13 = at9 .before .before .before .before in
+    same-state (at13 .before .before .args .state) (at13 .if1 .left) (at9 .before .before .if2 .left) (at9 .if3 .left)
+    (at5 .before .before .if4 .left) (at5 .if5 .left) (c .before .before .before .if6 .left) (c .before .if7 .left)
 
 pub is-empty-spec : {M : Type 1} → statement M
 is-empty-spec =
-    tie.close (tie.spec returns returns-2 returns-3 returns-4 returns-5 returns-6 returns-7)
+    tie.close (tie.spec returns returns-2 returns-3 returns-4 returns-5 returns-6 returns-7 returns-8)

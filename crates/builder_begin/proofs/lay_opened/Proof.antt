@@ -38,9 +38,9 @@ returns c =
     let a = start .args in
     let b = a .out .now in
     let ol : length (a .t2) ≡ 26 = search needs in
-    let hl = header-length 0 (a .t2) (a .heap) 0 (length (a .signature .now)) ol in
+    let hl = header-length 0 (a .t2) (a .heap) 0 (length (a .signature .now)) 0 ol in
     let cl = control-length (a .counts .hfi) (a .counts .ssns) (a .counts .security) (a .counts .discovery) in
-    let H = headerFor 0 (a .t2) (a .heap) 0 (length (a .signature .now)) in
+    let H = headerFor 0 (a .t2) (a .heap) 0 (length (a .signature .now)) 0 in
     let C = controlFor (a .counts .hfi ∷ a .counts .ssns ∷ a .counts .security ∷ a .counts .discovery ∷ []) in
     let Z = replicate {A = ℕ} (a .heap - 128) 0 in
     let zl = length-replicate {A = ℕ} (a .heap - 128) 0 in

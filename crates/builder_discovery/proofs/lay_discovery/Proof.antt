@@ -1,3 +1,4 @@
+use mathlib.Core.Bool.{false}
 use mathlib.Core.Path.{_≡_, refl}
 use mathlib.Core.List.{[], _∷_, _++_}
 use Prim.Native.Nat.{_+_, _-_, _≤_}
@@ -10,6 +11,7 @@ use Rattle.builder_record.specs.Calls.{discoveryTold}
 use Rattle.bytes_writer.proofs.StoreLaws.{concat, chain-laid}
 use Rattle.builder_writers.specs.Written.{recordWith}
 use Rattle.builder_state.proofs.Laws.{in-limit, used-bounds}
+use Rattle.builder_record.proofs.FillLaws.{discovery-free}
 use Rattle.builder_record.proofs.LayLaws.{part-size, part-stored, roomy, laid-refused, laid-done, two-long}
 use Rattle.builder_discovery.proofs.Laws.{discovery-size, discovery-record, discovery-heap}
 use borrow.Author.Needs.{needs}
@@ -122,7 +124,7 @@ returns-2 c =
     laid-done discovery (a .state) (a .out .now) (a .marked .now) (discoveryTold (a .address .now) (a .nqn .now))
     (length (a .address .now) + length (a .nqn .now)) (at16 .room-fault .result) (c .stepped .result)
     (discovery-size (a .address .now) (a .nqn .now)) (at16 .room-fault .ensures) (c .stepped .ensures .0)
-    (at13 .before .if1 .left) (c .stepped .ensures .1) (t .result) _ _ _ (concat (a .address .now ∷ a .nqn .now ∷ []))
+    (at13 .before .if1 .left) false (discovery-free .1 _) (c .stepped .ensures .1) (t .result) _ _ _ (concat (a .address .now ∷ a .nqn .now ∷ []))
     (t .ensures .0) (discovery-record (a .marked .now) (a .state .used) (a .address .now) (a .nqn .now)) y
     (discovery-heap (a .state .used) (a .address .now) (a .nqn .now)) ((chain-laid (a .address .now ∷ a .nqn .now ∷ [])
     _ (a .state .used) (at3 .copy-into2 .last .0)

@@ -1,3 +1,4 @@
+use mathlib.Core.Bool.{false}
 use mathlib.Core.List.{[], _∷_}
 use Prim.Native.Nat.{_+_, _≤_}
 use native.Mathlib.Omega.{arith}
@@ -8,6 +9,7 @@ use Rattle.table.specs.Builder.{recordsEnd}
 use Rattle.builder_record.specs.Calls.{hostTold}
 use Rattle.builder_writers.specs.Written.{recordWith}
 use Rattle.builder_state.proofs.Laws.{in-limit, used-bounds}
+use Rattle.builder_record.proofs.FillLaws.{host-free}
 use Rattle.builder_record.proofs.LayLaws.{part-size, part-stored, roomy, laid-refused, laid-done}
 use Rattle.builder_host.proofs.Laws.{host-size, host-record, host-heap}
 use borrow.Author.Needs.{needs}
@@ -93,7 +95,7 @@ returns-2 c =
     (inside at9) (w .kept .0) (w .ensures) in
     laid-done host (a .state) (a .out .now) (a .marked .now) (hostTold (a .nqn .now)) (length (a .nqn .now))
     (at12 .room-fault .result) (c .stepped .result) (host-size (a .nqn .now)) (at12 .room-fault .ensures)
-    (c .stepped .ensures .0) (at9 .before .if1 .left) (c .stepped .ensures .1) (t .result) _ _ _ (a .nqn .now)
+    (c .stepped .ensures .0) (at9 .before .if1 .left) false (host-free .1 _) (c .stepped .ensures .1) (t .result) _ _ _ (a .nqn .now)
     (t .ensures .0) (host-record (a .marked .now) (a .state .used) (a .nqn .now)) y
     (host-heap (a .state .used) (a .nqn .now)) (c .before .before .before .copy-into .ensures)
 

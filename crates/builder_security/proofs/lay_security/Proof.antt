@@ -1,3 +1,4 @@
+use mathlib.Core.Bool.{false}
 use mathlib.Core.List.{[], _∷_}
 use Prim.Native.Nat.{_+_, _≤_}
 use native.Mathlib.Omega.{arith}
@@ -9,6 +10,7 @@ use Rattle.builder_record.specs.Calls.{securityTold}
 use Rattle.bytes_writer.proofs.StoreLaws.{concat}
 use Rattle.builder_writers.specs.Written.{recordWith}
 use Rattle.builder_state.proofs.Laws.{in-limit, used-bounds}
+use Rattle.builder_record.proofs.FillLaws.{security-free}
 use Rattle.builder_record.proofs.LayLaws.{part-size, part-stored, roomy, laid-refused, laid-done, six-long}
 use Rattle.builder_security.proofs.Laws.{security-size, security-record, security-heap}
 use borrow.Author.Needs.{needs}
@@ -142,7 +144,7 @@ returns-2 c =
     (a .protocols .now) + length (a .ciphers .now) + length (a .groups .now) + length (a .hashes .now) + length
     (a .keypath .now)) (at12 .room-fault .result) (c .stepped .result) (security-size (a .algorithms .now)
     (a .protocols .now) (a .ciphers .now) (a .groups .now) (a .hashes .now) (a .keypath .now))
-    (at12 .room-fault .ensures) (c .stepped .ensures .0) (at9 .before .if1 .left) (c .stepped .ensures .1) (t .result) _
+    (at12 .room-fault .ensures) (c .stepped .ensures .0) (at9 .before .if1 .left) false (security-free .1 _) (c .stepped .ensures .1) (t .result) _
     _ _ (concat
     (a .algorithms .now ∷ a .protocols .now ∷ a .ciphers .now ∷ a .groups .now ∷ a .hashes .now ∷ a .keypath .now ∷ []))
     (t .ensures .0) (security-record (a .algorithms .now) (a .protocols .now) (a .ciphers .now) (a .groups .now)

@@ -1,3 +1,4 @@
+use mathlib.Core.Bool.{false}
 use Rattle.table.specs.Meaning.{limit}
 use mathlib.Core.Path.{ap, _∙_}
 use mathlib.Core.List.{[], _∷_}
@@ -12,6 +13,7 @@ use Rattle.table.specs.Builder.{recordsEnd}
 use Rattle.laws.specs.Fields.{imageIn}
 use Rattle.builder_writers.specs.Written.{recordWith}
 use Rattle.builder_state.proofs.Laws.{in-limit, used-bounds}
+use Rattle.builder_record.proofs.FillLaws.{ssns-free}
 use Rattle.builder_record.proofs.LayLaws.{part-size, part-stored, roomy, laid-refused, laid-done}
 use Rattle.builder_ssns.specs.SsnsParts.{ssnsSlots, namedPart, laidSsns}
 use Rattle.builder_ssns.proofs.Laws.{Laid, ssns-laid, extended-room}
@@ -198,7 +200,7 @@ returns-2 c =
     (a .address .now) (a .service .now) (a .others .now) (a .nqn .now) (imageIn extended (a .extended .now) 0)
     (a .path .now)) (length (a .address .now) + length (a .service .now) + length (a .others .now) + length
     (a .nqn .now) + m + length own) (at12 .room-fault .result) (c .stepped .result) (f .0) (at12 .room-fault .ensures)
-    (c .stepped .ensures .0) (at9 .before .if1 .left) (c .stepped .ensures .1) (t .result) _ _ (at3 .lay-named .last .0)
+    (c .stepped .ensures .0) (at9 .before .if1 .left) false (ssns-free .1 _) (c .stepped .ensures .1) (t .result) _ _ (at3 .lay-named .last .0)
     (namedPart (a .state .used) (a .address .now) (a .service .now) (a .others .now) (a .nqn .now) m (a .extended .now)
     own) (t .ensures .0) (f .1) y (f .2) (at3 .lay-named .ensures)
 

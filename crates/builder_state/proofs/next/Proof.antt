@@ -1,5 +1,5 @@
 use Rattle.table.specs.Meaning.{limit}
-use mathlib.Core.Path.{ap, sym, _∙_}
+use mathlib.Core.Path.{ap, ap₂, sym, _∙_}
 use mathlib.Core.Bool.{Bool}
 use borrow.Author.Tests.{ne-eqb}
 use Prim.Native.Nat.{ℕ, _+_}
@@ -16,6 +16,9 @@ add-used : tie.Need-add-used
 unfolding limit
 add-used c = search needs
 
+minor-behind-requires : tie.Need-minor-behind-requires
+minor-behind-requires c κs = search needs
+
 cast-if1 : tie.Need-cast-if1
 cast-if1 c = search needs
 
@@ -31,9 +34,11 @@ moved-to-requires c κs = search needs
 returns : tie.Need-returns
 returns c =
     let at3 = c .before .before .before in
-    let start = at3 .before .before .before in
+    let at5 = at3 .before .before in
+    let a = at5 .before .before .args in
     c .moved-to .ensures
-    ∙ next-inside (start .args .state) (start .args .written) (at3 .count-of .result) (at3 .count-of .ensures .0)
+    ∙ ap (moved (a .state) (turn (a .state .turn) (a .state .position + 1)) (a .state .used + a .written)) (at5 .minor-behind .ensures)
+    ∙ next-inside (a .state) (a .written) (at3 .count-of .result) (a .newer) (at3 .count-of .ensures .0)
     (c .before .before .if1 .taken)
 
 later-list-requires : tie.Need-later-list-requires
@@ -45,11 +50,13 @@ moved-to-requires-2 c κs = search needs
 returns-2 : tie.Need-returns-2
 returns-2 c =
     let at4 = c .before .before .before .before in
-    let start = at4 .before .before .before in
+    let at6 = at4 .before .before in
+    let a = at6 .before .before .args in
     c .moved-to2 .ensures
-    ∙ ap (λ x. moved (start .args .state) x (start .args .state .used + start .args .written))
+    ∙ ap₂ (λ x (v : ℕ). moved (a .state) x (a .state .used + a .written) v)
     (sym (ap (λ (k : ℕ). turn k (pick (eqb k 7) 0 1)) (c .before .if2 .taken)) ∙ c .before .before .later-list .ensures)
-    ∙ next-later (start .args .state) (start .args .written) (at4 .count-of .result) (at4 .count-of .ensures .0)
+    (at6 .minor-behind .ensures)
+    ∙ next-later (a .state) (a .written) (at4 .count-of .result) (a .newer) (at4 .count-of .ensures .0)
     (omega (arith, c .before .before .before .if1 .left))
 
 moved-to-requires-3 : tie.Need-moved-to-requires-3
@@ -59,13 +66,15 @@ returns-3 : tie.Need-returns-3
 returns-3 c =
     let at2 = c .before .before in
     let at4 = at2 .before .before in
-    let start = at4 .before .before .before in
+    let at6 = at4 .before .before in
+    let a = at6 .before .before .args in
     c .moved-to3 .ensures
-    ∙ ap (λ x. moved (start .args .state) x (start .args .state .used + start .args .written))
+    ∙ ap₂ (λ x (v : ℕ). moved (a .state) x (a .state .used + a .written) v)
     (ap (λ (b : Bool). turn (at2 .later-list .result) (pick b 0 1))
     (sym (ne-eqb (at2 .later-list .result) 7 (c .before .if2 .left)))
     ∙ at2 .later-list .ensures)
-    ∙ next-later (start .args .state) (start .args .written) (at4 .count-of .result) (at4 .count-of .ensures .0)
+    (at6 .minor-behind .ensures)
+    ∙ next-later (a .state) (a .written) (at4 .count-of .result) (a .newer) (at4 .count-of .ensures .0)
     (omega (arith, at2 .before .if1 .left))
 
 pub next-spec : {M : Type 1} → statement M
@@ -73,6 +82,7 @@ next-spec =
     tie.close
     (tie.spec
     add-used
+    minor-behind-requires
     cast-if1
     count-of-requires
     add-moved-to

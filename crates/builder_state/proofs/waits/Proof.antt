@@ -1,7 +1,7 @@
 use mathlib.Core.Path.{refl}
 use borrow.Author.Tests.{ne-eqb}
 use Rattle.table.specs.Builder.{waits}
-use Rattle.builder_state.proofs.Laws.{not-true, not-false, not-in-place, too-low, waits-for}
+use Rattle.builder_state.proofs.Laws.{not-true, not-false, not-in-place, too-low, too-high, waits-for}
 use native.Mathlib.Omega.{arith}
 use borrow.Author.Needs.{needs}
 use Rattle.builder_state.proofs.waits.Statement.{statement}
@@ -36,14 +36,23 @@ returns-3 c =
 
 returns-4 : tie.Need-returns-4
 returns-4 c =
-    let at3 = c .before .before .before in
-    let at5 = at3 .before .before in
-    let start = at5 .before .before .before in
-    waits-for (start .args .state) (start .args .kind) (at3 .records-end .result) (at5 .in-place .result)
-    (at5 .before .if1 .left) (at5 .in-place .ensures) (not-false (at5 .in-place .result) (at3 .before .if2 .left))
-    (at3 .records-end .ensures .0) (omega (arith, c .before .if3 .left))
+    let at4 = c .before .before .before .before in
+    let at6 = at4 .before .before in
+    let start = at6 .before .before .before in
+    too-high (start .args .state) (start .args .kind) (at4 .records-end .result) (at6 .in-place .result)
+    (at6 .before .if1 .left) (at6 .in-place .ensures) (not-false (at6 .in-place .result) (at4 .before .if2 .left))
+    (at4 .records-end .ensures .0) (omega (arith, c .before .before .if3 .left)) (c .if4 .taken)
+
+returns-5 : tie.Need-returns-5
+returns-5 c =
+    let at5 = c .before .before .before .before .before in
+    let at7 = at5 .before .before in
+    let start = at7 .before .before .before in
+    waits-for (start .args .state) (start .args .kind) (at5 .records-end .result) (at7 .in-place .result)
+    (at7 .before .if1 .left) (at7 .in-place .ensures) (not-false (at7 .in-place .result) (at5 .before .if2 .left))
+    (at5 .records-end .ensures .0) (omega (arith, c .before .before .before .if3 .left)) (omega (arith, c .before .if4 .left))
 
 pub waits-spec : {M : Type 1} → statement M
 waits-spec =
     tie.close
-    (tie.spec returns in-place-requires returns-2 records-end-requires returns-3 returns-4)
+    (tie.spec returns in-place-requires returns-2 records-end-requires returns-3 returns-4 returns-5)

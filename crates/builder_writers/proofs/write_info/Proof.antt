@@ -8,14 +8,14 @@ use borrow.Author.Needs.{needs}
 use Rattle.builder_writers.proofs.write_info.Statement.{statement}
 use Rattle.builder_writers.proofs.write_info.Tie as tie
 
-plain-sizes-requires : tie.Need-plain-sizes-requires
-plain-sizes-requires c κs = search needs
+object-then-nested-requires : tie.Need-object-then-nested-requires
+object-then-nested-requires c κs = search needs
 
 write-record-requires : tie.Need-write-record-requires
 unfolding layoutOf
 write-record-requires c κs =
-    let z = c .plain-sizes .ensures in
-    (c .before .before .before .before .pre .0, six-narrow (c .plain-sizes .result .span) _ _ _ _ _ _ (z .1) (omega arith) (omega arith) (omega arith) (omega arith) (omega arith) (omega arith))
+    let z = c .object-then-nested .ensures in
+    (c .before .before .before .before .pre .0, six-narrow (c .object-then-nested .result .span) _ _ _ _ _ _ (z .1) (omega arith) (omega arith) (omega arith) (omega arith) (omega arith) (omega arith))
 
 same-length : tie.Need-same-length
 same-length c = search needs
@@ -24,8 +24,8 @@ returns : tie.Need-returns
 unfolding recordWith layoutOf info storesFrom
 returns c =
     let a = c .before .before .before .before .before .before .before .args in
-    let z = c .before .before .before .plain-sizes in
+    let z = c .before .before .before .object-then-nested in
     c .before .before .write-record .ensures ∙ same-record (layoutOf 7) (a .told .now) (a .heap) (z .result .len) _ (z .result .span) _ (z .ensures .0) (z .ensures .1)
 
 pub write-info-spec : {M : Type 1} → statement M
-write-info-spec = tie.close (tie.spec plain-sizes-requires write-record-requires same-length returns)
+write-info-spec = tie.close (tie.spec object-then-nested-requires write-record-requires same-length returns)

@@ -34,8 +34,8 @@ put-u32-requires-4 c κs = search needs
 put-slot-requires : tie.Need-put-slot-requires
 put-slot-requires c κs = search needs
 
-fill-zero-requires : tie.Need-fill-zero-requires
-fill-zero-requires c κs =
+put-u8-requires-3 : tie.Need-put-u8-requires-3
+put-u8-requires-3 c κs =
     let at7 = c .before .before .before .before .before .before .before in
     let at11 = at7 .before .before .before .before in
     let at15 = at11 .before .before .before .before in
@@ -56,10 +56,53 @@ fill-zero-requires c κs =
       c .before .before .before .put-slot .kept .0,
     )
 
-same-length : tie.Need-same-length
-same-length c = search needs
+fill-zero-requires : tie.Need-fill-zero-requires
+fill-zero-requires c κs =
+    let at3 = c .before .before .before in
+    let at7 = at3 .before .before .before .before in
+    let at11 = at7 .before .before .before .before in
+    let at15 = at11 .before .before .before .before in
+    let at19 = at15 .before .before .before .before in
+    let at23 = at19 .before .before .before .before in
+    let at27 = at23 .before .before .before .before in
+    let at31 = at27 .before .before .before .before in
+    let at35 = at31 .before .before .before .before in
+    omega (
+      arith,
+      at35 .before .before .before .before .pre,
+      at35 .put-u32 .kept .0,
+      at31 .put-u322 .kept .0,
+      at27 .put-u8 .kept .0,
+      at23 .put-u82 .kept .0,
+      at19 .copy-into .kept .0,
+      at15 .put-u323 .kept .0,
+      at11 .put-u324 .kept .0,
+      at7 .put-slot .kept .0,
+      at3 .put-u83 .kept .0,
+    )
 
--- nine stores in a row: each begins where the one before it ends, so that together they are one list (chain-laid)
+same-length : tie.Need-same-length
+same-length c =
+    let at6 = c .before .before .before .before .before .before in
+    let at10 = at6 .before .before .before .before in
+    let at14 = at10 .before .before .before .before in
+    let at18 = at14 .before .before .before .before in
+    let at22 = at18 .before .before .before .before in
+    let at26 = at22 .before .before .before .before in
+    let at30 = at26 .before .before .before .before in
+    let at34 = at30 .before .before .before .before in
+    c .before .before .fill-zero .kept .0
+    ∙ at6 .put-u83 .kept .0
+    ∙ at10 .put-slot .kept .0
+    ∙ at14 .put-u324 .kept .0
+    ∙ at18 .put-u323 .kept .0
+    ∙ at22 .copy-into .kept .0
+    ∙ at26 .put-u82 .kept .0
+    ∙ at30 .put-u8 .kept .0
+    ∙ at34 .put-u322 .kept .0
+    ∙ at34 .before .before .before .before .put-u32 .kept .0
+
+-- ten stores in a row: each begins where the one before it ends, so that together they are one list (chain-laid)
 returns : tie.Need-returns
 returns c =
     let at6 = c .before .before .before .before .before .before in
@@ -70,26 +113,29 @@ returns c =
     let at26 = at22 .before .before .before .before in
     let at30 = at26 .before .before .before .before in
     let at34 = at30 .before .before .before .before in
-    let s = at34 .before .before .before .before in
+    let at38 = at34 .before .before .before .before in
+    let s = at38 .before .before .before .before in
     let a = s .args in
-    let p0 = at34 .put-u32 in
-    let p1 = at30 .put-u322 in
-    let p2 = at26 .put-u8 in
-    let p3 = at22 .put-u82 in
-    let p4 = at18 .copy-into in
-    let p5 = at14 .put-u323 in
-    let p6 = at10 .put-u324 in
-    let p7 = at6 .put-slot in
-    let p8 = c .before .before .fill-zero in
+    let p0 = at38 .put-u32 in
+    let p1 = at34 .put-u322 in
+    let p2 = at30 .put-u8 in
+    let p3 = at26 .put-u82 in
+    let p4 = at22 .copy-into in
+    let p5 = at18 .put-u323 in
+    let p6 = at14 .put-u324 in
+    let p7 = at10 .put-slot in
+    let p8 = at6 .put-u83 in
+    let p9 = c .before .before .fill-zero in
     let o = a .oem .now in
-    let l = header-long (a .size) o (a .heap) (a .heapsize) (a .signature) (s .pre .1) in
+    let ps = headerPieces (a .size) o (a .heap) (a .heapsize) (a .signature) (a .minor) in
+    let l = header-long (a .size) o (a .heap) (a .heapsize) (a .signature) (a .minor) (s .pre .1) in
     let w5 : 36 ≡ 10 + length o = omega (arith, s .pre) in
     let w6 : 40 ≡ 10 + length o + 4 = omega (arith, s .pre) in
     let w7 : 44 ≡ 10 + length o + 4 + 4 = omega (arith, s .pre) in
     let w8 : 50 ≡ 10 + length o + 4 + 4 + length (refNum (a .heap) (a .signature)) =
     omega (arith, s .pre, length-ref (a .heap) (a .signature)) in
-    chain-laid (headerPieces (a .size) o (a .heap) (a .heapsize) (a .signature)) (a .part .now) 0 (p8 .last .0)
-    (omega (arith, l, s .pre)) (
+    let w9 : 51 ≡ 10 + length o + 4 + 4 + length (refNum (a .heap) (a .signature)) + 1 = omega (arith, w8) in
+    chain-laid ps (a .part .now) 0 (p9 .last .0) (omega (arith, l, s .pre)) (
       p0 .last .0,
       0,
       p0 .ensures,
@@ -124,7 +170,19 @@ returns c =
                   40,
                   p6 .ensures,
                   w6,
-                  (p7 .last .0, 44, p7 .ensures, w7, (p8 .last .0, 50, p8 .ensures, w8, refl)),
+                  (
+                    p7 .last .0,
+                    44,
+                    p7 .ensures,
+                    w7,
+                    (
+                      p8 .last .0,
+                      50,
+                      p8 .ensures,
+                      w8,
+                      (p9 .last .0, 51, p9 .ensures, w9, refl),
+                    ),
+                  ),
                 ),
               ),
             ),
@@ -132,9 +190,8 @@ returns c =
         ),
       ),
     )
-    ∙ splice-all (a .part .now) (concat (headerPieces (a .size) o (a .heap) (a .heapsize) (a .signature)))
-    (omega (arith, l, s .pre))
-    ∙ header-joined (a .size) o (a .heap) (a .heapsize) (a .signature)
+    ∙ splice-all (a .part .now) (concat ps) (omega (arith, l, s .pre))
+    ∙ header-joined (a .size) o (a .heap) (a .heapsize) (a .signature) (a .minor)
 
 pub write-header-spec : {M : Type 1} → statement M
 write-header-spec =
@@ -148,6 +205,7 @@ write-header-spec =
     put-u32-requires-3
     put-u32-requires-4
     put-slot-requires
+    put-u8-requires-3
     fill-zero-requires
     same-length
     returns)

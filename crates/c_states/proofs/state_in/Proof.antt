@@ -16,17 +16,14 @@ u32-at-requires c κs = search needs
 u32-at-requires-2 : tie.Need-u32-at-requires-2
 u32-at-requires-2 c κs = search needs
 
-mul-used : tie.Need-mul-used
-mul-used c = search needs
+cast-t6 : tie.Need-cast-t6
+cast-t6 c = search needs
 
-add-used : tie.Need-add-used
-add-used c = search needs
+cast-t7 : tie.Need-cast-t7
+cast-t7 c = search needs
 
-cast-t8 : tie.Need-cast-t8
-cast-t8 c = search needs
-
-cast-t9 : tie.Need-cast-t9
-cast-t9 c = search needs
+shared-slice-read-t9 : tie.Need-shared-slice-read-t9
+shared-slice-read-t9 c = search needs
 
 shared-slice-read-t11 : tie.Need-shared-slice-read-t11
 shared-slice-read-t11 c = search needs
@@ -36,9 +33,6 @@ shared-slice-read-t13 c = search needs
 
 shared-slice-read-t15 : tie.Need-shared-slice-read-t15
 shared-slice-read-t15 c = search needs
-
-shared-slice-read-t17 : tie.Need-shared-slice-read-t17
-shared-slice-read-t17 c = search needs
 
 returns : tie.Need-returns
 returns c =
@@ -64,12 +58,10 @@ state-in-spec =
     u16-at-requires-2
     u32-at-requires
     u32-at-requires-2
-    mul-used
-    add-used
-    cast-t8
-    cast-t9
+    cast-t6
+    cast-t7
+    shared-slice-read-t9
     shared-slice-read-t11
     shared-slice-read-t13
     shared-slice-read-t15
-    shared-slice-read-t17
     returns)

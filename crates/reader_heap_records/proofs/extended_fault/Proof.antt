@@ -1,7 +1,9 @@
 use Rattle.reader_heap_records.specs.HeapRecords.{spot}
+use mathlib.Core.List.{[]}
 use Rattle.table.specs.Rules.{isSound}
+use Rattle.laws.specs.RefWalk.{partRule}
 use mathlib.Core.Path.{_≡_, _∙_}
-use Rattle.reader_heap_records.proofs.Laws.{extended-sound, extended-own, part-short, part-stop, part-on}
+use Rattle.reader_heap_records.proofs.Laws.{extended-sound, extended-own, sound-short, sound-stop, sound-on}
 use Rattle.table.specs.Bytes.{pick}
 use Rattle.table.specs.FixedLayouts.{layoutOf, extended}
 use Rattle.table.specs.Layout.{region, image}
@@ -12,19 +14,18 @@ use Rattle.reader_heap_records.proofs.extended_fault.Tie as tie
 
 -- its fields are sound, or the answer is 12
 judged : (c : tie.After-sound) → let s = c .before .before .before .before .before .before .before .args in c .sound .result ≡ pick
-    (isSound (extended .shape) (spot (s .position)) (image (extended .shape .keep) (s .x .now))) 0 12
+    (isSound (extended .shape) (spot (s .position)) [] (image (extended .shape .keep) (s .x .now))) 0 12
 unfolding extended
 judged c =
     let at6 = c .before .before .before .before .before .before in
     rw (← extended-sound (at6 .before .args .x .now) (at6 .before .args .position)
-    (λ i. omega (arith, at6 .shared-slice-known .given i))) (cc (c .sound .ensures, c .before .u16-at .ensures .0))
+    (λ i. omega (arith, at6 .shared-slice-known .given i)) []) (cc (c .sound .ensures, c .before .u16-at .ensures .0))
 
 returns : tie.Need-returns
-unfolding extended
+unfolding extended partRule
 returns c =
-    let start = c .before .before in
-    part-short (region (start .args .from) (start .args .n)) (start .args .position) (extended .shape) (extended .refs)
-    (start .args .x .now) (omega (arith, c .if1 .taken))
+    let a = c .before .before .args in
+    sound-short (a .position) (extended .shape) [] (a .x .now) _ (omega (arith, c .if1 .taken))
 
 shared-slice-read-sound : tie.Need-shared-slice-read-sound
 shared-slice-read-sound c = search needs
@@ -42,12 +43,11 @@ sound-requires : tie.Need-sound-requires
 sound-requires c κs = search needs
 
 returns-2 : tie.Need-returns-2
-unfolding extended
+unfolding extended partRule
 returns-2 c =
     let at6 = c .before .before .before .before .before .before in
     let s = at6 .before .before .args in
-    part-stop (region (s .from) (s .n)) (s .position) (extended .shape) (extended .refs) (s .x .now)
-    (c .before .sound .result) (omega (arith, at6 .if1 .left)) (judged (c .before)) (c .if2 .taken)
+    sound-stop (s .position) (extended .shape) [] (s .x .now) (c .before .sound .result) _ (omega (arith, at6 .if1 .left)) (judged (c .before)) (c .if2 .taken)
 
 own-fault-requires : tie.Need-own-fault-requires
 unfolding layoutOf extended
@@ -56,13 +56,13 @@ own-fault-requires c κs =
     (omega (arith, at6 .if1 .left), at6 .before .before .pre)
 
 returns-3 : tie.Need-returns-3
-unfolding extended
+unfolding extended partRule
 returns-3 c =
     let at2 = c .before .before in
     let at7 = at2 .before .before .before .before .before in
     let s = at7 .before .before .args in
-    part-on (region (s .from) (s .n)) (s .position) (extended .shape) (extended .refs) (s .x .now) (at2 .sound .result)
-    (omega (arith, at7 .if1 .left)) (judged at2) (c .own-fault .result) (c .before .if2 .left)
+    sound-on (s .position) (extended .shape) [] (s .x .now) (at2 .sound .result) _ (omega (arith, at7 .if1 .left)) (judged at2)
+    (c .own-fault .result) (c .before .if2 .left)
     (c .own-fault .ensures ∙ extended-own (region (s .from) (s .n)) (s .x .now))
 
 pub extended-fault-spec : {M : Type 1} → statement M

@@ -27,7 +27,7 @@ module _ (c : tie.After-plain-fault Inv-loop μ-loop) where
       let at4 = c .before .before .before .before in
       c .plain-fault .result ≡ F (getD (at4 .before .reference-offsets .result .at) (at4 .loop .i) 0)
   unfolding ownFault
-  turn = rw (c .before .plain-need .ensures) at (c .plain-fault .ensures)
+  turn = rw (c .before .own-need .ensures) at (c .plain-fault .ensures)
 
 reference-offsets-requires : tie.Need-reference-offsets-requires Inv-loop μ-loop
 reference-offsets-requires c κs = search picks
@@ -41,8 +41,8 @@ mul-off c = search picks
 element-copy-out-off : tie.Need-element-copy-out-off Inv-loop μ-loop
 element-copy-out-off c = search picks
 
-plain-need-requires : tie.Need-plain-need-requires Inv-loop μ-loop
-plain-need-requires c κs = search picks
+own-need-requires : tie.Need-own-need-requires Inv-loop μ-loop
+own-need-requires c κs = search picks
 
 plain-fault-requires : tie.Need-plain-fault-requires Inv-loop μ-loop
 plain-fault-requires c κs =
@@ -99,7 +99,7 @@ own-fault-spec =
     loop-holds
     mul-off
     element-copy-out-off
-    plain-need-requires
+    own-need-requires
     plain-fault-requires
     returns
     add-i

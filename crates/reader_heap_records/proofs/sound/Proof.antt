@@ -25,11 +25,11 @@ returns-5 c = search picks
 
 returns-6 : tie.Need-returns-6
 unfolding soundBy
-returns-6 c = search picks
+returns-6 c = rw (c .if6 .taken) (search picks)
 
 returns-7 : tie.Need-returns-7
 unfolding soundBy
-returns-7 c = search picks
+returns-7 c = rw (c .if6 .left) (search picks)
 
 pub sound-spec : {M : Type 1} → statement M
 sound-spec =

@@ -7,6 +7,7 @@ use Rattle.reader_references.proofs.Laws.{part-none, part-some, part-yes}
 use Rattle.laws.specs.RefWalk.{partRule}
 use Rattle.table.specs.Layout.{region, referenceAt}
 use lib.ListN.{length}
+use mathlib.Core.List.{[]}
 use mathlib.Core.Path.{ap, sym, _∙_}
 use borrow.Author.Needs.{needs}
 use Rattle.reader_rules.proofs.extended_ref.Statement.{statement}
@@ -47,7 +48,7 @@ returns-3 c =
     (rw (at2 .part-at .ensures) at (c .before .if2 .left)) in
     c .extended-fault .ensures
     ∙ ap (partRule (region (s .args .from) (length (s .args .heap .now))) (spot (s .args .position)) (extended .shape)
-    (extended .refs)) (at2 .part-at .ensures ∙ sym (part-yes (s .args .heap .now) (s .args .from) (x .at) (x .len) r))
+    (extended .refs) []) (at2 .part-at .ensures ∙ sym (part-yes (s .args .heap .now) (s .args .from) (x .at) (x .len) r))
     ∙ extended-yes (s .args .t .now) (s .args .heap .now) (s .args .from) (s .args .a) (s .args .position) (s .pre .1)
     (ne-eqb _ 0 (rw (at2 .before .before .ssns-flags .ensures) at (at2 .before .if1 .left))) r
 

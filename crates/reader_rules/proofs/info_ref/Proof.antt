@@ -1,11 +1,9 @@
 use Rattle.reader_rules.proofs.HeapLaws.{info-no, info-yes}
-use Rattle.table.specs.FixedLayouts.{info}
 use Prim.Native.Nat.{_+_}
-use Rattle.reader_heap_records.specs.HeapRecords.{spot}
+use Rattle.reader_heap_records.specs.HeapRecords.{infoPart}
 use Rattle.reader_references.proofs.Laws.{part-none, part-some, part-yes}
-use Rattle.laws.specs.RefWalk.{partRule}
-use Rattle.table.specs.Layout.{region, referenceAt}
-use lib.ListN.{length}
+use native.Mathlib.Omega.{arith}
+use Rattle.table.specs.Layout.{referenceAt}
 use mathlib.Core.Path.{ap, sym, _∙_}
 use borrow.Author.Needs.{needs}
 use Rattle.reader_rules.proofs.info_ref.Statement.{statement}
@@ -35,9 +33,10 @@ returns-2 c =
     let r = part-some (s .args .heap .now) (s .args .from) (x .at) (x .len)
     (rw (at2 .part-at .ensures) at (c .before .if1 .left)) in
     c .info-fault .ensures
-    ∙ ap (partRule (region (s .args .from) (length (s .args .heap .now))) (spot (s .args .position)) (info .shape)
-    (info .refs)) (at2 .part-at .ensures ∙ sym (part-yes (s .args .heap .now) (s .args .from) (x .at) (x .len) r))
-    ∙ info-yes (s .args .t .now) (s .args .heap .now) (s .args .from) (s .args .a) (s .args .position) (s .pre .1) r
+    ∙ ap (infoPart (s .args .heap .now) (s .args .from) (s .args .position))
+    (at2 .part-at .ensures ∙ sym (part-yes (s .args .heap .now) (s .args .from) (x .at) (x .len) r))
+    ∙ info-yes (s .args .t .now) (s .args .heap .now) (s .args .from) (s .args .a) (s .args .position) (s .pre .1)
+    (λ i. omega (arith, at2 .before .before .shared-slice-known .given i)) r
 
 pub info-ref-spec : {M : Type 1} → statement M
 info-ref-spec =

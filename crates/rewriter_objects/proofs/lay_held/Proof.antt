@@ -25,13 +25,13 @@ put-record-requires c κs =
     let s = c .before .before .before .before .before .before .before .before in
     (s .pre .0 .0, s .pre .0 .1, omega (arith, s .pre .1, c .before .before .before .put-slot .kept .0))
 
-add-lay-objects : tie.Need-add-lay-objects
+add-lay-inners : tie.Need-add-lay-inners
 unfolding recordPart
-add-lay-objects c = search needs
+add-lay-inners c = search needs
 
-lay-objects-requires : tie.Need-lay-objects-requires
+lay-inners-requires : tie.Need-lay-inners-requires
 unfolding recordPart
-lay-objects-requires c κs =
+lay-inners-requires c κs =
     let at7 = c .before .before .before .before .before .before .before in
     let s = at7 .before .before .before .before .before in
     let b = at7 .before .before .base-size .ensures in (
@@ -57,9 +57,9 @@ returns c =
     let k = a .kind in
     let x = a .out .now in
     let b = at10 .before .before .base-size .ensures in
-    let l = at2 .lay-objects .ensures in (
+    let l = at2 .lay-inners .ensures in (
       omega (arith, l .0, b),
-      held-laid t (s .pre .0 .0) k (a .source) (s .pre .0 .1) x (at2 .lay-objects .last .0) (a .slot) (a .next)
+      held-laid t (s .pre .0 .0) k (a .source) (s .pre .0 .1) x (at2 .lay-inners .last .0) (a .slot) (a .next)
           (s .pre .1 .0) (s .pre .1 .1) (l .1
           ∙ ap₂ (λ (y : List ℕ) (v : ℕ). named y (a .next) (a .next + v) (slotsIn (layoutOf k) t (a .source)))
           (at6 .put-record .ensures
@@ -74,7 +74,7 @@ lay-held-spec =
     base-size-requires
     put-slot-requires
     put-record-requires
-    add-lay-objects
-    lay-objects-requires
+    add-lay-inners
+    lay-inners-requires
     same-length
     returns)

@@ -1,4 +1,4 @@
-use Rattle.rewriter_sizes.proofs.PartLaws.{nest-part, nest-bytes, inner-plain}
+use Rattle.rewriter_sizes.proofs.PartLaws.{nest-part, nest-bytes, innermost-plain}
 use Rattle.reads_seats.proofs.SeatLaws.{record-held}
 use Rattle.reads_seats.specs.declared.seats.Seat.{Seat}
 use mathlib.Core.Path.{refl, sym, ap, ap₂, _∙_}
@@ -45,7 +45,7 @@ lay-record-requires c κs =
     let w = ap (λ (q : Part). q .span) (nest-part t ok k (a .source) d (a .offset)
     (sym (at4 .has-object .ensures) ∙ c .before .before .before .if1 .left)) in
     rw (c .before .inner-kind .ensures, c .heap-record .ensures)
-    ((ok, record-held t ok (a .source) k (refl, d), inner-plain k), (s .pre .1 .0, omega (arith, w, s .pre .1 .1)))
+    ((ok, record-held t ok (a .source) k (refl, d), innermost-plain k), (s .pre .1 .0, omega (arith, w, s .pre .1 .1)))
 
 same-length-2 : tie.Need-same-length-2
 same-length-2 c = search needs

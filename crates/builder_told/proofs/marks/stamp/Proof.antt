@@ -1,11 +1,11 @@
 use Rattle.table.specs.Bytes.{splice, le}
 use Prim.Native.Nat.{ℕ, _%_}
 use Rattle.bytes_writer.proofs.StoreLaws.{splice-none}
-use Rattle.builder_told.proofs.Laws.{further, last-kind}
+use Rattle.builder_told.proofs.Laws.{further, last-kinds}
 use Rattle.builder_told.specs.Marks.{stamped}
-use Rattle.table.specs.FixedLayouts.{layoutOf, host, hfi, ssns, security, discovery, info, extended}
+use Rattle.table.specs.FixedLayouts.{layoutOf, host, hfi, ssns, security, discovery, info}
 use mathlib.Core.List.{[], _∷_}
-use mathlib.Core.Path.{ap, _∙_}
+use mathlib.Core.Path.{sym, ap, _∙_}
 use native.Mathlib.Omega.{arith}
 use borrow.Author.Needs.{needs}
 use Rattle.builder_told.proofs.marks.stamp.Statement.{statement}
@@ -116,23 +116,21 @@ slice-aggregate-copy-into-2 : tie.Need-slice-aggregate-copy-into-2
 slice-aggregate-copy-into-2 c = search needs
 
 copy-into-requires-2 : tie.Need-copy-into-requires-2
-unfolding layoutOf extended
 copy-into-requires-2 c κs =
     let start = c .before .before .before .before in
     let m = c .before .before .match .rest in
-    let k = last-kind (start .args .kind) (start .pre .0) (m .0 .0 .0 .0 .0 .1) (m .0 .0 .0 .0 .1) (m .0 .0 .0 .1)
+    let k = last-kinds (start .args .kind) (start .pre .0) (m .0 .0 .0 .0 .0 .1) (m .0 .0 .0 .0 .1) (m .0 .0 .0 .1)
     (m .0 .0 .1) (m .0 .1) (m .1) in
-    omega (arith, rw k at (start .pre .1))
+    omega (arith, k .0, start .pre .1)
 
 put-u16-requires-3 : tie.Need-put-u16-requires-3
-unfolding layoutOf extended
 put-u16-requires-3 c κs =
     let at6 = c .before .before .before .before .before .before in
     let start = at6 .before .before in
     let m = at6 .match .rest in
-    let k = last-kind (start .args .kind) (start .pre .0) (m .0 .0 .0 .0 .0 .1) (m .0 .0 .0 .0 .1) (m .0 .0 .0 .1)
+    let k = last-kinds (start .args .kind) (start .pre .0) (m .0 .0 .0 .0 .0 .1) (m .0 .0 .0 .0 .1) (m .0 .0 .0 .1)
     (m .0 .0 .1) (m .0 .1) (m .1) in
-    omega (arith, rw k at (start .pre .1), c .before .before .before .copy-into2 .kept .0)
+    omega (arith, k .0, start .pre .1, c .before .before .before .copy-into2 .kept .0)
 
 same-length : tie.Need-same-length
 same-length c = search needs
@@ -208,15 +206,14 @@ same-length-7 : tie.Need-same-length-7
 same-length-7 c = search needs
 
 returns-7 : tie.Need-returns-7
-unfolding stamped layoutOf extended
 returns-7 c =
     let at6 = c .before .before .before .before .before .before in
     let start = at6 .before .before .before .before .before in
     let m = at6 .before .before .before .match .rest in
-    let k = last-kind (start .args .kind) (start .pre .0) (m .0 .0 .0 .0 .0 .1) (m .0 .0 .0 .0 .1) (m .0 .0 .0 .1)
+    let k = last-kinds (start .args .kind) (start .pre .0) (m .0 .0 .0 .0 .0 .1) (m .0 .0 .0 .0 .1) (m .0 .0 .0 .1)
     (m .0 .0 .1) (m .0 .1) (m .1) in
-    rw k
-    (further _ _ _ 2 (le 2 (start .args .position)) (c .before .before .put-u163 .ensures) (at6 .copy-into2 .ensures))
+    further _ _ _ 2 (le 2 (start .args .position)) (c .before .before .put-u163 .ensures) (at6 .copy-into2 .ensures)
+    ∙ sym (k .1 (start .args .position) (start .args .bytes .now))
 
 pub stamp-spec : {M : Type 1} → statement M
 stamp-spec =

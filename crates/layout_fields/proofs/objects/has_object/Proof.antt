@@ -15,6 +15,9 @@ security-object-requires c κs = search needs
 discovery-object-requires : tie.Need-discovery-object-requires
 discovery-object-requires c κs = search needs
 
+hfi-extended-object-requires : tie.Need-hfi-extended-object-requires
+hfi-extended-object-requires c κs = search needs
+
 returns : tie.Need-returns
 unfolding layoutOf header
 returns c = rw (c .match .keys1) (yes-or-no _)
@@ -52,8 +55,12 @@ unfolding layoutOf extended
 returns-9 c = rw (c .match .keys9) (yes-or-no _)
 
 returns-10 : tie.Need-returns-10
+unfolding layoutOf
+returns-10 c = rw (c .before .match .keys10) (c .hfi-extended-object .ensures)
+
+returns-11 : tie.Need-returns-11
 unfolding layoutOf noKind
-returns-10 c = search picks
+returns-11 c = search picks
 
 pub has-object-spec : {M : Type 1} → statement M
 has-object-spec =
@@ -62,6 +69,7 @@ has-object-spec =
     ssns-object-requires
     security-object-requires
     discovery-object-requires
+    hfi-extended-object-requires
     returns
     returns-2
     returns-3
@@ -71,4 +79,5 @@ has-object-spec =
     returns-7
     returns-8
     returns-9
-    returns-10)
+    returns-10
+    returns-11)

@@ -31,6 +31,9 @@ info-width-requires c κs = search needs
 extended-width-requires : tie.Need-extended-width-requires
 extended-width-requires c κs = search needs
 
+hfi-extended-width-requires : tie.Need-hfi-extended-width-requires
+hfi-extended-width-requires c κs = search needs
+
 returns : tie.Need-returns
 unfolding layoutOf
 returns c = rw (c .before .match .keys1) (c .header-width .ensures)
@@ -68,8 +71,12 @@ unfolding layoutOf
 returns-9 c = rw (c .before .match .keys9) (c .extended-width .ensures)
 
 returns-10 : tie.Need-returns-10
+unfolding layoutOf
+returns-10 c = rw (c .before .match .keys10) (c .hfi-extended-width .ensures)
+
+returns-11 : tie.Need-returns-11
 unfolding layoutOf noKind
-returns-10 c = search picks
+returns-11 c = search picks
 
 pub field-width-spec : {M : Type 1} → statement M
 field-width-spec =
@@ -84,6 +91,7 @@ field-width-spec =
     discovery-width-requires
     info-width-requires
     extended-width-requires
+    hfi-extended-width-requires
     returns
     returns-2
     returns-3
@@ -93,4 +101,5 @@ field-width-spec =
     returns-7
     returns-8
     returns-9
-    returns-10)
+    returns-10
+    returns-11)

@@ -1,4 +1,4 @@
-use mathlib.Core.Path.{_≡_, refl, sym, ap, _∙_}
+use mathlib.Core.Path.{_≡_, refl, sym, ap, _∙_, ap₂}
 use mathlib.Core.List.{List}
 use Prim.Native.Nat.{ℕ, _+_, _-_, _≤_, _<_}
 use native.Mathlib.Omega.{arith}
@@ -23,6 +23,9 @@ abbrev μ-loop : tie.MeasureT-loop
 counts-more-requires : tie.Need-counts-more-requires Inv-loop μ-loop
 counts-more-requires c κs = search picks
 
+counts-newer-requires : tie.Need-counts-newer-requires Inv-loop μ-loop
+counts-newer-requires c κs = search picks
+
 masks-of-requires : tie.Need-masks-of-requires Inv-loop μ-loop
 masks-of-requires c κs = search picks
 
@@ -37,7 +40,7 @@ shared-slice-read-out c = search picks
 
 array-read-out : tie.Need-array-read-out Inv-loop μ-loop
 array-read-out c =
-    let start = c .before .before .before .before .before .before in
+    let start = c .before .before .before .before .before .before .before in
     omega (arith, start .pre .1, c .before .loop-test .taken, base-small (start .args .kind))
 
 array-write-out : tie.Need-array-write-out Inv-loop μ-loop
@@ -52,7 +55,7 @@ loop-less c = search picks
 loop-again : tie.Need-loop-again Inv-loop μ-loop
 loop-again c =
     let at2 = c .before .before in
-    let start = at2 .before .before .before .before in
+    let start = at2 .before .before .before .before .before in
     let a = start .args in
     let s = imageIn (layoutOf (a .kind)) (a .x .now) 0 in
     let n = length-imageIn (layoutOf (a .kind)) (a .x .now) 0 in
@@ -61,7 +64,7 @@ loop-again c =
     let v : bitAnd (getD (a .x .now) (a .off + at2 .loop .i) 0)
     (getD (at2 .before .masks-of .result) (a .off + at2 .loop .i) 0) ≡ getD s (a .off + at2 .loop .i) 0 =
     ap (λ (m : List ℕ). bitAnd (getD (a .x .now) (a .off + at2 .loop .i) 0) (getD m (a .off + at2 .loop .i) 0))
-    (at2 .before .masks-of .ensures ∙ ap (masksFor (a .kind)) (at2 .before .before .counts-more .ensures)) ∙ masked-byte
+    (at2 .before .masks-of .ensures ∙ ap₂ (masksFor (a .kind)) (at2 .before .before .before .counts-more .ensures) (at2 .before .before .counts-newer .ensures)) ∙ masked-byte
     (a .kind) (a .x .now) (a .off + at2 .loop .i) (omega (arith, h, start .pre .1)) in
     let w = v ∙ sym (part-byte s (a .off) (a .width) (at2 .loop .i) h) in (
       search picks,
@@ -71,7 +74,7 @@ loop-again c =
 
 returns : tie.Need-returns Inv-loop μ-loop
 returns c =
-    let start = c .before .before .before .before .before in
+    let start = c .before .before .before .before .before .before in
     let a = start .args in
     let s = imageIn (layoutOf (a .kind)) (a .x .now) 0 in
     let n = length-imageIn (layoutOf (a .kind)) (a .x .now) 0 in
@@ -88,6 +91,7 @@ field-at-spec =
     Inv-loop
     μ-loop
     counts-more-requires
+    counts-newer-requires
     masks-of-requires
     loop-holds
     add-j

@@ -1,4 +1,4 @@
-use mathlib.Core.Path.{_≡_, refl, ap, _∙_}
+use mathlib.Core.Path.{_≡_, refl, ap, ap₂, _∙_}
 use mathlib.Core.List.{List}
 use Prim.Native.Nat.{ℕ, _-_, _≤_, _<_}
 use native.Mathlib.Omega.{arith}
@@ -24,6 +24,9 @@ abbrev μ-loop : tie.MeasureT-loop
 counts-more-requires : tie.Need-counts-more-requires Inv-loop μ-loop
 counts-more-requires c κs = search picks
 
+counts-newer-requires : tie.Need-counts-newer-requires Inv-loop μ-loop
+counts-newer-requires c κs = search picks
+
 masks-of-requires : tie.Need-masks-of-requires Inv-loop μ-loop
 masks-of-requires c κs = search picks
 
@@ -31,14 +34,14 @@ base-size-requires : tie.Need-base-size-requires Inv-loop μ-loop
 base-size-requires c κs = search picks
 
 loop-holds : tie.Need-loop-holds Inv-loop μ-loop
-loop-holds c = let a = c .before .before .before .before .before .args in (search picks, paste-zero (a .out .now) (a .d) (imageIn (layoutOf (a .kind)) (a .x .now) 0), refl)
+loop-holds c = let a = c .before .before .before .before .before .before .args in (search picks, paste-zero (a .out .now) (a .d) (imageIn (layoutOf (a .kind)) (a .x .now) 0), refl)
 
 shared-slice-read-out : tie.Need-shared-slice-read-out Inv-loop μ-loop
 shared-slice-read-out c = search picks
 
 array-read-out : tie.Need-array-read-out Inv-loop μ-loop
 array-read-out c =
-    let start = c .before .before .before .before .before .before .before .before in
+    let start = c .before .before .before .before .before .before .before .before .before in
     omega (
       arith,
       c .before .loop-test .taken,
@@ -62,7 +65,7 @@ loop-again : tie.Need-loop-again Inv-loop μ-loop
 loop-again c =
     let at2 = c .before .before in
     let at4 = at2 .before .before in
-    let start = at4 .before .before .before .before in
+    let start = at4 .before .before .before .before .before in
     let a = start .args in
     let s = imageIn (layoutOf (a .kind)) (a .x .now) 0 in
     let n = length-imageIn (layoutOf (a .kind)) (a .x .now) 0 in
@@ -70,7 +73,7 @@ loop-again c =
     let h : i < length s = omega (arith, n, c .before .loop-test .taken, at2 .before .base-size .ensures) in
     let v : bitAnd (getD (a .x .now) i 0) (getD (at4 .masks-of .result) i 0) ≡ getD s i 0 =
     ap (λ (m : List ℕ). bitAnd (getD (a .x .now) i 0) (getD m i 0))
-    (at4 .masks-of .ensures ∙ ap (masksFor (a .kind)) (at4 .before .counts-more .ensures)) ∙ masked-byte (a .kind)
+    (at4 .masks-of .ensures ∙ ap₂ (masksFor (a .kind)) (at4 .before .before .counts-more .ensures) (at4 .before .counts-newer .ensures)) ∙ masked-byte (a .kind)
     (a .x .now) i (omega (arith, n, h)) in (
       search picks,
       rw (at2 .loop .inv .1, v) (paste-more (a .out .now) (a .d) s i (omega (arith, n, start .pre)) h),
@@ -81,7 +84,7 @@ same-length : tie.Need-same-length Inv-loop μ-loop
 same-length c = search picks
 
 returns : tie.Need-returns Inv-loop μ-loop
-returns c = let a = c .before .before .before .before .before .before .before .args in let s = imageIn (layoutOf (a .kind)) (a .x .now) 0 in
+returns c = let a = c .before .before .before .before .before .before .before .before .args in let s = imageIn (layoutOf (a .kind)) (a .x .now) 0 in
     let n = length-imageIn (layoutOf (a .kind)) (a .x .now) 0 in
     c .before .loop .inv .1 ∙ paste-done (a .out .now) (a .d) s (c .before .loop .i) (omega (arith, n, c .before .before .base-size .ensures))
 
@@ -92,6 +95,7 @@ put-image-spec =
     Inv-loop
     μ-loop
     counts-more-requires
+    counts-newer-requires
     masks-of-requires
     base-size-requires
     loop-holds

@@ -1,9 +1,13 @@
 use Rattle.layout_images.specs.Masks.{masksFor}
-use Rattle.table.specs.FixedLayouts.{layoutOf, header, control, host, hfi, ssns, security, discovery, info, extended, noKind}
+use Rattle.table.specs.FixedLayouts.{layoutOf, header, control, host, hfi, ssns, security, discovery, extended, hfiExtended, noKind}
 use mathlib.Core.Path.{refl}
 use Rattle.table.proofs.Rules.{picks}
+use borrow.Author.Needs.{needs}
 use Rattle.layout_images.proofs.masks.masks_of.Statement.{statement}
 use Rattle.layout_images.proofs.masks.masks_of.Tie as tie
+
+info-masks-requires : tie.Need-info-masks-requires
+info-masks-requires c κs = search needs
 
 returns : tie.Need-returns
 unfolding masksFor layoutOf header
@@ -38,16 +42,15 @@ unfolding masksFor layoutOf discovery
 returns-8 c = rw (c .match .keys7) refl
 
 returns-9 : tie.Need-returns-9
-unfolding masksFor layoutOf info
-returns-9 c = rw (c .before .match .keys8, c .if2 .taken) refl
+returns-9 c = rw (c .before .match .keys8) (c .info-masks .ensures)
 
 returns-10 : tie.Need-returns-10
-unfolding masksFor layoutOf info
-returns-10 c = rw (c .before .match .keys8, c .if2 .left) refl
+unfolding masksFor layoutOf extended
+returns-10 c = rw (c .match .keys9) refl
 
 returns-11 : tie.Need-returns-11
-unfolding masksFor layoutOf extended
-returns-11 c = rw (c .match .keys9) refl
+unfolding masksFor layoutOf hfiExtended
+returns-11 c = rw (c .match .keys10) refl
 
 returns-12 : tie.Need-returns-12
 unfolding masksFor layoutOf noKind
@@ -57,6 +60,7 @@ pub masks-of-spec : {M : Type 1} → statement M
 masks-of-spec =
     tie.close
     (tie.spec
+    info-masks-requires
     returns
     returns-2
     returns-3

@@ -1,5 +1,5 @@
 use Rattle.reads_seats.specs.Seats.{heapRecord}
-use Rattle.table.specs.FixedLayouts.{layoutOf, hfi, ssns}
+use Rattle.table.specs.FixedLayouts.{layoutOf, hfi, ssns, info}
 use native.Mathlib.Omega.{arith}
 use Rattle.table.proofs.Rules.{picks}
 use Rattle.reads_seats.proofs.seats.inner_seat.Statement.{statement}
@@ -13,6 +13,10 @@ extended-seat-requires : tie.Need-extended-seat-requires
 unfolding layoutOf ssns
 extended-seat-requires c κs = omega (arith, rw (c .match .keys2) at (c .before .before .pre))
 
+identity-seat-requires : tie.Need-identity-seat-requires
+unfolding layoutOf info
+identity-seat-requires c κs = omega (arith, rw (c .match .keys3) at (c .before .before .pre))
+
 returns : tie.Need-returns
 unfolding heapRecord
 returns c = search picks
@@ -23,8 +27,12 @@ returns-2 c = rw (c .before .match .keys2) (c .extended-seat .ensures)
 
 returns-3 : tie.Need-returns-3
 unfolding heapRecord
-returns-3 c = search picks
+returns-3 c = rw (c .before .match .keys3) (c .identity-seat .ensures)
+
+returns-4 : tie.Need-returns-4
+unfolding heapRecord
+returns-4 c = search picks
 
 pub inner-seat-spec : {M : Type 1} → statement M
 inner-seat-spec =
-    tie.close (tie.spec heap-seat-requires extended-seat-requires returns returns-2 returns-3)
+    tie.close (tie.spec heap-seat-requires extended-seat-requires identity-seat-requires returns returns-2 returns-3 returns-4)

@@ -2,7 +2,7 @@ use Rattle.table.specs.declared.Region.{Region}
 use Rattle.reads_seats.proofs.Laws.{single-is, owned-is}
 use Rattle.reader.proofs.AcceptedLaws.{laid}
 use Rattle.table.specs.Reads.{seatOf, heapSeat}
-use Rattle.table.specs.FixedLayouts.{layoutOf, header, control, host, hfi, ssns, security, discovery, info, extended}
+use Rattle.table.specs.FixedLayouts.{layoutOf, header, control, host, hfi, ssns, security, discovery, info, extended, hfiExtended}
 use lib.Dec.{lit≤}
 use native.Mathlib.Omega.{arith}
 use mathlib.Core.Path.{ap, _∙_}
@@ -53,27 +53,26 @@ list-seat-requires-4 c κs =
     let l = laid (start .args .t .now) (start .pre) in
     (lit≤ tt, lit≤ tt, omega (arith, l .lent), l .discovery)
 
+info-seat-requires : tie.Need-info-seat-requires
+info-seat-requires c κs = c .before .before .pre
+
 list-seat-requires-5 : tie.Need-list-seat-requires-5
-unfolding layoutOf hfi
-list-seat-requires-5 c κs =
-    let start = c .before .before in
-    let l = laid (start .args .t .now) (start .pre) in
-    (lit≤ tt, lit≤ tt, omega (arith, l .lent), l .hfi)
-
-owned-seat-requires : tie.Need-owned-seat-requires
-unfolding layoutOf hfi
-owned-seat-requires c κs = c .list-seat5 .ensures .1
-
-list-seat-requires-6 : tie.Need-list-seat-requires-6
 unfolding layoutOf ssns
-list-seat-requires-6 c κs =
+list-seat-requires-5 c κs =
     let start = c .before .before in
     let l = laid (start .args .t .now) (start .pre) in
     (lit≤ tt, lit≤ tt, omega (arith, l .lent), l .ssns)
 
-owned-seat-requires-2 : tie.Need-owned-seat-requires-2
+owned-seat-requires : tie.Need-owned-seat-requires
 unfolding layoutOf ssns
-owned-seat-requires-2 c κs = c .list-seat6 .ensures .1
+owned-seat-requires c κs = c .list-seat5 .ensures .1
+
+info-seat-requires-2 : tie.Need-info-seat-requires-2
+info-seat-requires-2 c κs = c .before .before .pre
+
+owned-seat-requires-2 : tie.Need-owned-seat-requires-2
+unfolding layoutOf info
+owned-seat-requires-2 c κs = c .info-seat2 .ensures .1
 
 returns : tie.Need-returns
 unfolding seatOf layoutOf
@@ -105,24 +104,28 @@ unfolding seatOf layoutOf
 returns-7 c = rw (c .before .match .keys7) (c .list-seat4 .ensures .0)
 
 returns-8 : tie.Need-returns-8
-unfolding seatOf layoutOf
-returns-8 c =
-    let start = c .before .before .before .before in
-    rw (c .before .before .match .keys8, c .owned-seat .ensures) (owned-is (start .args .t .now) 3
-    (c .before .list-seat5 .result)
-    ∙ ap (heapSeat info 16 (start .args .t .now)) (c .before .list-seat5 .ensures .0))
+unfolding layoutOf
+returns-8 c = rw (c .before .match .keys8) (c .info-seat .ensures .0)
 
 returns-9 : tie.Need-returns-9
 unfolding seatOf layoutOf
 returns-9 c =
     let start = c .before .before .before .before in
-    rw (c .before .before .match .keys9, c .owned-seat2 .ensures) (owned-is (start .args .t .now) 4
-    (c .before .list-seat6 .result)
-    ∙ ap (heapSeat extended 60 (start .args .t .now)) (c .before .list-seat6 .ensures .0))
+    rw (c .before .before .match .keys9, c .owned-seat .ensures) (owned-is (start .args .t .now) 4
+    (c .before .list-seat5 .result)
+    ∙ ap (heapSeat extended 60 (start .args .t .now)) (c .before .list-seat5 .ensures .0))
 
 returns-10 : tie.Need-returns-10
+unfolding seatOf layoutOf
+returns-10 c =
+    let start = c .before .before .before .before in
+    rw (c .before .before .match .keys10, c .owned-seat2 .ensures) (owned-is (start .args .t .now) 7
+    (c .before .info-seat2 .result)
+    ∙ ap (heapSeat hfiExtended 110 (start .args .t .now)) (c .before .info-seat2 .ensures .0))
+
+returns-11 : tie.Need-returns-11
 unfolding seatOf
-returns-10 c = search picks
+returns-11 c = search picks
 
 pub seat-of-spec : {M : Type 1} → statement M
 seat-of-spec =
@@ -136,9 +139,10 @@ seat-of-spec =
     list-seat-requires-2
     list-seat-requires-3
     list-seat-requires-4
+    info-seat-requires
     list-seat-requires-5
     owned-seat-requires
-    list-seat-requires-6
+    info-seat-requires-2
     owned-seat-requires-2
     returns
     returns-2
@@ -149,4 +153,5 @@ seat-of-spec =
     returns-7
     returns-8
     returns-9
-    returns-10)
+    returns-10
+    returns-11)

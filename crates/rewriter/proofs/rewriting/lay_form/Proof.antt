@@ -3,7 +3,7 @@ use Rattle.rewriter_objects.specs.Laid.{laid}
 use Rattle.reads_seats.specs.Told.{toldEntry}
 use Rattle.laws.specs.ListWalk.{base-small}
 use Rattle.laws.specs.Fields.{Bytes}
-use Rattle.table.specs.Meaning.{meaning, laidOut}
+use Rattle.table.specs.Meaning.{meaning, minorOf, laidOut}
 use Rattle.table.specs.Objects.{sizeEntry, recEntry, heapEntry}
 use Rattle.table.specs.FixedLayouts.{layoutOf, host}
 use Rattle.table.specs.Layout.{Entry}
@@ -121,7 +121,7 @@ returns c =
           (f .last .0) h d (omega (arith, z .0)) (omega (arith, z .1, s .pre .3)) (e .ensures .1) (f .ensures))
           (p .ensures .1 ∙ ap (λ (v : ℕ). laid (f .last .0) 128 (recEntry v own) v (heapEntry v own)) hb)
           (p .ensures .0 ∙ ap (λ (v : ℕ). v + sizeEntry own) hb) (at2 .lay-lists .ensures)
-          ∙ ap (λ (k : ℕ). splice x 0 (laidOut (meaning t) n 0 k)) (z .2),
+          ∙ ap (λ (k : ℕ). splice x 0 (laidOut (meaning t) n 0 k (minorOf (meaning t)))) (z .2),
     )
 
 pub lay-form-spec : {M : Type 1} → statement M

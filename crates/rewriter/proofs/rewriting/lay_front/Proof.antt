@@ -19,18 +19,23 @@ count-byte-requires-4 c κs = search needs
 oem-requires : tie.Need-oem-requires
 oem-requires c κs = search needs
 
+form-minor-requires : tie.Need-form-minor-requires
+form-minor-requires c κs = search needs
+
 write-front-requires : tie.Need-write-front-requires
 unfolding heapAt
-write-front-requires c κs = let s = c .before .before .before .before .before .before .before .before in (omega (arith, s .pre .1), c .oem .ensures .1)
+write-front-requires c κs = let s = c .before .before .before .before .before .before .before .before .before in (omega (arith, s .pre .1), c .before .oem .ensures .1)
 
 same-length : tie.Need-same-length
 same-length c = search needs
 
 returns : tie.Need-returns
 returns c =
-    let at5 = c .before .before .before .before .before in
+    let found = c .before .before .before in
+    let at5 = found .before .before .before in
     rw (
-      ← c .before .before .before .oem .ensures .0,
+      ← found .before .oem .ensures .0,
+      ← found .form-minor .ensures,
       ← at5 .before .before .before .count-byte .ensures,
       ← at5 .before .before .count-byte2 .ensures,
       ← at5 .before .count-byte3 .ensures,
@@ -46,6 +51,7 @@ lay-front-spec =
     count-byte-requires-3
     count-byte-requires-4
     oem-requires
+    form-minor-requires
     write-front-requires
     same-length
     returns)

@@ -2,7 +2,7 @@ use Rattle.rewriter.proofs.FormLaws.{sizes-are, signature-here}
 use Rattle.rewriter.proofs.AnswerLaws.{answer-is, read-refused, read-passed, rewrite-refused, rewrite-done, room-passed, take-front, laid-length, sealed}
 use Rattle.reads_seats.proofs.ObjectLaws.{accepted}
 use Rattle.laws.specs.Fields.{Bytes}
-use Rattle.table.specs.Meaning.{limit, meaning, heapLen, laidOut}
+use Rattle.table.specs.Meaning.{limit, meaning, heapLen, minorOf, laidOut}
 use Rattle.table.specs.Rules.{test, firstFail}
 use Rattle.table.specs.Bytes.{part}
 use Rattle.table.specs.declared.Answer.{Answer}
@@ -113,7 +113,7 @@ seal-requires c κs =
     let p = room-passed _ _ (sym (ap (λ (x : Answer). x .number) (o .ensures)) ∙ at5 .before .if2 .left) in
     let w = sizes-are t b ok n (h .result) g (h .ensures .0) in
     let v = signature-here t b ok n (heapLen m) g refl (y .result) (y .ensures .0) in
-    let f = ap (take n) (y .ensures .1) ∙ take-front (laidOut m n 0 (heapLen m)) (a .out .now) n
+    let f = ap (take n) (y .ensures .1) ∙ take-front (laidOut m n 0 (heapLen m) (minorOf m)) (a .out .now) n
     (g ∙ sym (laid-length t b ok n (heapLen m))) in (
       (omega (arith, w .0, w .1), omega (arith, p .1, y .kept .0), ok),
       (omega (arith, v .0, h .ensures .0), ap₂ (λ (x : List ℕ) (i : ℕ). part x i (y .result)) f (h .ensures .0) ∙ v .1),

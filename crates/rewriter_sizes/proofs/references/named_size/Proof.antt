@@ -10,7 +10,7 @@ use Rattle.rewriter_sizes.proofs.references.named_size.Statement.{state
 use Rattle.rewriter_sizes.proofs.references.named_size.Tie as tie
 
 abbrev Inv-loop : tie.InvT-loop
-Inv-loop t kind at refs count total₀ i₀ total i = (i ≤ count) × (Adding t kind at total i) × (total ≤ 400000 * i)
+Inv-loop t kind at refs count total₀ i₀ total i = (i ≤ count) × (Adding t kind at total i) × (total ≤ 2500000 * i)
 
 abbrev μ-loop : tie.MeasureT-loop
 μ-loop t kind at refs count total₀ i₀ total i = count - i

@@ -16,11 +16,11 @@ enum-known-seat c = search needs
 base-size-requires : tie.Need-base-size-requires
 base-size-requires c κs = search needs
 
-objects-size-requires : tie.Need-objects-size-requires
-objects-size-requires c κs = let s = c .before .before .before .before .before .pre in (s .0, rw (c .before .before .seat .given .1) at (s .1), s .2)
+inner-size-requires : tie.Need-inner-size-requires
+inner-size-requires c κs = let s = c .before .before .before .before .before .pre in (s .0, rw (c .before .before .seat .given .1) at (s .1), s .2)
 
 add-result : tie.Need-add-result
-add-result c = omega (arith, c .before .base-size .ensures, base-small (c .before .before .before .before .before .before .args .kind), c .objects-size .ensures .1)
+add-result c = omega (arith, c .before .base-size .ensures, base-small (c .before .before .before .before .before .before .args .kind), c .inner-size .ensures .1)
 
 returns : tie.Need-returns
 unfolding recordPart
@@ -31,9 +31,9 @@ unfolding recordPart
 returns-2 c =
     let k = c .before .before .before .before .before .before .args .kind in
     let b = c .before .base-size .ensures in
-    let o = c .objects-size .ensures in
+    let o = c .inner-size .ensures in
     rw (c .before .before .before .seat .given .1) (omega (arith, b, o .0), omega (arith, b, base-small k, o .1))
 
 pub record-span-spec : {M : Type 1} → statement M
 record-span-spec =
-    tie.close (tie.spec enum-told enum-known-seat base-size-requires objects-size-requires add-result returns returns-2)
+    tie.close (tie.spec enum-told enum-known-seat base-size-requires inner-size-requires add-result returns returns-2)

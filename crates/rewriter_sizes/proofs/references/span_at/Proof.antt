@@ -4,7 +4,7 @@ use Prim.Native.Nat.{ℕ}
 use Rattle.reads_seats.specs.declared.seats.Seat.{Seat}
 use Rattle.reads_seats.proofs.SeatLaws.{record-held}
 use Rattle.rewriter_sizes.specs.Parts.{Part, recordPart}
-use Rattle.rewriter_sizes.proofs.PartLaws.{plain-part, nest-part, inner-plain}
+use Rattle.rewriter_sizes.proofs.PartLaws.{plain-part, nest-part, innermost-plain}
 use borrow.Author.Needs.{needs}
 use Rattle.rewriter_sizes.proofs.references.span_at.Statement.{statement}
 use Rattle.rewriter_sizes.proofs.references.span_at.Tie as tie
@@ -37,7 +37,7 @@ record-span-requires c κs =
     let s = c .before .before .before .before .before in
     let a = s .args in
     rw (c .before .inner-kind .ensures, c .heap-record .ensures)
-    (s .pre .0, record-held (a .t .now) (s .pre .0) (a .at) (a .kind) (refl, s .pre .1), inner-plain (a .kind))
+    (s .pre .0, record-held (a .t .now) (s .pre .0) (a .at) (a .kind) (refl, s .pre .1), innermost-plain (a .kind))
 
 returns-2 : tie.Need-returns-2
 returns-2 c =

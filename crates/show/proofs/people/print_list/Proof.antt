@@ -4,16 +4,22 @@ use Rattle.show.proofs.people.print_list.Statement.{statement}
 use Rattle.show.proofs.people.print_list.Tie as tie
 
 abbrev Inv-loop : tie.InvT-loop
-Inv-loop t heading kind count i₀ i = 0 ≤ i
+Inv-loop t heading kind count n i₀ i = 0 ≤ i
 
 abbrev μ-loop : tie.MeasureT-loop
-μ-loop t heading kind count i₀ i = count - i
+μ-loop t heading kind count n i₀ i = count - i
 
 count-of-requires : tie.Need-count-of-requires Inv-loop μ-loop
 count-of-requires c κs = search picks
 
 returns : tie.Need-returns Inv-loop μ-loop
 returns c = search picks
+
+has-identities-requires : tie.Need-has-identities-requires Inv-loop μ-loop
+has-identities-requires c κs = search picks
+
+people-count-requires : tie.Need-people-count-requires Inv-loop μ-loop
+people-count-requires c κs = search picks
 
 print-heading-requires : tie.Need-print-heading-requires Inv-loop μ-loop
 print-heading-requires c κs = search picks
@@ -47,6 +53,8 @@ print-list-spec =
     μ-loop
     count-of-requires
     returns
+    has-identities-requires
+    people-count-requires
     print-heading-requires
     loop-holds
     add-print-position

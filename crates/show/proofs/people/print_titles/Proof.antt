@@ -9,9 +9,6 @@ Inv-loop kind n i₀ t4 t5 i = 0 ≤ i
 abbrev μ-loop : tie.MeasureT-loop
 μ-loop kind n i₀ t4 t5 i = n - i
 
-column-count-requires : tie.Need-column-count-requires Inv-loop μ-loop
-column-count-requires c κs = search picks
-
 loop-holds : tie.Need-loop-holds Inv-loop μ-loop
 loop-holds c = search picks
 
@@ -48,7 +45,6 @@ print-titles-spec =
     (tie.spec
     Inv-loop
     μ-loop
-    column-count-requires
     loop-holds
     slice-aggregate-print-bytes
     print-bytes-requires
