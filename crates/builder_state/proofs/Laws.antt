@@ -26,14 +26,6 @@ none s k a b c d = rw (ne-eqb k 3 a, ne-eqb k 4 b, ne-eqb k 5 c, ne-eqb k 6 d) r
 pub in-list-is : (s : State) (n : ℕ) → n ≡ countOf listKinds (counts s) (s .turn) → 1 ≤ s .position → leb (s .position) n ≡ inList s
 in-list-is s n e p = ap (leb (s .position)) e ∙ ap (λ (b : Bool). b && leb (s .position) (countOf listKinds (counts s) (s .turn))) (sym (le-leb 1 (s .position) p))
 
-pub not-true : (p : Bool) → not p ≡ true → p ≡ false
-not-true true e = sym e
-not-true false e = refl
-
-pub not-false : (p : Bool) → not p ≡ false → p ≡ true
-not-false true e = refl
-not-false false e = sym e
-
 -- what a state that waits says of its position
 pub in-list-upto : (s : State) → inList s ≡ true → s .position ≤ countOf listKinds (counts s) (s .turn)
 in-list-upto s e =

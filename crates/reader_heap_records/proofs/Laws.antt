@@ -22,14 +22,6 @@ use Rattle.layout_flags.proofs.Laws.{identity-flags}
 use Rattle.reader_heap_records.specs.HeapRecords.{spot, soundBy, infoRight, identityRight, ownNeed, ownFault, ownFaults, identityFault}
 use Rattle.laws.specs.FieldTests.{right-chain}
 
-pub not-true : (b : Bool) → not b ≡ true → b ≡ false
-not-true true e = sym e
-not-true false e = refl
-
-pub not-false : (b : Bool) → not b ≡ false → b ≡ true
-not-false true e = refl
-not-false false e = sym e
-
 -- ---- its own fields
 
 module _ (x : List ℕ) (pos : ℕ) (b : Bytes x) where

@@ -25,7 +25,7 @@ use Rattle.reader_rules.specs.Rules.{IsHeap, refFault}
 use Rattle.reader_references.specs.References.{partIn}
 use Rattle.reader_heap_records.specs.HeapRecords.{spot, identityBy, identityFault, infoFault, infoFaults, infoPart}
 use Rattle.layout_needs.specs.Needs.{ssnsNeed, plainNeed}
-use Rattle.layout_needs.proofs.Laws.{ssns-need}
+use Rattle.layout_needs.proofs.Laws.{ssns-need, info-need}
 
 -- ---- an object in the heap
 
@@ -154,10 +154,6 @@ at-identity : (heap : Region) (t : List ℕ) (a pos : ℕ) (img : List ℕ) (q :
     ≡ ruleAt heap (envIn t pos) t a img (info .refs) q
 unfolding ruleAt info
 at-identity heap t a pos img q e = rw (eqb-true q 110 e) refl
-
-info-need : (img : List ℕ) (q : ℕ) → eqb q 110 ≡ false → plainNeed 7 q ≡ needAt q (info .refs) img
-unfolding plainNeed info
-info-need img q e = rw e refl
 
 at-object : (heap : Region) (t : List ℕ) (a pos : ℕ) (img : List ℕ) (q : ℕ) → eqb q 110 ≡ false
     → refRule heap (plainNeed 7 q) (referenceAt t (a + q) .at) (referenceAt t (a + q) .len) ≡ ruleAt heap (envIn t pos) t a img (info .refs) q

@@ -15,7 +15,7 @@ use Rattle.table.specs.declared.Need.the-variants.{Ignored, Optional, Required}
 use Rattle.table.specs.declared.Place.{Place}
 use Rattle.table.specs.Bytes.{pick, num}
 use Rattle.table.specs.Layout.{Layout, Env, Refs, none, plain, nest, baseOf, referenceAt}
-use Rattle.table.specs.FixedLayouts.{layoutOf, header, control, host, hfi, ssns, security, discovery, info, extended, hfiExtended, noKind, whenIs}
+use Rattle.table.specs.FixedLayouts.{layoutOf, header, control, host, hfi, ssns, security, discovery, info, extended, hfiExtended, noKind}
 use Rattle.table.specs.Objects.{under}
 use Rattle.table.specs.Rules.{answer, done, refRule, plainRule, refsRule}
 use Rattle.table.specs.Numbers.{heapIn, check}
@@ -26,6 +26,7 @@ use Rattle.laws.specs.ListWalk.{by-layout}
 use Rattle.laws.specs.Builds.{check-zero}
 use Rattle.bytes_wire.proofs.Laws.{num4}
 use Rattle.layout_needs.specs.Needs.{plainNeed}
+use Rattle.layout_needs.proofs.Laws.{info-need}
 use Rattle.reader.specs.Accepted.{Accepted}
 use Rattle.reader.proofs.AcceptedLaws.{laid}
 use Rattle.layout_images.proofs.Laws.{by-kind, other-layout}
@@ -73,12 +74,12 @@ no-plain : (k q : ℕ) (img : List ℕ) → (layoutOf k .refs ≡ none) → hasP
 no-plain k q img e h = absurd (none-plain q none tt (sym (ap (hasPlain q) e) ∙ h))
 
 -- an info's object is its host name
-info-need : (q : ℕ) (img : List ℕ) → hasPlain q (info .refs) ≡ true → plainNeed 7 q ≡ needAt q (info .refs) img
-unfolding plainNeed info
-info-need q img h = go (eqb q 104) h where
-  go : (c : Bool) → pick c true false ≡ true → pick c Optional Ignored ≡ pick c Optional (pick (eqb q 110) (whenIs 3 2 img) Ignored)
-  go true e = refl
-  go false e = absurd (true≢false (sym e))
+info-object : (q : ℕ) → hasPlain q (info .refs) ≡ true → eqb q 110 ≡ false
+unfolding info
+info-object q h = go (eqb q 104) refl h where
+  go : (c : Bool) → eqb q 104 ≡ c → pick c true false ≡ true → eqb q 110 ≡ false
+  go true e g = rw (eqb-true q 104 e) refl
+  go false e g = absurd (true≢false (sym g))
 
 pub plain-need : (q : ℕ) (img : List ℕ) (k : ℕ) → (k ≡ 4 → ⊥) → (k ≡ 5 → ⊥) → (k ≡ 10 → ⊥) → hasPlain q (layoutOf k .refs) ≡ true → plainNeed k q ≡ needAt q (layoutOf k .refs) img
 unfolding layoutOf plainNeed header control host hfi discovery extended noKind
@@ -91,7 +92,7 @@ plain-need q img =
     (λ a b d h. absurd (a refl))
     (λ a b d h. absurd (b refl))
     (λ a b d h. refl)
-    (λ a b d h. info-need q img h)
+    (λ a b d h. info-need img q (info-object q h))
     (λ a b d h. refl)
     (λ a b d h. absurd (d refl))
     (λ k o a b d h. no-plain k q img (ap (λ (l : Layout). l .refs) (other-layout k o)) h)

@@ -5,7 +5,7 @@ use mathlib.Core.List.{[], _∷_}
 use lib.ListN.{length}
 use Prim.Native.Nat.{_+_}
 use Rattle.builder_record.proofs.LayLaws.{step-is}
-use Rattle.builder_state.proofs.Laws.{not-true, not-false}
+use borrow.Author.Tests.{not-true, not-false}
 use Rattle.table.specs.declared.State.{State}
 use Rattle.table.specs.declared.Answer.{Answer}
 use mathlib.Core.Path.{sym, ap, _∙_}

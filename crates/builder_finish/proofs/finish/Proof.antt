@@ -1,10 +1,9 @@
 use Rattle.builder_finish.proofs.EndLaws.{finish-early, finish-short, finish-refused, finish-done}
 use Rattle.table.specs.Builder.{sealed}
 use Rattle.table.specs.Bytes.{pick}
-use borrow.Author.Tests.{eq-eqb, ne-eqb}
+use borrow.Author.Tests.{not-true, not-false, eq-eqb, ne-eqb}
 use mathlib.Core.Bool.{Bool}
 use Rattle.builder_record.proofs.LayLaws.{step-is}
-use Rattle.builder_state.proofs.Laws.{not-true, not-false}
 use Rattle.table.specs.declared.State.{State}
 use Rattle.table.specs.declared.Answer.{Answer}
 use mathlib.Core.Path.{sym, ap, _∙_}

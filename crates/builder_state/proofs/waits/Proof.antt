@@ -1,7 +1,7 @@
 use mathlib.Core.Path.{refl}
-use borrow.Author.Tests.{ne-eqb}
+use borrow.Author.Tests.{not-true, not-false, ne-eqb}
 use Rattle.table.specs.Builder.{waits}
-use Rattle.builder_state.proofs.Laws.{not-true, not-false, not-in-place, too-low, too-high, waits-for}
+use Rattle.builder_state.proofs.Laws.{not-in-place, too-low, too-high, waits-for}
 use native.Mathlib.Omega.{arith}
 use borrow.Author.Needs.{needs}
 use Rattle.builder_state.proofs.waits.Statement.{statement}

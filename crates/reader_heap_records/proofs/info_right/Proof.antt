@@ -3,8 +3,7 @@ use mathlib.Core.Path.{_≡_, refl, sym, _∙_}
 use mathlib.Core.Bool.{true, _||_}
 use Prim.Native.Nat.{_/_, _%_}
 use lib.Dec.{eqb}
-use borrow.Author.Tests.{eq-eqb, ne-eqb}
-use Rattle.reader_heap_records.proofs.Laws.{not-true, not-false}
+use borrow.Author.Tests.{not-true, not-false, eq-eqb, ne-eqb}
 use borrow.Author.Needs.{needs}
 use Rattle.reader_heap_records.proofs.info_right.Statement.{statement}
 use Rattle.reader_heap_records.proofs.info_right.Tie as tie

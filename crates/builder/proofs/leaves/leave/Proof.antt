@@ -1,6 +1,7 @@
 use Rattle.builder.proofs.LeaveLaws.{leave-early, leave-nowhere, leave-short, leave-done}
 use Rattle.builder_record.proofs.LayLaws.{step-is}
-use Rattle.builder_state.proofs.Laws.{in-limit, used-bounds, not-true, not-false}
+use borrow.Author.Tests.{not-true, not-false}
+use Rattle.builder_state.proofs.Laws.{in-limit, used-bounds}
 use Rattle.table.specs.declared.State.{State}
 use Rattle.table.specs.declared.Answer.{Answer}
 use mathlib.Core.Path.{sym, ap, ap₂, _∙_}

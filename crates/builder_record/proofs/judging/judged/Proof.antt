@@ -8,7 +8,7 @@ use Rattle.table.specs.Rules.{answer}
 use Rattle.table.specs.Builder.{waits}
 use Rattle.laws.specs.Fields.{imageIn}
 use Rattle.laws.specs.RecordKinds.{kind-of}
-use Rattle.builder_state.proofs.Laws.{not-true, not-false}
+use borrow.Author.Tests.{not-true, not-false}
 use Rattle.builder_record.proofs.JudgeLaws.{out-of-turn, wrong-pair, own-fault, wrong-object, no-fault}
 use borrow.Author.Needs.{needs}
 use Rattle.builder_record.proofs.judging.judged.Statement.{statement}
