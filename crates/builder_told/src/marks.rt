@@ -49,8 +49,8 @@ fn stamp(bytes: &mut [u8], kind: u8, position: usize)
         }
         // Byte 3, the version of its transport info, stays as told: both versions can be.
         Info::ID => {
-            let lead = [Info::ID, 1, 3];
-            copy_into(bytes, 0, &lead);
+            let info_lead = [Info::ID, 1, 3];
+            copy_into(bytes, 0, &info_lead);
             put_u16(bytes, 4, position);
         }
         // The extended infos of SSNS and HFI begin alike.
