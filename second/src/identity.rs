@@ -2,8 +2,8 @@
 //! the DHCP server.
 
 use crate::answer::number;
-use crate::record::{Bytes, Number, Objects, Record, Target};
-use crate::wire::{bit, put, put_u16, set_bit, u16_at, u32_at};
+use crate::record::{is_extended, stamp_extended, Bytes, Number, Objects, Record, Target};
+use crate::wire::{bit, set_bit, u32_at};
 
 /// The IP origin of an address that DHCP gave.
 pub const DHCP_ORIGIN: u8 = 3;
@@ -25,13 +25,6 @@ pub struct Client<'a> {
 
 impl<'a> Identity<'a> {
     pub const CLIENT_BIT: u32 = 1;
-
-    fn is_identified(bytes: &[u8], position: u16) -> bool {
-        bytes[0] == Self::ID
-            && bytes[1] == 1
-            && u16_at(bytes, 2) == position
-            && Self::is_valid(bytes)
-    }
 
     fn names_a_client(bytes: &[u8]) -> bool {
         bit(u32_at(bytes, 4), Self::CLIENT_BIT)
@@ -69,13 +62,11 @@ impl<'a> Record<'a> for Identity<'a> {
     const VALID_AT: usize = 4;
 
     fn stamp(bytes: &mut [u8], position: u16) {
-        put(bytes, 0, &[Self::ID, 1]);
-        put_u16(bytes, 2, position);
-        set_bit(bytes, 4, 0, true);
+        stamp_extended::<Self>(bytes, position);
     }
 
     fn read(bytes: &[u8], position: u16, objects: &dyn Objects<'a>) -> Result<Self, Number> {
-        if bytes.len() < Self::SIZE || !Self::is_identified(bytes, position) {
+        if !is_extended::<Self>(bytes, position) {
             return Err(number::HEAP_RECORD);
         }
         let client = match Self::names_a_client(bytes) {

@@ -5,7 +5,7 @@ use crate::frame::Frame;
 use crate::identity::Identity;
 use crate::interface::Info;
 use crate::subsystem::Extended;
-use crate::wire::{u16_at, u32_at};
+use crate::wire::{put, put_u16, set_bit, u16_at, u32_at};
 use std::borrow::Cow;
 
 /// An object's bytes: borrowed from a table, or made up by a generator.
@@ -115,6 +115,23 @@ pub trait Record<'a>: Sized {
     fn is_valid(bytes: &[u8]) -> bool {
         bytes[Self::VALID_AT] & 1 == 1
     }
+}
+
+/// The extended infos of a subsystem and of an interface begin alike: ID,
+/// version, the owner's position.
+pub fn stamp_extended<'a, R: Record<'a>>(bytes: &mut [u8], position: u16) {
+    put(bytes, 0, &[R::ID, 1]);
+    put_u16(bytes, 2, position);
+    set_bit(bytes, R::VALID_AT, 0, true);
+}
+
+/// Whether these bytes are such a record, whole, valid and of this owner.
+pub fn is_extended<'a, R: Record<'a>>(bytes: &[u8], position: u16) -> bool {
+    bytes.len() >= R::SIZE
+        && bytes[0] == R::ID
+        && bytes[1] == 1
+        && u16_at(bytes, 2) == position
+        && R::is_valid(bytes)
 }
 
 /// The heap bytes that belong to a record.

@@ -4,7 +4,7 @@ use crate::answer::number;
 use crate::discovery::Discovery;
 use crate::frame::Frame;
 use crate::interface::Interface;
-use crate::record::{Bytes, Number, Objects, Record, Target, TCP};
+use crate::record::{is_extended, stamp_extended, Bytes, Number, Objects, Record, Target, TCP};
 use crate::security::Security;
 use crate::wire::{
     array_at, bit, put, put_u16, put_u32, set_bit, set_two_bits, two_bits, u16_at, u32_at,
@@ -186,18 +186,11 @@ impl<'a> Record<'a> for Extended<'a> {
     const VALID_AT: usize = 4;
 
     fn stamp(bytes: &mut [u8], position: u16) {
-        put(bytes, 0, &[Self::ID, 1]);
-        put_u16(bytes, 2, position);
-        set_bit(bytes, 4, 0, true);
+        stamp_extended::<Self>(bytes, position);
     }
 
     fn read(bytes: &[u8], position: u16, objects: &dyn Objects<'a>) -> Result<Self, Number> {
-        let good = bytes.len() >= Self::SIZE
-            && bytes[0] == Self::ID
-            && bytes[1] == 1
-            && u16_at(bytes, 2) == position
-            && Self::is_valid(bytes);
-        if !good {
+        if !is_extended::<Self>(bytes, position) {
             return Err(number::HEAP_RECORD);
         }
         Ok(Extended {
