@@ -361,7 +361,8 @@ list-step buf x c l k y told b′ z d t put p =
     ss : Slots (l .refs)
     ss = toldSlots (s .position) img told
 
-    go : Progress buf x → Passed l s (length b) img ss → Progress buf (record { state = next s (sizeOf ss) (l .newer ss); buffer = placed b (placeOf s l) (s .used) img ss; told = withLists (x .told) b′ })
+    go : Progress buf x → Passed l s (length b) img ss
+        → Progress buf (record { state = next s (sizeOf ss) (l .newer ss); buffer = placed b (placeOf s l) (s .used) img ss; told = withLists (x .told) b′ })
     go (fresh q r) P = absurd (clash (l .kind) 0 (sym (turn-is s (l .kind) (P .turnIs)) ∙ turn-of q) (k .notEmpty))
     go (over q) P = absurd (clash (l .kind) finished (sym (turn-is s (l .kind) (P .turnIs)) ∙ q .turnIs) (k .notFinished))
     go (going o) P =

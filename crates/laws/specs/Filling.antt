@@ -222,7 +222,8 @@ unfolding fillAnswer
 fill-passed l s space img ss e =
     let n : ℕ = slotsRule (envOf s) img ss in
     let p = all-pass
-    (test (waits s (l .kind)) 15 0 0 ∷ test (pairsRight (l .shape) img) 10 (l .kind) (s .position) ∷ test (nestsRight img ss) 12 (l .kind) (s .position) ∷ test (eqb n 0) n (l .kind) (s .position) ∷ roomTests (s .used + sizeOf ss) space)
+    (test (waits s (l .kind)) 15 0 0 ∷ test (pairsRight (l .shape) img) 10 (l .kind) (s .position) ∷ test (nestsRight img ss) 12 (l .kind) (s .position)
+    ∷ test (eqb n 0) n (l .kind) (s .position) ∷ roomTests (s .used + sizeOf ss) space)
     (yes-and (not (eqb n 0) || eqb n 0) true (self-numbered n) tt) e in
     record {
       turnIs = p .0;

@@ -39,7 +39,8 @@ raw-flag : (l : Layout) (t : List ℕ) (a : ℕ) → T (ltb (l .shape .flags .at
 unfolding imageIn
 raw-flag l t a k u =
     ap (λ (z : ℕ). eqb (z % 2) 1) (image-at (l .shape .keep) (drop a t) (l .shape .flags .at) (ltb→lt _ _ k))
-    ∙ ap (λ (z : ℕ). eqb z 1) (mod-mod-of-dvd 2 (getD (drop a t) (l .shape .flags .at) 0) (dvd-of-mod-eq-zero 2 (eqb→eq (modOf (getD (l .shape .keep) (l .shape .flags .at) (low 1)) (drop a t) % 2) 0 u)))
+    ∙ ap (λ (z : ℕ). eqb z 1) (mod-mod-of-dvd 2 (getD (drop a t) (l .shape .flags .at) 0)
+    (dvd-of-mod-eq-zero 2 (eqb→eq (modOf (getD (l .shape .keep) (l .shape .flags .at) (low 1)) (drop a t) % 2) 0 u)))
     ∙ ap (λ (z : ℕ). eqb (z % 2) 1) (getD-drop a t (l .shape .flags .at) 0)
 
 -- the layouts whose valid bit stands so: one computed test

@@ -1,11 +1,12 @@
 -- Laws of what is laid: stores into a record, references and what they name one behind the other. Assumes nothing.
 use mathlib.Core.Path.{_≡_, refl, sym, ap, ap₂, subst, _∙_}
-use mathlib.Core.Bool.{true}
-use mathlib.Core.List.{List, [], _∷_, _++_}
+use mathlib.Core.Bool.{true, false}
+use mathlib.Core.List.{List, [], _∷_, _++_, append-nil}
 use Prim.Native.Nat.{ℕ, suc, _+_, _≤_, _<_}
+use native.Mathlib.Nat.{add-zero}
 use native.Mathlib.Numerals.{add-one}
 use native.Mathlib.Omega.{arith}
-use lib.ListN.{length, getD, drop, length-drop}
+use lib.ListN.{length, getD, drop, length-drop, length-append, List·getD-append}
 use lib.Seq.{drop-cons, drop-length, getD-drop}
 use Rattle.table.specs.Bytes.{splice, part, Edit, apply}
 use Rattle.table.specs.Layout.{baseOf}
@@ -20,12 +21,13 @@ use Rattle.bytes_writer.proofs.StoreLaws.{splice-join, splice-none, splice-swap
 use Rattle.bytes_writer.proofs.RecordLaws.{length-ref}
 use Rattle.reader.specs.Accepted.{Accepted}
 use Rattle.reads_seats.specs.declared.seats.Seat.the-variants.{At}
-use Rattle.reads_seats.specs.Seats.{Seated}
+use Rattle.reads_seats.specs.Seats.{Seated, heapRecord}
+use Rattle.reads_seats.specs.Told.{innerKind}
 use Rattle.reads_seats.proofs.SlotLaws.{objectAt}
-use Rattle.rewriter_sizes.specs.Parts.{Part, refsOf, slotsIn, partAt, recordPart, bytesAt, recordBytes, spansOver, storesOver, objectsOver}
-use Rattle.rewriter_sizes.proofs.PartLaws.{sized-all, stored-all, heaped-all, plain-part, plain-bytes, spans-more, spans-done}
+use Rattle.rewriter_sizes.specs.Parts.{Part, refsOf, objectsOf, heldOf, slotsIn, partAt, recordPart, bytesAt, recordBytes, spansOver, storesOver, objectsOver}
+use Rattle.rewriter_sizes.proofs.PartLaws.{stored-all, heaped-all, plain-part, nest-part, plain-bytes, nest-bytes, refs-split, refs-objects, spans-more, spans-done, spans-held, sized-split}
 use Rattle.rewriter_sizes.proofs.LengthLaws.{patched-long, bytes-long}
-use Rattle.rewriter_objects.specs.Laid.{laid, applyAt, named}
+use Rattle.rewriter_objects.specs.Laid.{laid, applyAt, named, laidOver}
 
 -- ---- stores into a record that is laid
 
@@ -70,89 +72,144 @@ module _ (t : List ℕ) (k a : ℕ) where
       let g : q + 6 ≤ m = f 0 (omega arith) in
       (omega (arith, l, g), stores-below qs m (λ i b. f (suc i) (omega arith)) (h + partAt t k a q .span))
 
-  -- all of kind k, from number i on
-  pub refs-below : (i h : ℕ) → Below (baseOf (layoutOf k)) (storesOver t k a h (drop i (refsOf k)))
-  refs-below i h =
-      stores-below (drop i (refsOf k)) (baseOf (layoutOf k)) (λ j b. rw (getD-drop i (refsOf k) j 0) (refs-within k (i + j) (omega (arith, b, length-drop i (refsOf k))))) h
+  abbrev base : ℕ
+  base = baseOf (layoutOf k)
 
-  -- what is left to lay from number i on: references in the record at d, and from h on what they name
-  abbrev toGo : List ℕ → ℕ → ℕ → ℕ → List ℕ
-  toGo x d h i = splice (applyAt x d (storesOver t k a h (drop i (refsOf k)))) h (objectsOver t k a h (drop i (refsOf k)))
+  -- the references at ps stand in a record of kind k
+  abbrev pub Within : List ℕ → Type 0
+  Within ps = (i : ℕ) → i < length ps → getD ps i 0 + 6 ≤ base
 
-  -- a walk over the references that began with x₀, and has laid those before number i
-  abbrev pub Walk : List ℕ → ℕ → ℕ → List ℕ → ℕ → ℕ → Type 0
-  Walk x₀ d u x h i = (h + spansOver t k a (drop i (refsOf k)) ≡ u + spansOver t k a (refsOf k)) × (u ≤ h) × (length x ≡ length x₀) × (toGo x d h i ≡ toGo x₀ d u 0)
+  within-rest : (p : ℕ) (ps : List ℕ) → Within (p ∷ ps) → Within ps
+  within-rest p ps f i h = f (suc i) (omega arith)
+
+  pub within-drop : (ps : List ℕ) (n : ℕ) → Within ps → Within (drop n ps)
+  within-drop ps n f i h = rw (getD-drop n ps i 0) (f (n + i) (omega (arith, h, length-drop n ps)))
+
+  abbrev over : List ℕ → ℕ → ℕ → List ℕ → List ℕ
+  over x d h ps = laidOver x d h t k a ps
+
+  -- a walk over the references at ps that began with x₀, and has laid those before number i
+  abbrev pub Walk : List ℕ → List ℕ → ℕ → ℕ → List ℕ → ℕ → ℕ → Type 0
+  Walk ps x₀ d u x h i = (h + spansOver t k a (drop i ps) ≡ u + spansOver t k a ps) × (u ≤ h) × (length x ≡ length x₀) × (over x d h (drop i ps) ≡ over x₀ d u ps)
+
+  pub over-none : (x : List ℕ) (d h : ℕ) → over x d h [] ≡ x
+  unfolding applyAt storesOver objectsOver
+  over-none x d h = sym (splice-none x h)
+
+  -- the same of no references
+  pub over-empty : (ps : List ℕ) → length ps ≡ 0 → (x : List ℕ) (d h : ℕ) → (h ≡ h + spansOver t k a ps) × (x ≡ over x d h ps)
+  unfolding spansOver
+  over-empty [] e x d h = (sym (add-zero h), sym (over-none x d h))
+  over-empty (p ∷ ps) e x d h = absurd (omega (arith, e))
+
+  pub over-one : (x : List ℕ) (d h p : ℕ) → over x d h (p ∷ []) ≡ laid x (d + p) (refNum h (partAt t k a p .len)) h (bytesAt t k a h p)
+  unfolding applyAt storesOver objectsOver
+  over-one x d h p = ap (splice (splice x (d + p) (refNum h (partAt t k a p .len))) h) (append-nil (bytesAt t k a h p))
 
 module _ (t : List ℕ) (ok : Accepted t) (k a : ℕ) (s : Seated t (layoutOf k) a true) where
-  go-more : (x : List ℕ) (d h i : ℕ)
-      → i < length (refsOf k)
-      →
-      let p = getD (refsOf k) i 0 in
-      let w = partAt t k a p .span in
-      toGo t k a x d h i
-      ≡ splice (applyAt (splice x (d + p) (refNum h (partAt t k a p .len))) d
-      (storesOver t k a (h + w) (drop (i + 1) (refsOf k)))) h
-      (bytesAt t k a h p ++ objectsOver t k a (h + w) (drop (i + 1) (refsOf k)))
+  -- one more: y is what the reference at p left of x
+  over-more : (p : ℕ) (ps : List ℕ) → Within t k a (p ∷ ps) → (x y : List ℕ) (d h u : ℕ) → let w = partAt t k a p .span in
+      d + base t k a ≤ h → h + w ≤ length x → u ≡ h + w → y ≡ laid x (d + p) (refNum h (partAt t k a p .len)) h (bytesAt t k a h p) → over t k a y d u ps ≡ over t k a x d h (p ∷ ps)
   unfolding applyAt storesOver objectsOver
-  go-more x d h i l =
-      ap (λ (qs : List ℕ). splice (applyAt x d (storesOver t k a h qs)) h (objectsOver t k a h qs))
-      (drop-cons (refsOf k) i 0 l ∙ ap (λ (j : ℕ). getD (refsOf k) i 0 ∷ drop j (refsOf k)) (sym (add-one i)))
-
-  -- a turn: y is what the reference number i left of x
-  named-turn : (x y : List ℕ) (d h i u : ℕ) → i < length (refsOf k) → let p = getD (refsOf k) i 0 in let w = partAt t k a p .span in
-      d + baseOf (layoutOf k) ≤ h → h + w ≤ length x → u ≡ h + w → y ≡ laid x (d + p) (refNum h (partAt t k a p .len)) h (bytesAt t k a h p) → toGo t k a y d u (i + 1) ≡ toGo t k a x d h i
-  named-turn x y d h i u l below room eu ey =
-      let p : ℕ = getD (refsOf k) i 0 in
+  over-more p ps f x y d h u below room eu ey =
       let w : ℕ = partAt t k a p .span in
       let r : List ℕ = refNum h (partAt t k a p .len) in
       let x₁ : List ℕ = splice x (d + p) r in
-      let es : List Edit = storesOver t k a (h + w) (drop (i + 1) (refsOf k)) in
-      let os : List ℕ = objectsOver t k a (h + w) (drop (i + 1) (refsOf k)) in
+      let es : List Edit = storesOver t k a (h + w) ps in
+      let os : List ℕ = objectsOver t k a (h + w) ps in
       let lr : length r ≡ 6 = length-ref h (partAt t k a p .len) in
       let lb : length (bytesAt t k a h p) ≡ w = bytes-long t ok k a s h p in
-      let wi : p + 6 ≤ baseOf (layoutOf k) = refs-within k i l in
+      let wi : p + 6 ≤ base t k a = f 0 (omega arith) in
       let l₁ : length x₁ ≡ length x = length-splice x (d + p) r (omega (arith, lr, wi)) in
-      let be = refs-below t k a (i + 1) (h + w) in
-      let l₂ : length (applyAt x₁ d es) ≡ length x₁ = length-at es x₁ d (baseOf (layoutOf k)) be (omega (arith, l₁)) in
-      ap₂ (λ (v : ℕ) (z : List ℕ). splice (applyAt z d (storesOver t k a v (drop (i + 1) (refsOf k)))) v (objectsOver t k a v (drop (i + 1) (refsOf k)))) eu ey
-      ∙ ap (λ (z : List ℕ). splice z (h + w) os) (at-swap es x₁ d (baseOf (layoutOf k)) h (bytesAt t k a h p) be below (omega (arith, l₁, lb)))
+      let be = stores-below t k a ps (base t k a) (within-rest t k a p ps f) (h + w) in
+      let l₂ : length (applyAt x₁ d es) ≡ length x₁ = length-at es x₁ d (base t k a) be (omega (arith, l₁)) in
+      ap₂ (λ (v : ℕ) (z : List ℕ). over t k a z d v ps) eu ey
+      ∙ ap (λ (z : List ℕ). splice z (h + w) os) (at-swap es x₁ d (base t k a) h (bytesAt t k a h p) be below (omega (arith, l₁, lb)))
       ∙ ap (λ (v : ℕ). splice (splice (applyAt x₁ d es) h (bytesAt t k a h p)) (h + v) os) (sym lb)
       ∙ splice-join (applyAt x₁ d es) h (bytesAt t k a h p) os (omega (arith, l₁, l₂, lb))
-      ∙ sym (go-more x d h i l)
 
-  go-done : (x : List ℕ) (d h : ℕ) → toGo t k a x d h (length (refsOf k)) ≡ x
-  unfolding applyAt storesOver objectsOver
-  go-done x d h = ap (λ (qs : List ℕ). splice (applyAt x d (storesOver t k a h qs)) h (objectsOver t k a h qs)) (drop-length (refsOf k)) ∙ sym (splice-none x h)
+  -- those at ps, and behind them those at qs
+  over-join : (ps qs : List ℕ) → Within t k a (ps ++ qs) → (x : List ℕ) (d h : ℕ) → d + base t k a ≤ h → h + spansOver t k a ps ≤ length x
+      → over t k a (over t k a x d h ps) d (h + spansOver t k a ps) qs ≡ over t k a x d h (ps ++ qs)
+  unfolding spansOver
+  over-join [] qs f x d h below room = ap₂ (λ (y : List ℕ) (u : ℕ). over t k a y d u qs) (over-none t k a x d h) (add-zero h)
+  over-join (p ∷ ps) qs f x d h below room =
+      let w : ℕ = partAt t k a p .span in
+      let r : List ℕ = refNum h (partAt t k a p .len) in
+      let x₁ : List ℕ = laid x (d + p) r h (bytesAt t k a h p) in
+      let lr : length r ≡ 6 = length-ref h (partAt t k a p .len) in
+      let lb : length (bytesAt t k a h p) ≡ w = bytes-long t ok k a s h p in
+      let wi : p + 6 ≤ base t k a = f 0 (omega arith) in
+      let l₀ : length (splice x (d + p) r) ≡ length x = length-splice x (d + p) r (omega (arith, lr, wi)) in
+      let l₁ : length x₁ ≡ length x = length-splice (splice x (d + p) r) h (bytesAt t k a h p) (omega (arith, lb, l₀)) ∙ l₀ in
+      let g : Within t k a (p ∷ ps) = λ i b. subst (λ (n : ℕ). n + 6 ≤ base t k a) (List·getD-append (p ∷ ps) qs 0 i b) (f i (omega (arith, b, length-append (p ∷ ps) qs))) in
+      let e : h + (w + spansOver t k a ps) ≡ h + w + spansOver t k a ps = omega arith in
+      ap₂ (λ (y : List ℕ) (u : ℕ). over t k a y d u qs) (sym (over-more p ps g x x₁ d h (h + w) below (omega arith) refl refl)) e
+      ∙ over-join ps qs (within-rest t k a p (ps ++ qs) f) x₁ d (h + w) (omega arith) (omega (arith, l₁))
+      ∙ over-more p (ps ++ qs) f x x₁ d h (h + w) below (omega arith) refl refl
 
   -- all of them
-  go-all : (x : List ℕ) (d h : ℕ) → toGo t k a x d h 0 ≡ named x d h (slotsIn (layoutOf k) t a)
-  go-all x d h = ap₂ (λ (es : List Edit) (g : List ℕ). splice (applyAt x d es) h g) (sym (stored-all t ok k a s h)) (sym (heaped-all t ok k a s h))
+  over-all : (x : List ℕ) (d h : ℕ) → over t k a x d h (refsOf k) ≡ named x d h (slotsIn (layoutOf k) t a)
+  over-all x d h = ap₂ (λ (es : List Edit) (g : List ℕ). splice (applyAt x d es) h g) (sym (stored-all t ok k a s h)) (sym (heaped-all t ok k a s h))
 
-  -- the walk: room for the next reference's part, a turn, and its end
-  module _ (x₀ : List ℕ) (d u : ℕ) (low : d + baseOf (layoutOf k) ≤ u) (room : u + sizeOf (slotsIn (layoutOf k) t a) ≤ length x₀) (x : List ℕ) (h i : ℕ) (w : Walk t k a x₀ d u x h i) where
-    module _ (p : ℕ) (l : i < length (refsOf k)) (o : p ≡ getD (refsOf k) i 0) where
-      pub walk-room : (d + p + 6 ≤ h) × (h + partAt t k a p .span ≤ length x)
-      walk-room =
-          let m = spans-more t k a (refsOf k) i l in
-          let v = ap (λ (q : ℕ). partAt t k a q .span) o in
-          let z = sized-all t ok k a s in
-          (omega (arith, refs-within k i l, o, w .1), omega (arith, w .0, w .2, m, v, z))
+  -- the objects first, then the heap record
+  pub named-join : (x : List ℕ) (d h : ℕ) → d + base t k a ≤ h → h + spansOver t k a (objectsOf k) ≤ length x
+      → over t k a (over t k a x d h (objectsOf k)) d (h + spansOver t k a (objectsOf k)) (heldOf k) ≡ named x d h (slotsIn (layoutOf k) t a)
+  named-join x d h below room =
+      over-join (objectsOf k) (heldOf k) (subst (Within t k a) (refs-split k) (refs-within k)) x d h below room
+      ∙ ap (over t k a x d h) (sym (refs-split k))
+      ∙ over-all x d h
 
-      pub walk-turn : (y : List ℕ) (v : ℕ) → v ≡ h + partAt t k a p .span → length y ≡ length x
-          → y ≡ laid x (d + p) (refNum h (partAt t k a p .len)) h (bytesAt t k a h p) → Walk t k a x₀ d u y v (i + 1)
-      walk-turn y v ev ly ey =
-          let m = spans-more t k a (refsOf k) i l in
-          let e : v ≡ h + partAt t k a (getD (refsOf k) i 0) .span = ev ∙ ap (λ (q : ℕ). h + partAt t k a q .span) o in
-          let f = ey ∙ ap (λ (q : ℕ). laid x (d + q) (refNum h (partAt t k a q .len)) h (bytesAt t k a h q)) o in
-          let r = walk-room .1 in
-          let g = ap (λ (q : ℕ). partAt t k a q .span) o in
-          (omega (arith, w .0, m, e), omega (arith, ev, w .1), ly ∙ w .2, named-turn x y d h i v l (omega (arith, w .1)) (omega (arith, r, g)) e f ∙ w .3)
+  -- the objects alone, where it names nothing else
+  pub named-objects : heldOf k ≡ [] → (x : List ℕ) (d h : ℕ) → over t k a x d h (objectsOf k) ≡ named x d h (slotsIn (layoutOf k) t a)
+  named-objects e x d h = ap (over t k a x d h) (sym (refs-objects k e)) ∙ over-all x d h
 
-    pub walk-done : i ≡ length (refsOf k) → (h ≡ u + sizeOf (slotsIn (layoutOf k) t a)) × (x ≡ named x₀ d u (slotsIn (layoutOf k) t a))
-    walk-done e = (
-      omega (arith, rw e at (w .0), spans-done t k a (refsOf k), sized-all t ok k a s),
-      sym (ap (toGo t k a x d h) e ∙ go-done x d h) ∙ w .3 ∙ go-all x₀ d u,
-    )
+  pub objects-within : Within t k a (objectsOf k)
+  objects-within i b =
+      let l = ap length (refs-split k) ∙ length-append (objectsOf k) (heldOf k) in
+      let e = ap (λ (ps : List ℕ). getD ps i 0) (refs-split k) ∙ List·getD-append (objectsOf k) (heldOf k) 0 i b in
+      subst (λ (n : ℕ). n + 6 ≤ base t k a) e (refs-within k i (omega (arith, b, l)))
+
+  -- the heap record alone, whose reference stands at p
+  pub over-held : (p : ℕ) → hasPlain p (layoutOf k .refs) ≡ false → (x y : List ℕ) (d h r : ℕ) → let q = recordPart t (innerKind k) (heapRecord t k a) in
+      r ≡ h + q .span → y ≡ laid x (d + p) (refNum h (q .len)) h (recordBytes t (innerKind k) h (heapRecord t k a))
+      → (r ≡ h + spansOver t k a (p ∷ [])) × (y ≡ over t k a x d h (p ∷ []))
+  over-held p e x y d h r er ey = (
+    er ∙ ap (λ (n : ℕ). h + n) (sym (spans-held t ok k a s p e)),
+    ey
+        ∙ sym (over-one t k a x d h p
+        ∙ ap₂ (λ (q : Part) (g : List ℕ). laid x (d + p) (refNum h (q .len)) h g) (nest-part t ok k a s p e) (nest-bytes t ok k a s h p e)),
+  )
+
+  -- a walk over the references at ps: room for the next one's part, a turn, and its end
+  module _ (ps : List ℕ) (f : Within t k a ps) where
+    module _ (x₀ : List ℕ) (d u : ℕ) (low : d + base t k a ≤ u) (room : u + spansOver t k a ps ≤ length x₀) (x : List ℕ) (h i : ℕ) (w : Walk t k a ps x₀ d u x h i) where
+      module _ (p : ℕ) (l : i < length ps) (o : p ≡ getD ps i 0) where
+        pub walk-room : (d + p + 6 ≤ h) × (h + partAt t k a p .span ≤ length x)
+        walk-room =
+            let m = spans-more t k a ps i l in
+            let v = ap (λ (q : ℕ). partAt t k a q .span) o in
+            (omega (arith, f i l, o, w .1), omega (arith, w .0, w .2, m, v))
+
+        pub walk-turn : (y : List ℕ) (v : ℕ) → v ≡ h + partAt t k a p .span → length y ≡ length x
+            → y ≡ laid x (d + p) (refNum h (partAt t k a p .len)) h (bytesAt t k a h p) → Walk t k a ps x₀ d u y v (i + 1)
+        walk-turn y v ev ly ey =
+            let m = spans-more t k a ps i l in
+            let e : drop i ps ≡ p ∷ drop (i + 1) ps = drop-cons ps i 0 l ∙ ap₂ (λ (q j : ℕ). q ∷ drop j ps) (sym o) (sym (add-one i)) in
+            let g = ap (λ (q : ℕ). partAt t k a q .span) o in (
+              omega (arith, w .0, m, ev, g),
+              omega (arith, ev, w .1),
+              ly ∙ w .2,
+              over-more p (drop (i + 1) ps) (subst (Within t k a) e (within-drop t k a ps i f)) x y d h v (omega (arith, w .1)) (walk-room .1) ev ey
+                  ∙ ap (over t k a x d h) (sym e)
+                  ∙ w .3,
+            )
+
+      pub walk-done : i ≡ length ps → (h ≡ u + spansOver t k a ps) × (x ≡ laidOver x₀ d u t k a ps)
+      walk-done e = (
+        omega (arith, rw e at (w .0), spans-done t k a ps),
+        sym (ap (over t k a x d h) (ap (λ (n : ℕ). drop n ps) e ∙ drop-length ps) ∙ over-none t k a x d h) ∙ w .3,
+      )
 
   -- a record: its image first
   pub record-laid : (x : List ℕ) (d h : ℕ) → d + baseOf (layoutOf k) ≤ length x
@@ -163,7 +220,20 @@ module _ (t : List ℕ) (ok : Accepted t) (k a : ℕ) (s : Seated t (layoutOf k)
       let l : length y ≡ baseOf (layoutOf k) = length-imageIn (layoutOf k) t a in
       let e = stored-all t ok k a s h in
       at-inside (stores h (slotsIn (layoutOf k) t a)) x d y (subst (λ (es : List Edit). Below (length y) es) (sym e)
-      (subst (λ (n : ℕ). Below n (storesOver t k a h (refsOf k))) (sym l) (refs-below t k a 0 h))) (omega (arith, l))
+      (subst (λ (n : ℕ). Below n (storesOver t k a h (refsOf k))) (sym l) (stores-below t k a (refsOf k) (base t k a) (refs-within k) h))) (omega (arith, l))
+
+  -- then its objects, then its heap record
+  pub used-laid : (x y z v : List ℕ) (d h u : ℕ) → d + base t k a ≤ h → h + sizeOf (slotsIn (layoutOf k) t a) ≤ length x
+      → y ≡ splice x d (imageIn (layoutOf k) t a) → u ≡ h + spansOver t k a (objectsOf k) → z ≡ over t k a y d h (objectsOf k) → v ≡ over t k a z d u (heldOf k)
+      → v ≡ laid x d (patched h (imageIn (layoutOf k) t a) (slotsIn (layoutOf k) t a)) h (heapOf h (slotsIn (layoutOf k) t a))
+  used-laid x y z v d h u below room ey eu ez ev =
+      let i : List ℕ = imageIn (layoutOf k) t a in
+      let l : length y ≡ length x = ap length ey ∙ length-splice x d i (omega (arith, length-imageIn (layoutOf k) t a)) in
+      ev
+      ∙ ap₂ (λ (w : List ℕ) (n : ℕ). over t k a w d n (heldOf k)) ez eu
+      ∙ named-join y d h below (omega (arith, l, sized-split t ok k a s))
+      ∙ ap (λ (w : List ℕ). named w d h (slotsIn (layoutOf k) t a)) ey
+      ∙ ap (λ (w : List ℕ). splice w h (heapOf h (slotsIn (layoutOf k) t a))) (record-laid x d h (omega arith))
 
   -- ---- an object
 

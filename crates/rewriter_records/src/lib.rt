@@ -2,7 +2,8 @@
 use bytes_writer::stores::fill_zero;
 use reads_seats::seats::Seat;
 use reads_seats::seats::seat_of;
-use rewriter_objects::lay_reference;
+use rewriter_objects::lay_held;
+use rewriter_objects::lay_objects;
 use rewriter_objects::put_record;
 ghost use mathlib.Core.Path.{_≡_};
 ghost use mathlib.Core.Bool.{true};
@@ -16,25 +17,8 @@ ghost use Rattle.laws.specs.Fields.{imageIn};
 ghost use Rattle.reader.specs.Accepted.{Accepted};
 ghost use Rattle.reads_seats.specs.Seats.{Seated};
 ghost use Rattle.reads_seats.specs.Told.{toldEntry};
-ghost use Rattle.rewriter_sizes.specs.Parts.{slotsIn};
-ghost use Rattle.rewriter_objects.specs.Laid.{laid, named};
-
-// The references of a record in the record laid, and what they name.
-fn lay_named(out: &mut [u8], place: usize, next: usize, t: &[u8], kind: u8, source: usize) -> usize
-    requires { ⌜ Accepted (now t) × Seated (now t) (layoutOf kind) source true ⌝ }
-    requires { ⌜ (place + baseOf (layoutOf kind) ≤ next) × (next + sizeOf (slotsIn (layoutOf kind) (now t) source) ≤ length (now out)) ⌝ }
-    ensures { λ r. ⌜ (r ≡ next + sizeOf (slotsIn (layoutOf kind) (now (t .entry)) source)) × (now (out .exit) ≡ named (now (out .entry)) place next (slotsIn (layoutOf kind) (now (t .entry)) source)) ⌝ }
-{
-    let refs = layout_kinds::reference_offsets(kind);
-    let count = refs.count;
-    let mut cursor = next;
-    let mut i: usize = 0;
-    while i < count {
-        cursor = lay_reference(out, place, cursor, t, kind, source, refs.at[i]);
-        i += 1;
-    }
-    cursor
-}
+ghost use Rattle.rewriter_sizes.specs.Parts.{objectsOf, heldOf, slotsIn, spansOver};
+ghost use Rattle.rewriter_objects.specs.Laid.{laid, laidOver};
 
 // A used record, and what it names.
 fn lay_used(out: &mut [u8], place: usize, next: usize, t: &[u8], kind: u8, source: usize) -> usize
@@ -43,7 +27,8 @@ fn lay_used(out: &mut [u8], place: usize, next: usize, t: &[u8], kind: u8, sourc
     ensures { λ r. ⌜ (r ≡ next + sizeOf (slotsIn (layoutOf kind) (now (t .entry)) source)) × (now (out .exit) ≡ laid (now (out .entry)) place (patched next (imageIn (layoutOf kind) (now (t .entry)) source) (slotsIn (layoutOf kind) (now (t .entry)) source)) next (heapOf next (slotsIn (layoutOf kind) (now (t .entry)) source))) ⌝ }
 {
     put_record(out, place, t, kind, source);
-    lay_named(out, place, next, t, kind, source)
+    let behind = lay_objects(out, place, next, t, kind, source);
+    lay_held(out, place, behind, t, kind, source)
 }
 
 // An unused record is zeros and names nothing.
@@ -80,15 +65,53 @@ pub fn lay_entry(
     }
 }
 
-// The same of a list, by functions of its own: with two callers the walk over references stays a function by itself, of which the compiler
-// then makes a copy for each list, with that kind's constants (docs/PERFORMANCE.md).
+// The same of a list, by functions of its own: with two callers `lay_objects` and `lay_held` stay functions by themselves, of which the compiler
+// then makes a copy for each list, with that kind's constants. A list whose kind names no object, or no heap record, is spared the call, so that
+// the walk over a list stays small enough to be copied (docs/PERFORMANCE.md).
+fn lay_listed_objects(
+    out: &mut [u8],
+    place: usize,
+    next: usize,
+    t: &[u8],
+    kind: u8,
+    source: usize,
+) -> usize
+    requires { ⌜ Accepted (now t) × Seated (now t) (layoutOf kind) source true ⌝ }
+    requires { ⌜ (place + baseOf (layoutOf kind) ≤ next) × (next + spansOver (now t) kind source (objectsOf kind) ≤ length (now out)) ⌝ }
+    ensures { λ r. ⌜ (r ≡ next + spansOver (now (t .entry)) kind source (objectsOf kind)) × (now (out .exit) ≡ laidOver (now (out .entry)) place next (now (t .entry)) kind source (objectsOf kind)) ⌝ }
+{
+    if layout_kinds::object_count(kind) == 0 {
+        return next;
+    }
+    lay_objects(out, place, next, t, kind, source)
+}
+
+fn lay_listed_held(
+    out: &mut [u8],
+    place: usize,
+    next: usize,
+    t: &[u8],
+    kind: u8,
+    source: usize,
+) -> usize
+    requires { ⌜ Accepted (now t) × Seated (now t) (layoutOf kind) source true ⌝ }
+    requires { ⌜ (place + baseOf (layoutOf kind) ≤ next) × (next + spansOver (now t) kind source (heldOf kind) ≤ length (now out)) ⌝ }
+    ensures { λ r. ⌜ (r ≡ next + spansOver (now (t .entry)) kind source (heldOf kind)) × (now (out .exit) ≡ laidOver (now (out .entry)) place next (now (t .entry)) kind source (heldOf kind)) ⌝ }
+{
+    if layout_kinds::held_count(kind) == 0 {
+        return next;
+    }
+    lay_held(out, place, next, t, kind, source)
+}
+
 fn lay_listed(out: &mut [u8], place: usize, next: usize, t: &[u8], kind: u8, source: usize) -> usize
     requires { ⌜ Accepted (now t) × Seated (now t) (layoutOf kind) source true ⌝ }
     requires { ⌜ (place + baseOf (layoutOf kind) ≤ next) × (next + sizeOf (slotsIn (layoutOf kind) (now t) source) ≤ length (now out)) ⌝ }
     ensures { λ r. ⌜ (r ≡ next + sizeOf (slotsIn (layoutOf kind) (now (t .entry)) source)) × (now (out .exit) ≡ laid (now (out .entry)) place (patched next (imageIn (layoutOf kind) (now (t .entry)) source) (slotsIn (layoutOf kind) (now (t .entry)) source)) next (heapOf next (slotsIn (layoutOf kind) (now (t .entry)) source))) ⌝ }
 {
     put_record(out, place, t, kind, source);
-    lay_named(out, place, next, t, kind, source)
+    let behind_objects = lay_listed_objects(out, place, next, t, kind, source);
+    lay_listed_held(out, place, behind_objects, t, kind, source)
 }
 
 // The record at a position of a list.

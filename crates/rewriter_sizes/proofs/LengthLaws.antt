@@ -22,8 +22,8 @@ use Rattle.reads_seats.specs.Seats.{Seated, Good, Held, heapRecord}
 use Rattle.reads_seats.specs.Told.{innerKind, toldEntry}
 use Rattle.reads_seats.proofs.SeatLaws.{seats-good, record-held}
 use Rattle.reads_seats.proofs.EntryLaws.{seated-at, entry-nowhere, entry-off, entry-on}
-use Rattle.rewriter_sizes.specs.Parts.{Part, refsOf, allPlain, slotsIn, recordPart, partAt, recordBytes, bytesAt, spansOver, objectsOver}
-use Rattle.rewriter_sizes.proofs.PartLaws.{object-long, plain-part, nest-part, plain-bytes, nest-bytes, plain-each, innermost-plain, sized-all, heaped-all}
+use Rattle.rewriter_sizes.specs.Parts.{Part, refsOf, objectsOf, heldOf, slotsIn, recordPart, partAt, recordBytes, bytesAt, spansOver, objectsOver}
+use Rattle.rewriter_sizes.proofs.PartLaws.{object-long, plain-part, nest-part, plain-bytes, nest-bytes, plain-each, refs-objects, innermost-flat, sized-all, heaped-all}
 
 refs-ok : (k : ℕ) → T (okRefs 0 (layoutOf k .shape .keep) (layoutOf k .refs))
 unfolding header control host hfi ssns security discovery info extended hfiExtended noKind
@@ -52,8 +52,11 @@ module _ (t : List ℕ) (ok : Accepted t) (k a : ℕ) (s : Seated t (layoutOf k)
       → (h : ℕ) → length (heapOf h (slotsIn (layoutOf k) t a)) ≡ sizeOf (slotsIn (layoutOf k) t a)
   all-long f h = ap length (heaped-all t ok k a s h) ∙ objects-long (refsOf k) f h ∙ sym (sized-all t ok k a s)
 
-  plain-long : allPlain k ≡ true → (h : ℕ) → length (heapOf h (slotsIn (layoutOf k) t a)) ≡ sizeOf (slotsIn (layoutOf k) t a)
-  plain-long o = all-long (λ i b h. plain-bytes-long h (getD (refsOf k) i 0) (plain-each k o i b))
+  plain-long : heldOf k ≡ [] → (h : ℕ) → length (heapOf h (slotsIn (layoutOf k) t a)) ≡ sizeOf (slotsIn (layoutOf k) t a)
+  plain-long o =
+      all-long
+      (subst (λ (ps : List ℕ). (i : ℕ) → i < length ps → (h : ℕ) → length (bytesAt t k a h (getD ps i 0)) ≡ partAt t k a (getD ps i 0) .span) (sym (refs-objects k o))
+      (λ i b h. plain-bytes-long h (getD (objectsOf k) i 0) (plain-each k i b)))
 
 -- ---- a heap record, where what it names takes its size
 
@@ -89,19 +92,19 @@ module _ (t : List ℕ) (ok : Accepted t) (k a : ℕ) (s : Seated t (layoutOf k)
 -- ---- level by level: a heap record that names objects alone, one that names such a one, and any record
 
 module _ (t : List ℕ) (ok : Accepted t) where
-  flat-sized : (k : ℕ) → allPlain k ≡ true → (a : ℕ) → Seated t (layoutOf k) a true → Sized t k a
+  flat-sized : (k : ℕ) → heldOf k ≡ [] → (a : ℕ) → Seated t (layoutOf k) a true → Sized t k a
   flat-sized k o a s = plain-long t ok k a s o
 
-  pub inner-sized : (k : ℕ) → allPlain (innerKind k) ≡ true → (a : ℕ) → Seated t (layoutOf k) a true → Sized t k a
+  inner-sized : (k : ℕ) → heldOf (innerKind k) ≡ [] → (a : ℕ) → Seated t (layoutOf k) a true → Sized t k a
   inner-sized k o a s = all-sized t ok k a s (flat-sized (innerKind k) o)
 
 module _ (t : List ℕ) (ok : Accepted t) (k a : ℕ) (s : Seated t (layoutOf k) a true) where
   -- what a reference names takes its span
   pub bytes-long : (h p : ℕ) → length (bytesAt t k a h p) ≡ partAt t k a p .span
-  bytes-long = named-long t ok k a s (inner-sized t ok (innerKind k) (innermost-plain k))
+  bytes-long = named-long t ok k a s (inner-sized t ok (innerKind k) (innermost-flat k))
 
   pub slots-long : (h : ℕ) → length (heapOf h (slotsIn (layoutOf k) t a)) ≡ sizeOf (slotsIn (layoutOf k) t a)
-  slots-long = all-sized t ok k a s (inner-sized t ok (innerKind k) (innermost-plain k))
+  slots-long = all-sized t ok k a s (inner-sized t ok (innerKind k) (innermost-flat k))
 
 -- ---- the record of a kind and position
 

@@ -1,12 +1,12 @@
 -- What the references of a record name, one after the other, is what its slots say: bytes taken, stores, bytes in the heap. Assumes nothing.
 use mathlib.Core.Path.{_≡_, refl, sym, ap, ap₂, subst, _∙_}
 use mathlib.Core.Bool.{Bool, true, false, _&&_, true≢false}
-use mathlib.Core.List.{List, [], _∷_, _++_}
+use mathlib.Core.List.{List, [], _∷_, _++_, append-nil}
 use Prim.Native.Nat.{ℕ, zero, suc, _+_, _-_, _*_, _≤_, _<_}
 use native.Mathlib.Nat.{add-zero, zero-add, sub-zero, le-trans, mul-le-mul-left, mul-le-mul-right}
 use native.Mathlib.Numerals.{add-one}
 use native.Mathlib.Omega.{arith}
-use lib.ListN.{length, getD, take, drop}
+use lib.ListN.{length, getD, take, drop, length-append, List·getD-append}
 use lib.Seq.{getD-take, drop-cons, drop-length}
 use lib.Dec.{eqb, lit<}
 use Rattle.table.specs.declared.Need.{Need}
@@ -20,6 +20,7 @@ use Rattle.laws.specs.Fields.{Bytes, imageIn}
 use Rattle.laws.specs.ListWalk.{base-small}
 use Rattle.layout_images.proofs.Laws.{by-kind, part-long, other-layout}
 use Rattle.bytes_writer.specs.Stores.{refNum}
+use Rattle.layout_kinds.specs.References.{objectRefs, heldRefs}
 use Rattle.bytes_writer.proofs.RecordLaws.{ref-num, ref-for}
 use Rattle.reader.specs.Accepted.{Accepted}
 use Rattle.reads_seats.specs.declared.seats.Seat.{Seat}
@@ -29,7 +30,7 @@ use Rattle.reads_seats.specs.Told.{innerKind, imageOf, toldEntry, toldList, cou
 use Rattle.reads_seats.proofs.ObjectLaws.{seat-room}
 use Rattle.reads_seats.proofs.MeaningLaws.{told-all}
 use Rattle.reads_seats.proofs.SlotLaws.{objectAt, heldSlot, slotsAt, slots-at}
-use Rattle.rewriter_sizes.specs.Parts.{Part, refsOf, isPlain, allPlain, slotsIn, listOf, listFrom, objectPart, recordPart, partAt, recordBytes, bytesAt, spansOver, storesOver, objectsOver}
+use Rattle.rewriter_sizes.specs.Parts.{Part, refsOf, objectsOf, heldOf, slotsIn, listOf, listFrom, objectPart, recordPart, partAt, recordBytes, bytesAt, spansOver, storesOver, objectsOver}
 
 -- ---- a heap record, or none
 
@@ -158,7 +159,7 @@ module _ (t : List ℕ) (ok : Accepted t) (k a : ℕ) (s : Seated t (layoutOf k)
   unfolding slotsIn
   heaped-all h = ap (heapOf h) (slots-at t k a) ∙ slots-heaped t ok k a s (layoutOf k .refs) (all-fit t ok a k s) h
 
--- ---- kinds whose references are all to objects
+-- ---- references to objects come first, behind them that to a heap record
 
 both-true : (a b : Bool) → (a && b) ≡ true → (a ≡ true) × (b ≡ true)
 both-true true b e = (refl, e)
@@ -169,22 +170,59 @@ every-at g [] e i h = absurd (omega arith)
 every-at g (p ∷ ps) e zero h = both-true (g p) (every g ps) e .0
 every-at g (p ∷ ps) e (suc i) h = every-at g ps (both-true (g p) (every g ps) e .1) i (omega arith)
 
-pub plain-each : (k : ℕ) → allPlain k ≡ true → (i : ℕ) → i < length (refsOf k) → hasPlain (getD (refsOf k) i 0) (layoutOf k .refs) ≡ true
-unfolding allPlain
-plain-each k e = every-at (isPlain k) (refsOf k) e
+-- what holds of every kind, where it can be computed, and of none
+module _ (P : Refs → Type 0) where
+  of-refs : P (layoutOf 0 .refs) → P (layoutOf 1 .refs) → P (layoutOf 2 .refs) → P (layoutOf 3 .refs) → P (layoutOf 4 .refs) → P (layoutOf 5 .refs) → P (layoutOf 6 .refs)
+      → P (layoutOf 7 .refs) → P (layoutOf 9 .refs) → P (layoutOf 10 .refs) → P (noKind .refs) → (k : ℕ) → P (layoutOf k .refs)
+  of-refs p0 p1 p2 p3 p4 p5 p6 p7 p9 p10 p =
+      by-kind (λ k. P (layoutOf k .refs)) p0 p1 p2 p3 p4 p5 p6 p7 p9 p10 (λ k o. subst (λ (l : Layout). P (l .refs)) (sym (other-layout k o)) p)
 
--- what the heap record of a heap record names is such
-pub innermost-plain : (k : ℕ) → allPlain (innerKind (innerKind k)) ≡ true
-unfolding allPlain layoutOf extended hfiExtended
-innermost-plain k = go (eqb k 3) (eqb k 7) where
-  go : (c d : Bool) → allPlain (innerKind (pick c 7 (pick d 10 9))) ≡ true
+pub refs-split : (k : ℕ) → refsOf k ≡ objectsOf k ++ heldOf k
+unfolding layoutOf header control host hfi ssns security discovery info extended hfiExtended noKind
+refs-split = of-refs (λ rs. offsets rs ≡ objectRefs rs ++ heldRefs rs) refl refl refl refl refl refl refl refl refl refl refl
+
+objects-plain : (k : ℕ) → every (λ p. hasPlain p (layoutOf k .refs)) (objectsOf k) ≡ true
+unfolding layoutOf header control host hfi ssns security discovery info extended hfiExtended noKind
+objects-plain = of-refs (λ rs. every (λ p. hasPlain p rs) (objectRefs rs) ≡ true) refl refl refl refl refl refl refl refl refl refl refl
+
+pub plain-each : (k i : ℕ) → i < length (objectsOf k) → hasPlain (getD (objectsOf k) i 0) (layoutOf k .refs) ≡ true
+plain-each k = every-at (λ p. hasPlain p (layoutOf k .refs)) (objectsOf k) (objects-plain k)
+
+-- a kind that names objects alone
+pub refs-objects : (k : ℕ) → heldOf k ≡ [] → refsOf k ≡ objectsOf k
+refs-objects k e = refs-split k ∙ ap (λ (qs : List ℕ). objectsOf k ++ qs) e ∙ append-nil (objectsOf k)
+
+-- such is what the heap record of a heap record names
+pub innermost-flat : (k : ℕ) → heldOf (innerKind (innerKind k)) ≡ []
+unfolding layoutOf extended hfiExtended
+innermost-flat k = go (eqb k 3) (eqb k 7) where
+  go : (c d : Bool) → heldOf (innerKind (pick c 7 (pick d 10 9))) ≡ []
   go true d = refl
   go false true = refl
   go false false = refl
 
--- a reference of the table of offsets
-pub offset-is : (ps full : List ℕ) (n i : ℕ) → take n ps ≡ full → n ≡ length full → i < n → getD ps i 0 ≡ getD full i 0
-offset-is ps full n i e m h = sym (getD-take n ps i 0 h) ∙ ap (λ (l : List ℕ). getD l i 0) e
+-- three kinds name heap records
+pub held-none : (k : ℕ) → (k ≡ 3 → ⊥) → (k ≡ 4 → ⊥) → (k ≡ 7 → ⊥) → heldOf k ≡ []
+unfolding layoutOf header control host hfi ssns security discovery info extended hfiExtended noKind
+held-none =
+    by-kind (λ k. (k ≡ 3 → ⊥) → (k ≡ 4 → ⊥) → (k ≡ 7 → ⊥) → heldOf k ≡ [])
+    (λ n₃ n₄ n₇. refl)
+    (λ n₃ n₄ n₇. refl)
+    (λ n₃ n₄ n₇. refl)
+    (λ n₃ n₄ n₇. absurd (n₃ refl))
+    (λ n₃ n₄ n₇. absurd (n₄ refl))
+    (λ n₃ n₄ n₇. refl)
+    (λ n₃ n₄ n₇. refl)
+    (λ n₃ n₄ n₇. absurd (n₇ refl))
+    (λ n₃ n₄ n₇. refl)
+    (λ n₃ n₄ n₇. refl)
+    (λ k o n₃ n₄ n₇. ap (λ (l : Layout). heldRefs (l .refs)) (other-layout k o))
+
+-- a reference to an object, of the table of offsets
+pub offset-is : (k : ℕ) (ps : List ℕ) (n i : ℕ) → take n ps ≡ refsOf k → i < length (objectsOf k) → n ≡ length (refsOf k) → getD ps i 0 ≡ getD (objectsOf k) i 0
+offset-is k ps n i e h m =
+    let l = ap length (refs-split k) ∙ length-append (objectsOf k) (heldOf k) in
+    sym (getD-take n ps i 0 (omega (arith, l, m, h))) ∙ ap (λ (qs : List ℕ). getD qs i 0) (e ∙ refs-split k) ∙ List·getD-append (objectsOf k) (heldOf k) 0 i h
 
 -- ---- one reference after the other
 
@@ -197,15 +235,38 @@ module _ (t : List ℕ) (k a : ℕ) where
   unfolding spansOver
   spans-done ps = ap (spansOver t k a) (drop-length ps)
 
-  -- a walk over the references has added up those before number i; it goes on with w, that of number i
-  abbrev pub Adding : ℕ → ℕ → Type 0
-  Adding sum i = sum + spansOver t k a (drop i (refsOf k)) ≡ spansOver t k a (refsOf k)
+  pub spans-join : (ps qs : List ℕ) → spansOver t k a (ps ++ qs) ≡ spansOver t k a ps + spansOver t k a qs
+  unfolding spansOver
+  spans-join [] qs = sym (zero-add _)
+  spans-join (p ∷ ps) qs = let e = spans-join ps qs in omega (arith, e)
 
-  pub adding-more : (sum i w p : ℕ) → Adding sum i → i < length (refsOf k) → p ≡ getD (refsOf k) i 0 → w ≡ partAt t k a p .span → Adding (sum + w) (i + 1)
-  adding-more sum i w p e h o q =
-      let m = spans-more (refsOf k) i h in
-      let v : w ≡ partAt t k a (getD (refsOf k) i 0) .span = q ∙ ap (λ (x : ℕ). partAt t k a x .span) o in
+  pub spans-one : (p : ℕ) → spansOver t k a (p ∷ []) ≡ partAt t k a p .span
+  unfolding spansOver
+  spans-one p = add-zero _
+
+  -- a walk over the references at ps has added up those before number i; it goes on with w, that of number i
+  abbrev pub Adding : List ℕ → ℕ → ℕ → Type 0
+  Adding ps sum i = sum + spansOver t k a (drop i ps) ≡ spansOver t k a ps
+
+  pub adding-more : (ps : List ℕ) (sum i w p : ℕ) → Adding ps sum i → i < length ps → p ≡ getD ps i 0 → w ≡ partAt t k a p .span → Adding ps (sum + w) (i + 1)
+  adding-more ps sum i w p e h o q =
+      let m = spans-more ps i h in
+      let v : w ≡ partAt t k a (getD ps i 0) .span = q ∙ ap (λ (x : ℕ). partAt t k a x .span) o in
       omega (arith, e, m, v)
+
+-- that to a heap record, which stands at p
+pub spans-held : (t : List ℕ) (ok : Accepted t) (k a : ℕ) → Seated t (layoutOf k) a true → (p : ℕ) → hasPlain p (layoutOf k .refs) ≡ false
+    → spansOver t k a (p ∷ []) ≡ recordPart t (innerKind k) (heapRecord t k a) .span
+spans-held t ok k a s p e = spans-one t k a p ∙ ap (λ (q : Part). q .span) (nest-part t ok k a s p e)
+
+-- objects and heap record together
+pub sized-split : (t : List ℕ) (ok : Accepted t) (k a : ℕ) → Seated t (layoutOf k) a true
+    → sizeOf (slotsIn (layoutOf k) t a) ≡ spansOver t k a (objectsOf k) + spansOver t k a (heldOf k)
+sized-split t ok k a s = sized-all t ok k a s ∙ ap (spansOver t k a) (refs-split k) ∙ spans-join t k a (objectsOf k) (heldOf k)
+
+-- objects alone
+pub sized-flat : (t : List ℕ) (ok : Accepted t) (k a : ℕ) → Seated t (layoutOf k) a true → heldOf k ≡ [] → sizeOf (slotsIn (layoutOf k) t a) ≡ spansOver t k a (objectsOf k)
+sized-flat t ok k a s e = sized-all t ok k a s ∙ ap (spansOver t k a) (refs-objects k e)
 
 -- ---- a list, position by position
 

@@ -1,14 +1,15 @@
 -- What the references of a record name, as it is to be laid in a heap: where it stands, its length, and the bytes it takes. Definitions only.
-use mathlib.Core.Bool.{Bool, true}
+use mathlib.Core.Bool.{true}
 use mathlib.Core.List.{List, [], _∷_, _++_}
 use Prim.Native.Nat.{ℕ, _+_, _-_}
 use Rattle.table.specs.declared.Place.{Place}
-use Rattle.table.specs.Bytes.{pick, part, every, Edit, edit}
+use Rattle.table.specs.Bytes.{pick, part, Edit, edit}
 use Rattle.table.specs.Layout.{Layout, Slots, Entry, baseOf, offsets}
 use Rattle.table.specs.FixedLayouts.{layoutOf}
 use Rattle.table.specs.Objects.{readSlots, sizeOf, patched, heapOf}
 use Rattle.table.specs.Reads.{seat, hasPlain, placeAt}
 use Rattle.laws.specs.Fields.{imageIn}
+use Rattle.layout_kinds.specs.References.{objectRefs, heldRefs}
 use Rattle.bytes_writer.specs.Stores.{refNum}
 use Rattle.reads_seats.specs.declared.seats.Seat.{Seat}
 use Rattle.reads_seats.specs.declared.seats.Seat.the-variants.{Nowhere, At}
@@ -25,12 +26,12 @@ pub record Part : Type 0 where
 abbrev pub refsOf : ℕ → List ℕ
 refsOf k = offsets (layoutOf k .refs)
 
--- all references of kind k are to objects
-abbrev pub isPlain : ℕ → ℕ → Bool
-isPlain k p = hasPlain p (layoutOf k .refs)
+-- of these, those to objects, and behind them that to a heap record
+abbrev pub objectsOf : ℕ → List ℕ
+objectsOf k = objectRefs (layoutOf k .refs)
 
-unfoldable pub allPlain : ℕ → Bool
-allPlain k = every (isPlain k) (refsOf k)
+abbrev pub heldOf : ℕ → List ℕ
+heldOf k = heldRefs (layoutOf k .refs)
 
 -- the objects and heap records of the record of layout l at a
 unfoldable pub slotsIn : (l : Layout) → List ℕ → ℕ → Slots (l .refs)

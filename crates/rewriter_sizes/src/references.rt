@@ -1,27 +1,30 @@
-// The references of a record of an accepted table: the length of what they name, and how many bytes it takes to lay that anew.
+// The references of a record of an accepted table: the length of what they name, and how many bytes it takes to lay that anew. Those to objects come
+// first; behind them stands that to a heap record, if the kind has one.
 use reads_by_seat::objects::object_len;
 use reads_seats::seats::Seat;
+use reads_seats::seats::heap_record;
 use table::Extended;
 use table::Hfi;
 use table::HfiExtended;
 use table::Info;
+use table::Ssns;
 ghost use mathlib.Core.Path.{_≡_};
 ghost use mathlib.Core.Bool.{true};
+ghost use mathlib.Core.List.{[]};
 ghost use Prim.Native.Nat.{_≤_};
 ghost use Rattle.table.specs.FixedLayouts.{layoutOf};
 ghost use Rattle.table.specs.Objects.{sizeOf};
 ghost use Rattle.reader.specs.Accepted.{Accepted};
 ghost use Rattle.reads_seats.specs.Seats.{Seated, Held};
-ghost use Rattle.reads_seats.specs.Told.{innerKind};
-ghost use Rattle.rewriter_sizes.specs.Parts.{allPlain, slotsIn, recordPart, partAt};
+ghost use Rattle.rewriter_sizes.specs.Parts.{objectsOf, heldOf, slotsIn, recordPart, spansOver};
 
-// The bytes of all objects that a record names; it names nothing else.
+// The bytes of all objects that a record names.
 fn objects_size(t: &[u8], kind: u8, at: usize) -> usize
-    requires { ⌜ Accepted (now t) × Seated (now t) (layoutOf kind) at true × (allPlain kind ≡ true) ⌝ }
-    ensures { λ r. ⌜ (r ≡ sizeOf (slotsIn (layoutOf kind) (now (t .entry)) at)) × (r ≤ 393210) ⌝ }
+    requires { ⌜ Accepted (now t) × Seated (now t) (layoutOf kind) at true ⌝ }
+    ensures { λ r. ⌜ (r ≡ spansOver (now (t .entry)) kind at (objectsOf kind)) × (r ≤ 393210) ⌝ }
 {
     let refs = layout_kinds::reference_offsets(kind);
-    let count = refs.count;
+    let count = layout_kinds::object_count(kind);
     let mut total: usize = 0;
     let mut i: usize = 0;
     while i < count {
@@ -33,7 +36,7 @@ fn objects_size(t: &[u8], kind: u8, at: usize) -> usize
 
 // A heap record that names objects alone, with these, which are laid behind it.
 fn flat_span(t: &[u8], kind: u8, seat: Seat) -> usize
-    requires { ⌜ Accepted (now t) × Held (now t) kind seat × (allPlain kind ≡ true) ⌝ }
+    requires { ⌜ Accepted (now t) × Held (now t) kind seat × (heldOf kind ≡ []) ⌝ }
     ensures { λ r. ⌜ (r ≡ recordPart (now (t .entry)) kind seat .span) × (r ≤ 400000) ⌝ }
 {
     match seat {
@@ -46,89 +49,48 @@ fn flat_span(t: &[u8], kind: u8, seat: Seat) -> usize
     }
 }
 
-// The kind of the heap record that a record of this kind may name.
-pub fn inner_kind(kind: u8) -> u8
-    ensures { λ r. ⌜ r ≡ innerKind kind ⌝ }
+// The HFI extended info that an info names, with its objects.
+fn identity_span(t: &[u8], at: usize) -> usize
+    requires { ⌜ Accepted (now t) × Seated (now t) (layoutOf 7) at true ⌝ }
+    ensures { λ r. ⌜ (r ≡ spansOver (now (t .entry)) 7 at (heldOf 7)) × (r ≤ 400000) ⌝ }
 {
-    match kind {
-        Hfi::ID => Info::ID,
-        Info::ID => HfiExtended::ID,
-        _ => Extended::ID,
-    }
+    flat_span(t, HfiExtended::ID, heap_record(t, Info::ID, at))
 }
 
-// The bytes that what a reference of a heap record names takes, with all that it names itself.
-fn inner_span_at(t: &[u8], kind: u8, at: usize, offset: usize) -> usize
-    requires { ⌜ Accepted (now t) × Seated (now t) (layoutOf kind) at true × (allPlain (innerKind kind) ≡ true) ⌝ }
-    ensures { λ r. ⌜ (r ≡ partAt (now (t .entry)) kind at offset .span) × (r ≤ 400000) ⌝ }
-{
-    if layout_fields::has_object(kind, offset) {
-        return object_len(t, kind, at, offset);
-    }
-    flat_span(
-        t,
-        inner_kind(kind),
-        reads_seats::seats::heap_record(t, kind, at),
-    )
-}
-
-// The bytes of all that a heap record names. The one that it may name itself names objects alone.
-fn inner_size(t: &[u8], kind: u8, at: usize) -> usize
-    requires { ⌜ Accepted (now t) × Seated (now t) (layoutOf kind) at true × (allPlain (innerKind kind) ≡ true) ⌝ }
-    ensures { λ r. ⌜ (r ≡ sizeOf (slotsIn (layoutOf kind) (now (t .entry)) at)) × (r ≤ 2400000) ⌝ }
-{
-    let refs = layout_kinds::reference_offsets(kind);
-    let count = refs.count;
-    let mut total: usize = 0;
-    let mut i: usize = 0;
-    while i < count {
-        total += inner_span_at(t, kind, at, refs.at[i]);
-        i += 1;
-    }
-    total
-}
-// A heap record with all that it names, which is laid behind it.
-fn record_span(t: &[u8], kind: u8, seat: Seat) -> usize
-    requires { ⌜ Accepted (now t) × Held (now t) kind seat × (allPlain (innerKind kind) ≡ true) ⌝ }
-    ensures { λ r. ⌜ (r ≡ recordPart (now (t .entry)) kind seat .span) × (r ≤ 2500000) ⌝ }
+// An info with all that it names.
+fn info_span(t: &[u8], seat: Seat) -> usize
+    requires { ⌜ Accepted (now t) × Held (now t) 7 seat ⌝ }
+    ensures { λ r. ⌜ (r ≡ recordPart (now (t .entry)) 7 seat .span) × (r ≤ 800000) ⌝ }
 {
     match seat {
         Seat::Nowhere => 0,
         Seat::At { at, used } => {
-            let size = layout_kinds::base_size(kind);
-            let named = inner_size(t, kind, at);
-            size + named
+            let objects = objects_size(t, Info::ID, at);
+            let identity = identity_span(t, at);
+            Info::SIZE + objects + identity
         }
     }
 }
 
-// The bytes that what a reference names takes, with all that it names itself.
-fn span_at(t: &[u8], kind: u8, at: usize, offset: usize) -> usize
+// The heap record that a record names, with all that it names itself.
+fn held_span(t: &[u8], kind: u8, at: usize) -> usize
     requires { ⌜ Accepted (now t) × Seated (now t) (layoutOf kind) at true ⌝ }
-    ensures { λ r. ⌜ (r ≡ partAt (now (t .entry)) kind at offset .span) × (r ≤ 2500000) ⌝ }
+    ensures { λ r. ⌜ (r ≡ spansOver (now (t .entry)) kind at (heldOf kind)) × (r ≤ 800000) ⌝ }
 {
-    if layout_fields::has_object(kind, offset) {
-        return object_len(t, kind, at, offset);
+    match kind {
+        Hfi::ID => info_span(t, heap_record(t, Hfi::ID, at)),
+        Ssns::ID => flat_span(t, Extended::ID, heap_record(t, Ssns::ID, at)),
+        Info::ID => identity_span(t, at),
+        _ => 0,
     }
-    record_span(
-        t,
-        inner_kind(kind),
-        reads_seats::seats::heap_record(t, kind, at),
-    )
 }
 
 // The bytes of all that a record names.
 pub fn named_size(t: &[u8], kind: u8, at: usize) -> usize
     requires { ⌜ Accepted (now t) × Seated (now t) (layoutOf kind) at true ⌝ }
-    ensures { λ r. ⌜ (r ≡ sizeOf (slotsIn (layoutOf kind) (now (t .entry)) at)) × (r ≤ 15000000) ⌝ }
+    ensures { λ r. ⌜ (r ≡ sizeOf (slotsIn (layoutOf kind) (now (t .entry)) at)) × (r ≤ 1200000) ⌝ }
 {
-    let refs = layout_kinds::reference_offsets(kind);
-    let count = refs.count;
-    let mut total: usize = 0;
-    let mut i: usize = 0;
-    while i < count {
-        total += span_at(t, kind, at, refs.at[i]);
-        i += 1;
-    }
-    total
+    let objects = objects_size(t, kind, at);
+    let held = held_span(t, kind, at);
+    objects + held
 }

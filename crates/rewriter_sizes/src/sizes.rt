@@ -22,7 +22,7 @@ ghost use Rattle.rewriter_sizes.specs.Parts.{listOf};
 // The heap bytes of the record of a kind and position; an unused one takes none.
 pub fn entry_size(t: &[u8], kind: u8, position: usize) -> usize
     requires { ⌜ Accepted (now t) ⌝ }
-    ensures { λ r. ⌜ (r ≡ sizeEntry (toldEntry (layoutOf kind) (now (t .entry)) kind position)) × (r ≤ 15000000) ⌝ }
+    ensures { λ r. ⌜ (r ≡ sizeEntry (toldEntry (layoutOf kind) (now (t .entry)) kind position)) × (r ≤ 1200000) ⌝ }
 {
     let seat = seat_of(t, kind, position);
     match seat {
@@ -34,7 +34,7 @@ pub fn entry_size(t: &[u8], kind: u8, position: usize) -> usize
 // The same of the list of a kind.
 pub fn list_size(t: &[u8], kind: u8) -> usize
     requires { ⌜ Accepted (now t) ⌝ }
-    ensures { λ r. ⌜ (r ≡ sizeList (listOf (now (t .entry)) kind)) × (r ≤ 3825000000) ⌝ }
+    ensures { λ r. ⌜ (r ≡ sizeList (listOf (now (t .entry)) kind)) × (r ≤ 306000000) ⌝ }
 {
     let count = count_of(t, kind);
     let mut sum: usize = 0;
@@ -70,7 +70,7 @@ pub fn heap_start(t: &[u8]) -> usize
 // How long it is: driver signature, host, lists.
 fn heap_size(t: &[u8]) -> usize
     requires { ⌜ Accepted (now t) ⌝ }
-    ensures { λ r. ⌜ (r ≡ heapLen (meaning (now (t .entry)))) × (r ≤ 15330000000) ⌝ }
+    ensures { λ r. ⌜ (r ≡ heapLen (meaning (now (t .entry)))) × (r ≤ 1226400000) ⌝ }
 {
     let driver = entry_size(t, Header::ID, 0);
     let owner = entry_size(t, Host::ID, 0);
@@ -84,7 +84,7 @@ fn heap_size(t: &[u8]) -> usize
 // The length of the one form.
 pub fn form_length(t: &[u8]) -> usize
     requires { ⌜ Accepted (now t) ⌝ }
-    ensures { λ r. ⌜ (r ≡ formLength (meaning (now (t .entry)))) × (r ≤ 15331000000) ⌝ }
+    ensures { λ r. ⌜ (r ≡ formLength (meaning (now (t .entry)))) × (r ≤ 1226600000) ⌝ }
 {
     heap_start(t) + heap_size(t)
 }

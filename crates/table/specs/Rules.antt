@@ -9,7 +9,8 @@ use Rattle.table.specs.declared.Region.{Region}
 use Rattle.table.specs.declared.Need.{Need}
 use Rattle.table.specs.declared.Need.the-variants.{Ignored, Optional, Required}
 use Rattle.table.specs.Bytes.{pick, num}
-use Rattle.table.specs.Layout.{image, region, referenceAt, namedAt, Content, ruleOf, Shape, Env, env, isValid, isRight, Refs, none, plain, nest, Slots, Layout, baseOf, Entry, unused, used, Body, stop, more}
+use Rattle.table.specs.Layout.{image, region, referenceAt, namedAt, Content, ruleOf, Shape, Env, env, isValid, isRight}
+use Rattle.table.specs.Layout.{Refs, none, plain, nest, Slots, Layout, baseOf, Entry, unused, used, Body, stop, more}
 use Rattle.table.specs.Objects.{under}
 
 abbrev pub answer : ℕ → ℕ → ℕ → Answer

@@ -1,13 +1,6 @@
-use Prim.Native.Nat.{ℕ}
-use mathlib.Core.Path.{ap, _∙_}
-use mathlib.Core.List.{List}
 use native.Mathlib.Omega.{arith}
-use Rattle.table.specs.FixedLayouts.{layoutOf}
-use Rattle.table.specs.Bytes.{splice}
-use Rattle.table.specs.Objects.{stores, heapOf}
-use Rattle.rewriter_sizes.specs.Parts.{slotsIn}
-use Rattle.rewriter_objects.specs.Laid.{applyAt}
-use Rattle.rewriter_objects.proofs.LaidLaws.{record-laid}
+use Rattle.rewriter_sizes.proofs.PartLaws.{sized-split}
+use Rattle.rewriter_objects.proofs.LaidLaws.{used-laid}
 use borrow.Author.Needs.{needs}
 use Rattle.rewriter_records.proofs.lay_used.Statement.{statement}
 use Rattle.rewriter_records.proofs.lay_used.Tie as tie
@@ -15,29 +8,46 @@ use Rattle.rewriter_records.proofs.lay_used.Tie as tie
 put-record-requires : tie.Need-put-record-requires
 put-record-requires c κs = search needs
 
-lay-named-requires : tie.Need-lay-named-requires
-lay-named-requires c κs = search needs
+lay-objects-requires : tie.Need-lay-objects-requires
+lay-objects-requires c κs =
+    let at3 = c .before .before .before in
+    let s = at3 .before .before .before .before in
+    let a = s .args in
+    let z = sized-split (a .t .now) (s .pre .0 .0) (a .kind) (a .source) (s .pre .0 .1) in
+    (s .pre .0, (s .pre .1 .0, omega (arith, s .pre .1, z, at3 .put-record .kept .0)))
+
+lay-held-requires : tie.Need-lay-held-requires
+lay-held-requires c κs =
+    let o = c .before .before .before .lay-objects in
+    let at7 = c .before .before .before .before .before .before .before in
+    let s = at7 .before .before .before .before in
+    let a = s .args in
+    let z = sized-split (a .t .now) (s .pre .0 .0) (a .kind) (a .source) (s .pre .0 .1) in
+    (s .pre .0, (omega (arith, s .pre .1, o .ensures .0), omega (arith, s .pre .1, z, o .ensures .0, o .kept .0, at7 .put-record .kept .0)))
 
 same-length : tie.Need-same-length
 same-length c = search needs
 
 returns : tie.Need-returns
 returns c =
-    let at6 = c .before .before .before .before .before .before in
-    let s = at6 .before .before .before .before in
+    let at2 = c .before .before in
+    let at6 = at2 .before .before .before .before in
+    let at10 = at6 .before .before .before .before in
+    let s = at10 .before .before .before .before in
     let a = s .args in
     let t = a .t .now in
     let k = a .kind in
     let ok = s .pre .0 .0 in
     let d = s .pre .0 .1 in
-    let n = c .before .before .lay-named .ensures in (
-      n .0,
-      n .1
-          ∙ ap (λ (x : List ℕ). splice (applyAt x (a .place) (stores (a .next) (slotsIn (layoutOf k) t (a .source))))
-          (a .next) (heapOf (a .next) (slotsIn (layoutOf k) t (a .source)))) (at6 .put-record .ensures)
-          ∙ ap (λ (x : List ℕ). splice x (a .next) (heapOf (a .next) (slotsIn (layoutOf k) t (a .source))))
-          (record-laid t ok k (a .source) d (a .out .now) (a .place) (a .next) (omega (arith, s .pre .1))),
+    let o = at6 .lay-objects in
+    let h = at2 .lay-held in (
+      omega (arith, h .ensures .0, o .ensures .0, sized-split t ok k (a .source) d),
+      used-laid t ok k (a .source) d (a .out .now) (at10 .put-record .last .0) (o .last .0) (h .last .0) (a .place)
+          (a .next) (o .result) (s .pre .1 .0) (s .pre .1 .1) (at10 .put-record .ensures) (o .ensures .0) (o .ensures .1)
+          (h .ensures .1),
     )
 
 pub lay-used-spec : {M : Type 1} → statement M
-lay-used-spec = tie.close (tie.spec put-record-requires lay-named-requires same-length returns)
+lay-used-spec =
+    tie.close
+    (tie.spec put-record-requires lay-objects-requires lay-held-requires same-length returns)

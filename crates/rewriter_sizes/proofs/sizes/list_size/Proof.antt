@@ -10,7 +10,7 @@ use Rattle.rewriter_sizes.proofs.sizes.list_size.Statement.{statement}
 use Rattle.rewriter_sizes.proofs.sizes.list_size.Tie as tie
 
 abbrev Inv-loop : tie.InvT-loop
-Inv-loop t kind count sum₀ position₀ sum position = (position ≤ count) × (sum + sizeList (listFrom t kind count position) ≡ sizeList (listOf t kind)) × (sum ≤ 15000000 * position)
+Inv-loop t kind count sum₀ position₀ sum position = (position ≤ count) × (sum + sizeList (listFrom t kind count position) ≡ sizeList (listOf t kind)) × (sum ≤ 1200000 * position)
 
 abbrev μ-loop : tie.MeasureT-loop
 μ-loop t kind count sum₀ position₀ sum position = count - position
