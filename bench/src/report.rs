@@ -5,6 +5,7 @@ use crate::stack;
 use crate::tables::{grown, long_heap};
 use crate::turns::{Timed, Times, Turns};
 use linked::builder::Run;
+use second::form;
 use second::frame::GREATEST_LENGTH;
 use second::random::Random;
 use second::retell::{calls, Call};
@@ -86,15 +87,15 @@ fn stacks(table: &[u8], calls: &[Call]) -> [usize; 3] {
 /// What is timed, a table of rows for each call.
 struct Report {
     sums: [Row; 3],
-    checks: [Row; 5],
+    checks: [Row; 6],
     field: Row,
-    rewrites: [Row; 4],
+    rewrites: [Row; 5],
     build: Row,
 }
 
 pub fn print() {
     let (smallest, typical, long) = (samples::smallest(), grown(1), long_heap(60_000));
-    let (half, large) = (grown(28), grown(56));
+    let (half, large, identity) = (grown(28), grown(56), form(&samples::dhcp()));
     let calls = calls(&mut Random::seeded(1), &samples::machine());
     let mut turns = Turns::default();
     let checks = [
@@ -103,13 +104,14 @@ pub fn print() {
         ("60 kB, few records", &long),
         ("30 kB, many records", &half),
         ("60 kB, many records", &large),
+        ("DHCP identity", &identity),
     ]
     .map(|(name, table)| check_row(&mut turns, name, table));
     let report = Report {
         sums: [(&smallest, 0), (&typical, 1), (&long, 2)]
             .map(|(table, check)| sum_row(&mut turns, table, &checks[check])),
         field: field_row(&mut turns, &typical, &checks[1]),
-        rewrites: [(&typical, 1), (&long, 2), (&half, 3), (&large, 4)]
+        rewrites: [(&typical, 1), (&long, 2), (&half, 3), (&large, 4), (&identity, 5)]
             .map(|(table, check)| rewrite_row(&mut turns, table, &checks[check])),
         build: build_row(&mut turns, &calls, &typical, &checks[1]),
         checks,
@@ -127,13 +129,13 @@ impl Report {
         println!("twice the table takes {:.2} times the time", checks[4].to(&checks[3], times));
         println!("a check takes {} bytes of stack", stacks[0]);
         println!("targets: 60 kB with few records at most 1.2 to second and 1.5 to sum");
-        println!("         typical at most 1.5 to second; twice at most 2.2\n");
+        println!("         typical at most 1.5 to second, DHCP identity at most 1; twice at most 2.2\n");
         print_table("field read", ["second", "check"], from_ref(field), times);
         println!();
         print_table("rewrite", ["second", "check"], rewrites, times);
         println!("twice the table takes {:.2} times the time", rewrites[3].to(&rewrites[2], times));
         println!("a rewrite takes {} bytes of stack", stacks[1]);
-        println!("targets: typical and 60 kB at most 3 to check; twice at most 2.2\n");
+        println!("targets: typical and 60 kB at most 3 to check; DHCP identity at most 1 to second; twice at most 2.2\n");
         print_table("build", ["second", "byte sum"], from_ref(build), times);
         println!("a build takes {} bytes of stack", stacks[2]);
     }
