@@ -15,7 +15,7 @@ ghost use Prim.Native.Nat.{_≤_};
 ghost use lib.ListN.{length, take};
 ghost use Rattle.table.specs.Layout.{offsets, baseOf};
 ghost use Rattle.table.specs.FixedLayouts.{layoutOf};
-ghost use Rattle.layout_kinds.specs.References.{objectRefs, heldRefs};
+ghost use Rattle.layout_kinds.specs.References.{objectRefs};
 
 // The one transport type: that of every HFI, SSNS and transport info record.
 pub const TCP: u8 = 3;
@@ -102,25 +102,6 @@ pub fn object_count(kind: u8) -> usize
         Info::ID => 1,
         Extended::ID => 1,
         HfiExtended::ID => 2,
-        _ => 0,
-    }
-}
-
-// How many of them name a heap record: one at most.
-pub fn held_count(kind: u8) -> usize
-    ensures { λ r. ⌜ r ≡ length (heldRefs (layoutOf kind .refs)) ⌝ }
-{
-    match kind {
-        Header::ID => 0,
-        Control::ID => 0,
-        Host::ID => 0,
-        Hfi::ID => 1,
-        Ssns::ID => 1,
-        Security::ID => 0,
-        Discovery::ID => 0,
-        Info::ID => 1,
-        Extended::ID => 0,
-        HfiExtended::ID => 0,
         _ => 0,
     }
 }

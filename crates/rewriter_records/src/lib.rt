@@ -98,7 +98,8 @@ fn lay_listed_held(
     requires { ⌜ (place + baseOf (layoutOf kind) ≤ next) × (next + spansOver (now t) kind source (heldOf kind) ≤ length (now out)) ⌝ }
     ensures { λ r. ⌜ (r ≡ next + spansOver (now (t .entry)) kind source (heldOf kind)) × (now (out .exit) ≡ laidOver (now (out .entry)) place next (now (t .entry)) kind source (heldOf kind)) ⌝ }
 {
-    if layout_kinds::held_count(kind) == 0 {
+    let all = layout_kinds::reference_offsets(kind).count;
+    if all == layout_kinds::object_count(kind) {
         return next;
     }
     lay_held(out, place, next, t, kind, source)

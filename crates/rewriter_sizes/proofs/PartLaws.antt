@@ -1,6 +1,6 @@
 -- What the references of a record name, one after the other, is what its slots say: bytes taken, stores, bytes in the heap. Assumes nothing.
 use mathlib.Core.Path.{_≡_, refl, sym, ap, ap₂, subst, _∙_}
-use mathlib.Core.Bool.{Bool, true, false, _&&_, true≢false}
+use mathlib.Core.Bool.{Bool, true, false}
 use mathlib.Core.List.{List, [], _∷_, _++_, append-nil}
 use Prim.Native.Nat.{ℕ, zero, suc, _+_, _-_, _*_, _≤_, _<_}
 use native.Mathlib.Nat.{add-zero, zero-add, sub-zero, le-trans, mul-le-mul-left, mul-le-mul-right}
@@ -9,8 +9,9 @@ use native.Mathlib.Omega.{arith}
 use lib.ListN.{length, getD, take, drop, length-append, List·getD-append}
 use lib.Seq.{getD-take, drop-cons, drop-length}
 use lib.Dec.{eqb, lit<}
+use borrow.Author.Tests.{eq-eqb}
 use Rattle.table.specs.declared.Need.{Need}
-use Rattle.table.specs.Bytes.{pick, part, every, Edit, edit}
+use Rattle.table.specs.Bytes.{pick, part, Edit, edit}
 use Rattle.table.specs.Layout.{Shape, Layout, Refs, none, plain, nest, Slots, baseOf, offsets}
 use Rattle.table.specs.FixedLayouts.{layoutOf, header, control, host, hfi, ssns, security, discovery, info, extended, hfiExtended, noKind}
 use Rattle.table.specs.Objects.{sizeOf, sizeEntry, sizeList, sizeBody, spanBody, stores, heapOf, ref6}
@@ -161,15 +162,6 @@ module _ (t : List ℕ) (ok : Accepted t) (k a : ℕ) (s : Seated t (layoutOf k)
 
 -- ---- references to objects come first, behind them that to a heap record
 
-both-true : (a b : Bool) → (a && b) ≡ true → (a ≡ true) × (b ≡ true)
-both-true true b e = (refl, e)
-both-true false b e = absurd (true≢false (sym e))
-
-every-at : (g : ℕ → Bool) (ps : List ℕ) → every g ps ≡ true → (i : ℕ) → i < length ps → g (getD ps i 0) ≡ true
-every-at g [] e i h = absurd (omega arith)
-every-at g (p ∷ ps) e zero h = both-true (g p) (every g ps) e .0
-every-at g (p ∷ ps) e (suc i) h = every-at g ps (both-true (g p) (every g ps) e .1) i (omega arith)
-
 -- what holds of every kind, where it can be computed, and of none
 module _ (P : Refs → Type 0) where
   of-refs : P (layoutOf 0 .refs) → P (layoutOf 1 .refs) → P (layoutOf 2 .refs) → P (layoutOf 3 .refs) → P (layoutOf 4 .refs) → P (layoutOf 5 .refs) → P (layoutOf 6 .refs)
@@ -181,12 +173,18 @@ pub refs-split : (k : ℕ) → refsOf k ≡ objectsOf k ++ heldOf k
 unfolding layoutOf header control host hfi ssns security discovery info extended hfiExtended noKind
 refs-split = of-refs (λ rs. offsets rs ≡ objectRefs rs ++ heldRefs rs) refl refl refl refl refl refl refl refl refl refl refl
 
-objects-plain : (k : ℕ) → every (λ p. hasPlain p (layoutOf k .refs)) (objectsOf k) ≡ true
-unfolding layoutOf header control host hfi ssns security discovery info extended hfiExtended noKind
-objects-plain = of-refs (λ rs. every (λ p. hasPlain p rs) (objectRefs rs) ≡ true) refl refl refl refl refl refl refl refl refl refl refl
+-- each of them is plain, whatever the references
+plain-of : (rs : Refs) (i : ℕ) → i < length (objectRefs rs) → hasPlain (getD (objectRefs rs) i 0) rs ≡ true
+plain-of none i h = absurd (omega arith)
+plain-of (plain p need content rest) zero h = rw (eq-eqb p p refl) refl
+plain-of (plain p need content rest) (suc i) h = go (eqb (getD (objectRefs rest) i 0) p) (plain-of rest i (omega arith)) where
+  go : (c : Bool) → hasPlain (getD (objectRefs rest) i 0) rest ≡ true → pick c true (hasPlain (getD (objectRefs rest) i 0) rest) ≡ true
+  go true e = refl
+  go false e = e
+plain-of (nest p need shape own rest) i h = plain-of rest i h
 
 pub plain-each : (k i : ℕ) → i < length (objectsOf k) → hasPlain (getD (objectsOf k) i 0) (layoutOf k .refs) ≡ true
-plain-each k = every-at (λ p. hasPlain p (layoutOf k .refs)) (objectsOf k) (objects-plain k)
+plain-each k = plain-of (layoutOf k .refs)
 
 -- a kind that names objects alone
 pub refs-objects : (k : ℕ) → heldOf k ≡ [] → refsOf k ≡ objectsOf k

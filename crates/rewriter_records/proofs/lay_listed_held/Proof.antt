@@ -1,18 +1,28 @@
-use mathlib.Core.Path.{sym, _∙_}
-use Rattle.rewriter_sizes.specs.Parts.{heldOf}
+use mathlib.Core.Path.{_≡_, ap, _∙_}
+use native.Mathlib.Omega.{arith}
+use lib.ListN.{length, length-append}
+use Rattle.rewriter_sizes.specs.Parts.{objectsOf, heldOf}
+use Rattle.rewriter_sizes.proofs.PartLaws.{refs-split}
 use Rattle.rewriter_objects.proofs.LaidLaws.{over-empty}
 use borrow.Author.Needs.{needs}
 use Rattle.rewriter_records.proofs.lay_listed_held.Statement.{statement}
 use Rattle.rewriter_records.proofs.lay_listed_held.Tie as tie
 
-held-count-requires : tie.Need-held-count-requires
-held-count-requires c κs = search needs
+reference-offsets-requires : tie.Need-reference-offsets-requires
+reference-offsets-requires c κs = search needs
 
+object-count-requires : tie.Need-object-count-requires
+object-count-requires c κs = search needs
+
+-- all references are to objects: that to a heap record is none
 returns : tie.Need-returns
 returns c =
-    let a = c .before .before .before .before .args in
+    let r = c .before .before .reference-offsets .ensures in
+    let a = c .before .before .before .before .before .args in
     let k = a .kind in
-    over-empty (a .t .now) k (a .source) (heldOf k) (sym (c .before .held-count .ensures) ∙ c .if1 .taken) (a .out .now) (a .place) (a .next)
+    let l = ap length (refs-split k) ∙ length-append (objectsOf k) (heldOf k) in
+    let e : length (heldOf k) ≡ 0 = omega (arith, l, r .1, c .before .object-count .ensures .0, c .if1 .taken) in
+    over-empty (a .t .now) k (a .source) (heldOf k) e (a .out .now) (a .place) (a .next)
 
 lay-held-requires : tie.Need-lay-held-requires
 lay-held-requires c κs = search needs
@@ -25,4 +35,4 @@ returns-2 c = search needs
 
 pub lay-listed-held-spec : {M : Type 1} → statement M
 lay-listed-held-spec =
-    tie.close (tie.spec held-count-requires returns lay-held-requires same-length returns-2)
+    tie.close (tie.spec reference-offsets-requires object-count-requires returns lay-held-requires same-length returns-2)
