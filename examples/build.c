@@ -9,7 +9,7 @@
 static uint8_t state[NBFT_STATE_BYTES]; /* all zero: the empty state */
 static uint8_t table[1024];
 
-/* An object: its bytes and their number, as the calls take them. */
+/* An object: its bytes and their number, as the calls take them. Text is told without the zero byte that ends it. */
 #define OBJECT(text) (const uint8_t *)(text), strlen(text)
 
 static uint32_t begin(void)

@@ -31,13 +31,21 @@ static size_t read_whole(const char *name)
     return length;
 }
 
-/* An object is any bytes: what is no printable ASCII is shown by its number. */
-static void print_object(size_t length, uint8_t kind, uint16_t position, uint32_t offset)
+/*
+ * A text comes without the zero byte that ends it. What is no printable ASCII is
+ * shown by its number, and "" says that there is a text and that it is empty.
+ */
+static void print_text(size_t length, uint8_t kind, uint16_t position, uint32_t offset)
 {
+    uint64_t text = nbft_object(table, length, kind, position, offset);
     uint32_t start = nbft_object_start(table, length, kind, position, offset);
-    size_t end = start + NBFT_OBJECT_LENGTH(nbft_object(table, length, kind, position, offset));
+    size_t end = start + NBFT_OBJECT_LENGTH(text);
     size_t at;
 
+    if (!NBFT_OBJECT_PRESENT(text))
+        printf("absent");
+    else if (start == end)
+        printf("\"\"");
     for (at = start; at < end; at++)
         printf(table[at] >= ' ' && table[at] <= '~' ? "%c" : "\\x%02x", table[at]);
 }
@@ -59,7 +67,7 @@ static void print_subsystem(size_t length, uint16_t position)
 
     printf("subsystem %u: ", position);
     if (used) {
-        print_object(length, NBFT_SSNS, position, SSNS_NQN);
+        print_text(length, NBFT_SSNS, position, SSNS_NQN);
         printf(", namespace %" PRIu32, nsid);
     } else {
         printf("unused");
@@ -85,7 +93,7 @@ int main(int count, char **words)
         return 1;
     }
     printf("host: ");
-    print_object(length, NBFT_HOST, 0, HOST_NQN);
+    print_text(length, NBFT_HOST, 0, HOST_NQN);
     putchar('\n');
     subsystems = number_at(length, NBFT_CONTROL_RECORD, 0, COUNT_OF_SSNS, &used);
     for (position = 1; position <= subsystems; position++)

@@ -2,7 +2,7 @@
 //! each beside two more that it is held to.
 
 use crate::stack;
-use crate::tables::{grown, long_heap};
+use crate::tables::{grown, long_heap, shared_text};
 use crate::turns::{Timed, Times, Turns};
 use linked::builder::Run;
 use second::form;
@@ -87,7 +87,7 @@ fn stacks(table: &[u8], calls: &[Call]) -> [usize; 3] {
 /// What is timed, a table of rows for each call.
 struct Report {
     sums: [Row; 3],
-    checks: [Row; 6],
+    checks: [Row; 7],
     field: Row,
     rewrites: [Row; 5],
     build: Row,
@@ -96,6 +96,7 @@ struct Report {
 pub fn print() {
     let (smallest, typical, long) = (samples::smallest(), grown(1), long_heap(60_000));
     let (half, large, identity) = (grown(28), grown(56), form(&samples::dhcp()));
+    let shared = shared_text(16, 40_000);
     let calls = calls(&mut Random::seeded(1), &samples::machine());
     let mut turns = Turns::default();
     let checks = [
@@ -105,6 +106,7 @@ pub fn print() {
         ("30 kB, many records", &half),
         ("60 kB, many records", &large),
         ("DHCP identity", &identity),
+        ("one text, 33 records", &shared),
     ]
     .map(|(name, table)| check_row(&mut turns, name, table));
     let report = Report {

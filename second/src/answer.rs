@@ -20,6 +20,10 @@ pub mod number {
     pub const OUT_OF_TURN: u8 = 15;
     pub const NO_SUCH_FIELD: u8 = 16;
     pub const FORM_TOO_LONG: u8 = 17;
+    pub const TEXT: u8 = 18;
+
+    /// The greatest of them.
+    pub const LAST: u8 = TEXT;
 }
 
 /// The kind of the header, in answers and in reads.

@@ -12,6 +12,7 @@ use crate::record::{Bytes, HeapRecord, Number, Objects, Record};
 use crate::security::Security;
 use crate::state::{State, READY};
 use crate::subsystem::{Extended, Subsystem};
+use crate::text::Text;
 use crate::wire::put;
 use std::borrow::Cow;
 
@@ -43,8 +44,9 @@ pub struct ToldSubsystem<'a> {
     pub root_path: &'a [u8],
 }
 
-/// Objects that a caller tells, each with its reference field's offset, and
-/// the heap record: no record refers to more than one.
+/// Objects that a caller tells, each with its reference field's offset, text
+/// without the zero byte that ends it, and the heap record: no record refers
+/// to more than one.
 #[derive(Clone, Copy)]
 struct Told<'a> {
     objects: &'a [(usize, &'a [u8])],
@@ -58,12 +60,21 @@ impl<'a> Told<'a> {
             heap_record: None,
         }
     }
+
+    /// An empty object is an absent one.
+    fn at(&self, field: usize) -> Option<&'a [u8]> {
+        let told = self.objects.iter().find(|(offset, _)| *offset == field);
+        told.map(|(_, object)| *object).filter(|o| !o.is_empty())
+    }
 }
 
 impl<'a> Objects<'a> for Told<'a> {
     fn optional(&self, field: usize) -> Result<Option<Bytes<'a>>, Number> {
-        let told = self.objects.iter().find(|(offset, _)| *offset == field);
-        told.map_or(Ok(None), |(_, object)| told_object(object))
+        self.at(field).map(told_object).transpose()
+    }
+
+    fn optional_text(&self, field: usize) -> Result<Option<Text<'a>>, Number> {
+        self.at(field).map(Text::told).transpose()
     }
 
     fn optional_heap_record(&self, _field: usize) -> Result<Option<HeapRecord<'a>>, Number> {
@@ -82,6 +93,10 @@ impl<'a> Objects<'a> for FineObjects<'a> {
         Ok(Some(Cow::Borrowed(b"fine")))
     }
 
+    fn optional_text(&self, _field: usize) -> Result<Option<Text<'a>>, Number> {
+        Ok(Some(Text::of("fine")))
+    }
+
     fn optional_heap_record(&self, _field: usize) -> Result<Option<HeapRecord<'a>>, Number> {
         let nested = |(bytes, told): (&'a [u8], &'a Told<'a>)| -> HeapRecord<'a> {
             (Cow::Borrowed(bytes), Box::new(FineObjects(told)))
@@ -90,13 +105,12 @@ impl<'a> Objects<'a> for FineObjects<'a> {
     }
 }
 
-/// An empty object is an absent one; one that no length field can hold is
-/// wrong.
-fn told_object(object: &[u8]) -> Result<Option<Bytes<'_>>, Number> {
-    match object.len() {
-        0 => Ok(None),
-        1..=LONGEST_OBJECT => Ok(Some(Cow::Borrowed(object))),
-        _ => Err(number::REFERENCE),
+/// An object that no length field can hold is wrong.
+fn told_object(object: &[u8]) -> Result<Bytes<'_>, Number> {
+    if object.len() > LONGEST_OBJECT {
+        Err(number::REFERENCE)
+    } else {
+        Ok(Cow::Borrowed(object))
     }
 }
 

@@ -3,8 +3,9 @@
 use crate::answer::number;
 use crate::frame::Frame;
 use crate::interface::Interface;
-use crate::record::{Bytes, Number, Objects, Record, Target};
+use crate::record::{Number, Objects, Record, Target};
 use crate::security::Security;
+use crate::text::Text;
 use crate::wire::set_bit;
 
 #[derive(Clone, Debug, PartialEq, Eq)]
@@ -12,8 +13,8 @@ pub struct Discovery<'a> {
     pub interface: u8,
     /// A position in the security list, or 0.
     pub security: u8,
-    pub address: Option<Bytes<'a>>,
-    pub name: Option<Bytes<'a>>,
+    pub address: Option<Text<'a>>,
+    pub name: Option<Text<'a>>,
 }
 
 impl<'a> Record<'a> for Discovery<'a> {
@@ -34,8 +35,8 @@ impl<'a> Record<'a> for Discovery<'a> {
         Ok(Discovery {
             interface: bytes[3],
             security: bytes[4],
-            address: objects.optional(6)?,
-            name: objects.optional(12)?,
+            address: objects.optional_text(6)?,
+            name: objects.optional_text(12)?,
         })
     }
 
@@ -52,8 +53,8 @@ impl<'a> Record<'a> for Discovery<'a> {
 
     fn targets(&self) -> Vec<(usize, Target<'_, 'a>)> {
         vec![
-            (6, Target::optional(&self.address)),
-            (12, Target::optional(&self.name)),
+            (6, Target::optional_text(&self.address)),
+            (12, Target::optional_text(&self.name)),
         ]
     }
 
@@ -64,11 +65,12 @@ impl<'a> Record<'a> for Discovery<'a> {
         }
     }
 
-    fn object<'r>(record: Option<&'r Self>, offset: u32) -> Option<Option<&'r Bytes<'a>>> {
-        match offset {
-            6 => Some(record.and_then(|discovery| discovery.address.as_ref())),
-            12 => Some(record.and_then(|discovery| discovery.name.as_ref())),
-            _ => None,
-        }
+    fn object(record: Option<&Self>, offset: u32) -> Option<Option<&[u8]>> {
+        let text = match offset {
+            6 => record.map(|discovery| &discovery.address),
+            12 => record.map(|discovery| &discovery.name),
+            _ => return None,
+        };
+        Some(text.and_then(Option::as_ref).map(Text::words))
     }
 }

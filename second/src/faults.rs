@@ -290,6 +290,58 @@ impl<'a> Finder<'a> {
         self.reference(&subject.at_field(field), name, field, required);
     }
 
+    /// A reference field to text. The text is judged right behind its
+    /// reference.
+    fn text(&mut self, subject: &Subject, name: &str, field: usize, required: bool) {
+        self.record_reference(subject, name, field, required);
+        let reference = subject.start + field;
+        match u16_at(self.frame.table, reference + 4) {
+            0 => (),
+            length => self.spoiled_text(&subject.at_field(field), name, field, length),
+        }
+    }
+
+    /// Every way in which a text can be wrong, by its bytes and by the
+    /// length that the reference gives it.
+    fn spoiled_text(&mut self, subject: &Subject, name: &str, field: usize, length: u16) {
+        let start = u32_at(self.frame.table, subject.start + field) as usize;
+        let text = Subject {
+            start,
+            ..subject.clone()
+        };
+        let last = usize::from(length) - 1;
+        let mut bytes = vec![("ends-in-1", last, 1), ("ends-in-255", last, 255)];
+        let mut lengths = Vec::new();
+        if last >= 1 {
+            bytes.push(("two-zeros-end-it", last - 1, 0));
+            lengths.push(("unended", length - 1));
+        }
+        if last >= 2 {
+            bytes.push(("zero-first", 0, 0));
+            lengths.push(("one-byte-not-zero", 1));
+        }
+        if last >= 3 {
+            bytes.push(("zero-inside", last / 2, 0));
+        }
+        if ((start + last + 1) as u64) < self.frame.heap.end() {
+            lengths.push(("one-byte-behind", length + 1));
+        }
+        for (fault, at, value) in bytes {
+            let name = format!("{name}-{fault}");
+            self.fault(&text, &name, number::TEXT, at, &[value]);
+        }
+        for (fault, length) in lengths {
+            let name = format!("{name}-{fault}");
+            self.fault(
+                subject,
+                &name,
+                number::TEXT,
+                field + 4,
+                &length.to_le_bytes(),
+            );
+        }
+    }
+
     /// The heap record behind a reference field that is judged. Its own
     /// rule comes right after the field, and its own references after that.
     fn heap_record<R: Record<'a>>(
@@ -369,7 +421,7 @@ impl<'a> Finder<'a> {
         self.identity(&host, number::RECORD, &[("id", 0)]);
         self.not_valid::<Host>(&host, number::RECORD);
         self.three(&host, "primary", 1, 3);
-        self.record_reference(&host, "name", 18, true);
+        self.text(&host, "name", 18, true);
     }
 
     fn interface(&mut self, interface: Subject) {
@@ -388,7 +440,7 @@ impl<'a> Finder<'a> {
             let (rule, at) = (info.own_rule(), Info::VERSION_AT);
             self.byte(&rule, "transport-version", number::HEAP_RECORD, at, version);
         }
-        self.record_reference(&info, "host-name", 104, false);
+        self.text(&info, "host-name", 104, false);
         match self.frame.table[info.start + Info::VERSION_AT] {
             1 => self.raised_version(&info),
             _ => self.addition(&info),
@@ -490,13 +542,13 @@ impl<'a> Finder<'a> {
         self.record_reference(&subsystem, "address", 10, true);
         self.record_reference(&subsystem, "service", 16, true);
         self.record_reference(&subsystem, "secondary", 48, false);
-        self.record_reference(&subsystem, "name", 54, true);
+        self.text(&subsystem, "name", 54, true);
         let flags = u16_at(self.frame.table, subsystem.start + 3).into();
         if bit(flags, 4) {
             let identity = [("id", 0), ("version", 1), ("index", 2), ("index-high", 3)];
             self.record_reference(&subsystem, "extended", 60, true);
             let extended = self.heap_record::<Extended>(&subsystem, "extended", 60, &identity);
-            self.record_reference(&extended, "root-path", 12, false);
+            self.text(&extended, "root-path", 12, false);
         }
         self.index::<Discovery>(&subsystem, "discovery-index", 8, true);
         if bit(flags, 2) {
@@ -548,8 +600,8 @@ impl<'a> Finder<'a> {
 
     fn discovery(&mut self, discovery: Subject) {
         self.identity(&discovery, number::RECORD, &[("id", 0), ("index", 2)]);
-        self.record_reference(&discovery, "address", 6, false);
-        self.record_reference(&discovery, "name", 12, false);
+        self.text(&discovery, "address", 6, false);
+        self.text(&discovery, "name", 12, false);
         self.index::<Interface>(&discovery, "interface-index", 3, false);
         self.index::<Security>(&discovery, "security-index", 4, true);
     }

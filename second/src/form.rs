@@ -92,6 +92,7 @@ pub fn lay_out<'a, R: Record<'a>>(record: &R, position: u16, heap: &mut Heap) ->
         let (offset, length) = match target {
             Target::Absent => (0, 0),
             Target::Object(object) => heap.append(object),
+            Target::Text(text) => heap.append(text.ended()),
             Target::Info(info) => heap.append_record(info, position),
             Target::Identity(identity) => heap.append_record(identity, position),
             Target::Extended(extended) => heap.append_record(extended, position),

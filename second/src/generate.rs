@@ -9,15 +9,30 @@ use crate::random::Random;
 use crate::record::Bytes;
 use crate::security::{Policy, Security};
 use crate::subsystem::{Extended, Subsystem};
+use crate::text::Text;
+
+fn some_length(random: &mut Random) -> usize {
+    let longest = *random.pick(&[2, 9, 9, 40]);
+    1 + random.below(longest)
+}
 
 fn object(random: &mut Random) -> Bytes<'static> {
-    let longest = *random.pick(&[2, 9, 9, 40]);
-    let length = 1 + random.below(longest);
+    let length = some_length(random);
     random.bytes(length).into()
 }
 
 fn maybe(random: &mut Random) -> Option<Bytes<'static>> {
     random.flag().then(|| object(random))
+}
+
+/// Never an empty one, which no builder can be told.
+fn text(random: &mut Random) -> Text<'static> {
+    let words = (0..some_length(random)).map(|_| 1 + random.below(255) as u8);
+    Text::of(words.collect::<Vec<u8>>())
+}
+
+fn maybe_text(random: &mut Random) -> Option<Text<'static>> {
+    random.flag().then(|| text(random))
 }
 
 /// Positions from 1 on that are used.
@@ -59,7 +74,8 @@ fn dependent_list<R>(
     }
 }
 
-/// A random meaning; every index in it names a used record.
+/// A random meaning that a builder can be told; every index in it names a
+/// used record.
 pub fn random_meaning(random: &mut Random) -> Meaning<'static> {
     let origin = Origin::read(&random.bytes(64));
     let driver_signature = maybe(random);
@@ -71,8 +87,8 @@ pub fn random_meaning(random: &mut Random) -> Meaning<'static> {
     let discoveries = dependent_list(random, &valid_interfaces, |random| Discovery {
         interface: *random.pick(&valid_interfaces),
         security: zero_or_one_of(random, &valid_securities),
-        address: maybe(random),
-        name: maybe(random),
+        address: maybe_text(random),
+        name: maybe_text(random),
     });
     let valid_discoveries = used_positions(&discoveries);
     let subsystems = dependent_list(random, &valid_interfaces, |random| {
@@ -97,7 +113,7 @@ fn random_host(random: &mut Random) -> Host<'static> {
         name_configured: random.flag(),
         primary: random.below(3) as u8,
         id: random.array(),
-        name: object(random),
+        name: text(random),
     }
 }
 
@@ -152,7 +168,7 @@ fn random_interface(random: &mut Random) -> Interface<'static> {
         primary_dns: random.array(),
         secondary_dns: random.array(),
         dhcp_server: (!autoconfigured && random.flag()).then(|| random.array()),
-        host_name: maybe(random),
+        host_name: maybe_text(random),
         addition,
     };
     Interface { info }
@@ -187,12 +203,12 @@ fn random_subsystem(
         security: (security != 0).then_some(security),
         primary_interface: *random.pick(interfaces),
         secondary_interfaces: (!secondary.is_empty()).then(|| secondary.into()),
-        name: object(random),
+        name: text(random),
         extended: random.flag().then(|| Extended {
             queue_size_configured: random.flag(),
             controller: random.word() as u16,
             queue_size: random.word() as u16,
-            root_path: maybe(random),
+            root_path: maybe_text(random),
         }),
     }
 }

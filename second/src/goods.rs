@@ -4,7 +4,7 @@
 use crate::answer::Answer;
 use crate::discovery::Discovery;
 use crate::form::{form, put_checksum, record_start, HOST_START};
-use crate::frame::MINOR_AT;
+use crate::frame::{DRIVER_SIGNATURE_AT, MINOR_AT};
 use crate::host::Host;
 use crate::identity::Identity;
 use crate::interface::{Addition, Info, Interface};
@@ -15,6 +15,7 @@ use crate::samples::{
 };
 use crate::security::Security;
 use crate::subsystem::{Extended, Subsystem};
+use crate::text::Text;
 use crate::wire::{array_at, put, put_reference, put_u16, set_bit, u16_at, u32_at};
 
 /// A good table made from the form of a meaning.
@@ -66,6 +67,7 @@ pub fn goods() -> Vec<Sample> {
     all.extend(security_goods());
     all.extend(discovery_goods());
     all.extend(sharing_goods());
+    all.extend(text_goods());
     all.extend(long_goods());
     all.push(good("machine-form", &machine(), |_| ()));
     all.push(good("dhcp-form", &dhcp(), |_| ()));
@@ -143,9 +145,10 @@ fn interface_goods() -> Vec<Sample> {
         info("info-reserved-110", |info| info[110..].fill(0xFF)),
         info("info-dhcp-server-ignored", |info| info[6] &= 0xFB),
         info("info-host-name-absent", |info| info[104..110].fill(0)),
-        info("info-within-its-own-host-name", |info| {
-            let host_name = u32_at(info, 104);
-            put_reference(info, 104, host_name - 100, 104);
+        // The last byte of the MAC address and both of the VLAN.
+        info("info-host-name-within-itself", |info| {
+            let start = u32_at(info, 104) - Info::SIZE as u32;
+            put_reference(info, 104, start + 16, 3);
         }),
     ]
 }
@@ -323,11 +326,12 @@ fn discovery_goods() -> Vec<Sample> {
     ]
 }
 
-/// The driver signature's reference is made the host name's.
+/// The driver signature's reference is made the host name's, which has this
+/// length with the byte that ends it.
 fn shared_name(name: &str, length: usize, signature_length: u16) -> Sample {
     let mut meaning = host_only();
     meaning.driver_signature = None;
-    meaning.host.name = vec![0; length].into();
+    meaning.host.name = Text::of(vec![b'n'; length - 1]);
     good(name, &meaning, |table| {
         let reference: [u8; 6] = array_at(table, HOST_START + 18);
         put(table, 44, &reference);
@@ -349,15 +353,79 @@ fn sharing_goods() -> Vec<Sample> {
                 let info = u32_at(table, 176);
                 let length = u16_at(table, 180);
                 put_reference(table, 44, info, length);
-                put_reference(table, HOST_START + 18, info + 7, 9);
+                put_reference(table, HOST_START + 18, info + 16, 3);
             },
         ),
     ]
 }
 
+/// The small meaning of this kind with every text that it has, but empty.
+pub fn with_empty_texts(kind: u8) -> Meaning<'static> {
+    let empty = || Text::of("");
+    let mut meaning = small(kind, 1);
+    meaning.host.name = empty();
+    for entry in &mut meaning.interfaces {
+        if let Entry::Used(interface) = entry {
+            interface.info.host_name = Some(empty());
+        }
+    }
+    for entry in &mut meaning.subsystems {
+        if let Entry::Used(subsystem) = entry {
+            subsystem.name = empty();
+            if let Some(extended) = &mut subsystem.extended {
+                extended.root_path = Some(empty());
+            }
+        }
+    }
+    for entry in &mut meaning.discoveries {
+        if let Entry::Used(discovery) = entry {
+            (discovery.address, discovery.name) = (Some(empty()), Some(empty()));
+        }
+    }
+    meaning
+}
+
+/// A driver signature, and the host name a part of it.
+fn name_in_signature(name: &str, signature: &'static [u8], start: u32, length: u16) -> Sample {
+    let mut meaning = host_only();
+    meaning.driver_signature = Some(signature.into());
+    good(name, &meaning, |table| {
+        let signature = u32_at(table, DRIVER_SIGNATURE_AT);
+        put_reference(table, HOST_START + 18, signature + start, length);
+    })
+}
+
+/// Empty texts, texts that end as another does, and texts that share bytes
+/// with objects that are none.
+fn text_goods() -> Vec<Sample> {
+    let empty = |name: &str, kind| good(name, &with_empty_texts(kind), |_| ());
+    let tail = |name: &str, length: u32| {
+        record_change::<Discovery>(name, move |record| {
+            let end = u32_at(record, 6) + u32::from(u16_at(record, 10));
+            put_reference(record, 12, end - length, length as u16);
+        })
+    };
+    vec![
+        empty("texts-empty-in-subsystem", Subsystem::ID),
+        empty("texts-empty-in-interface", Identity::ID),
+        empty("texts-empty-in-discovery", Discovery::ID),
+        tail("discovery-name-ends-its-address", 5),
+        tail("discovery-name-is-its-address", 13),
+        tail("discovery-name-is-the-end-of-its-address", 1),
+        name_in_signature("host-name-within-signature", b"a\0bc\0\0d", 2, 3),
+        name_in_signature("host-name-empty-within-signature", b"a\0bc\0\0d", 5, 1),
+        name_in_signature("host-name-starts-signature", b"abc\0d", 0, 4),
+        // The last byte of the secondary list, and the name behind it.
+        record_change::<Subsystem>("subsystem-service-around-its-name", |record| {
+            let (place, length) = (u32_at(record, 54), u16_at(record, 58));
+            put_reference(record, 16, place - 1, length + 1);
+        }),
+    ]
+}
+
 fn long_goods() -> Vec<Sample> {
     vec![
-        good("all-counts-255-and-65536-bytes", &crowded(96), |_| ()),
+        good("all-counts-255-and-65536-bytes", &crowded(95), |_| ()),
         good("host-name-of-65376-bytes", &longest(), |_| ()),
         good("interface-at-255", &far_interface(), |_| ()),
         good("all-records-at-254", &small(Subsystem::ID, 254), |_| ()),

@@ -1,7 +1,8 @@
 //! The host record.
 
 use crate::answer::number;
-use crate::record::{Bytes, Number, Objects, Record, Target};
+use crate::record::{Number, Objects, Record, Target};
+use crate::text::Text;
 use crate::wire::{array_at, bit, put, set_bit, set_two_bits, two_bits};
 
 #[derive(Clone, Debug, PartialEq, Eq)]
@@ -10,7 +11,7 @@ pub struct Host<'a> {
     pub name_configured: bool,
     pub primary: u8,
     pub id: [u8; 16],
-    pub name: Bytes<'a>,
+    pub name: Text<'a>,
 }
 
 impl<'a> Record<'a> for Host<'a> {
@@ -34,7 +35,7 @@ impl<'a> Record<'a> for Host<'a> {
             name_configured: bit(flags, 2),
             primary,
             id: array_at(bytes, 2),
-            name: objects.required(18)?,
+            name: objects.required_text(18)?,
         })
     }
 
@@ -47,7 +48,7 @@ impl<'a> Record<'a> for Host<'a> {
     }
 
     fn targets(&self) -> Vec<(usize, Target<'_, 'a>)> {
-        vec![(18, Target::Object(&self.name))]
+        vec![(18, Target::Text(&self.name))]
     }
 
     fn field_length(offset: u32) -> Option<usize> {
@@ -58,9 +59,9 @@ impl<'a> Record<'a> for Host<'a> {
         }
     }
 
-    fn object<'r>(record: Option<&'r Self>, offset: u32) -> Option<Option<&'r Bytes<'a>>> {
+    fn object(record: Option<&Self>, offset: u32) -> Option<Option<&[u8]>> {
         match offset {
-            18 => Some(record.map(|host| &host.name)),
+            18 => Some(record.map(|host| host.name.words())),
             _ => None,
         }
     }

@@ -100,11 +100,11 @@ impl<'a> Record<'a> for Identity<'a> {
         }
     }
 
-    fn object<'r>(record: Option<&'r Self>, offset: u32) -> Option<Option<&'r Bytes<'a>>> {
+    fn object(record: Option<&Self>, offset: u32) -> Option<Option<&[u8]>> {
         let client = record.and_then(|identity| identity.client.as_ref());
         match offset {
-            8 => Some(client.map(|client| &client.iaid)),
-            14 => Some(client.map(|client| &client.duid)),
+            8 => Some(client.map(|client| &*client.iaid)),
+            14 => Some(client.map(|client| &*client.duid)),
             _ => None,
         }
     }

@@ -2,7 +2,8 @@
 
 use crate::answer::number;
 use crate::identity::Identity;
-use crate::record::{Bytes, Number, Objects, Record, Target, TCP};
+use crate::record::{Number, Objects, Record, Target, TCP};
+use crate::text::Text;
 use crate::wire::{array_at, bit, put, put_u16, put_u32, set_bit, u16_at, u32_at};
 
 #[derive(Clone, Debug, PartialEq, Eq)]
@@ -52,7 +53,7 @@ impl<'a> Record<'a> for Interface<'a> {
     }
 
     /// The info is read by its own kind, not as an object.
-    fn object<'r>(_record: Option<&'r Self>, _offset: u32) -> Option<Option<&'r Bytes<'a>>> {
+    fn object(_record: Option<&Self>, _offset: u32) -> Option<Option<&[u8]>> {
         None
     }
 }
@@ -72,7 +73,7 @@ pub struct Info<'a> {
     pub secondary_dns: [u8; 16],
     /// Present exactly when DHCP gave the configuration.
     pub dhcp_server: Option<[u8; 16]>,
-    pub host_name: Option<Bytes<'a>>,
+    pub host_name: Option<Text<'a>>,
     /// Present exactly when the info has version 2.
     pub addition: Option<Addition<'a>>,
 }
@@ -183,7 +184,7 @@ impl<'a> Record<'a> for Info<'a> {
             primary_dns: array_at(bytes, 56),
             secondary_dns: array_at(bytes, 72),
             dhcp_server: Self::flag(bytes, Self::DHCP_BIT).then(|| array_at(bytes, 88)),
-            host_name: objects.optional(104)?,
+            host_name: objects.optional_text(104)?,
             addition: Self::read_addition(bytes, position, objects)?,
         })
     }
@@ -216,7 +217,7 @@ impl<'a> Record<'a> for Info<'a> {
     }
 
     fn targets(&self) -> Vec<(usize, Target<'_, 'a>)> {
-        let mut targets = vec![(104, Target::optional(&self.host_name))];
+        let mut targets = vec![(104, Target::optional_text(&self.host_name))];
         if let Some(addition) = &self.addition {
             let identity = addition.identity.as_ref();
             targets.push((110, identity.map_or(Target::Absent, Target::Identity)));
@@ -236,9 +237,12 @@ impl<'a> Record<'a> for Info<'a> {
     }
 
     /// The identity is read by its own kind, not as an object.
-    fn object<'r>(record: Option<&'r Self>, offset: u32) -> Option<Option<&'r Bytes<'a>>> {
+    fn object(record: Option<&Self>, offset: u32) -> Option<Option<&[u8]>> {
         match offset {
-            104 => Some(record.and_then(|info| info.host_name.as_ref())),
+            104 => {
+                let name = record.and_then(|info| info.host_name.as_ref());
+                Some(name.map(Text::words))
+            }
             _ => None,
         }
     }

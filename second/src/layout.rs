@@ -7,6 +7,7 @@ use crate::meaning::{Entry, Meaning};
 use crate::random::Random;
 use crate::record::{Record, Target};
 use crate::subsystem::Subsystem;
+use crate::text::Text;
 use crate::wire::{put, put_reference, put_u16, put_u32, set_bit};
 
 /// How freely a layout treats what it lays out.
@@ -16,8 +17,9 @@ pub struct Style {
     pub noise: bool,
     /// Equal bytes may stand once for several objects.
     pub sharing: bool,
-    /// Objects may be replaced by any other bytes of the heap, which
-    /// changes the meaning but keeps the table good.
+    /// Objects may be replaced by any other bytes of the heap, and texts by
+    /// any other text in an object or an empty one, which changes the
+    /// meaning but keeps the table good.
     pub replacing: bool,
 }
 
@@ -162,6 +164,7 @@ impl Scribe {
         match target {
             Target::Absent => (0, 0),
             Target::Object(object) => self.object(object, replaceable),
+            Target::Text(text) => self.text(text),
             Target::Info(info) => self.heap_record(info, position),
             Target::Identity(identity) => self.heap_record(identity, position),
             Target::Extended(extended) => self.heap_record(extended, position),
@@ -181,6 +184,42 @@ impl Scribe {
             let length = 1 + self.random.below(self.heap.len() - start);
             return ((self.heap_start + start) as u32, length as u16);
         }
+        self.shared_or_own(object)
+    }
+
+    fn text(&mut self, text: &Text) -> (u32, u16) {
+        if self.style.replacing && self.random.one_in(4) {
+            return match self.some_other_text() {
+                Some((start, length)) => ((self.heap_start + start) as u32, length as u16),
+                None => self.shared_or_own(Text::of("").ended()),
+            };
+        }
+        self.shared_or_own(text.ended())
+    }
+
+    /// A zero byte of some object, with none, some or all of the bytes
+    /// before it that are not zero.
+    fn some_other_text(&mut self) -> Option<(usize, usize)> {
+        let mut ends = Vec::new();
+        for (start, length) in &self.objects {
+            let zeros = (*start..*start + *length).filter(|place| self.heap[*place] == 0);
+            ends.extend(zeros.map(|zero| (*start, zero)));
+        }
+        if ends.is_empty() {
+            return None;
+        }
+        let (start, zero) = *self.random.pick(&ends);
+        let before = self.heap[start..zero].iter().rev();
+        let longest = before.take_while(|byte| **byte != 0).count();
+        let words = match self.random.one_in(3) {
+            true => 0,
+            false => self.random.below(longest + 1),
+        };
+        Some((zero - words, words + 1))
+    }
+
+    /// The object's bytes where they stand already, or once more.
+    fn shared_or_own(&mut self, object: &[u8]) -> (u32, u16) {
         if self.style.sharing && self.random.flag() {
             if let Some(start) = self.within_another(object) {
                 return ((self.heap_start + start) as u32, object.len() as u16);

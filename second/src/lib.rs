@@ -27,6 +27,7 @@ pub mod samples;
 pub mod security;
 pub mod state;
 pub mod subsystem;
+pub mod text;
 pub mod vectors;
 pub mod wire;
 
@@ -35,3 +36,4 @@ pub use form::{form, form_length, rewrite};
 pub use meaning::{check, meaning, Entry, Meaning};
 pub use read::{field, object, record, Field, Image};
 pub use state::State;
+pub use text::Text;

@@ -78,16 +78,17 @@ fn write_form(file: &Path, output: &Path) -> Result<(), String> {
     }
 }
 
-/// The tables that ship as files: the smallest, and some as a machine's
-/// firmware would leave them.
+/// The tables that ship as files: the smallest, some as a machine's firmware
+/// would leave them, and one that is refused.
 fn samples(action: &str, directory: &Path) -> Result<(), String> {
     use second::form;
-    use second::samples::{dhcp, machine, mixed, smallest};
+    use second::samples::{dhcp, machine, mixed, refused, smallest};
     let tables = [
         ("smallest.nbft", smallest()),
         ("machine.nbft", form(&machine())),
         ("mixed.nbft", form(&mixed())),
         ("dhcp.nbft", form(&dhcp())),
+        ("refused.nbft", refused()),
     ];
     let mut files = tables.iter();
     files.try_for_each(|(name, table)| keep(action, directory.join(name), table))

@@ -7,7 +7,7 @@ use crate::host::Host;
 use crate::identity::Identity;
 use crate::interface::{Info, Interface};
 use crate::meaning::{Entry, Meaning};
-use crate::record::{Bytes, Record};
+use crate::record::Record;
 use crate::security::Security;
 use crate::subsystem::{Extended, Subsystem};
 use std::ops::Range;
@@ -96,7 +96,8 @@ impl<'a> Reading<'a> {
         }
     }
 
-    /// The object's place within the lent bytes, where there is one.
+    /// The place within the lent bytes of what is handed back of an object,
+    /// where there is one: of text that is without its zero byte.
     pub fn object(&self, kind: u8, position: u16, offset: u32) -> (Answer, Option<Range<usize>>) {
         let found = self
             .select(kind, position)
@@ -187,10 +188,10 @@ impl<'r, 'a> Selected<'r, 'a> {
         }
     }
 
-    fn object(&self, meaning: &'r Meaning<'a>, offset: u32) -> Option<Option<&'r Bytes<'a>>> {
+    fn object(&self, meaning: &'r Meaning<'a>, offset: u32) -> Option<Option<&'r [u8]>> {
         match self {
             Selected::Header if offset as usize == DRIVER_SIGNATURE_AT => {
-                Some(meaning.driver_signature.as_ref())
+                Some(meaning.driver_signature.as_deref())
             }
             Selected::Header | Selected::Control => None,
             Selected::Host(host) => Host::object(Some(*host), offset),

@@ -5,6 +5,7 @@ use crate::frame::Frame;
 use crate::identity::Identity;
 use crate::interface::Info;
 use crate::subsystem::Extended;
+use crate::text::Text;
 use crate::wire::{put, put_u16, set_bit, u16_at, u32_at};
 use std::borrow::Cow;
 
@@ -26,6 +27,9 @@ pub trait Objects<'a> {
     /// The object for the reference field at this offset, if present.
     fn optional(&self, field: usize) -> Result<Option<Bytes<'a>>, Number>;
 
+    /// The same where it must be text.
+    fn optional_text(&self, field: usize) -> Result<Option<Text<'a>>, Number>;
+
     /// The heap record for the field, if present.
     fn optional_heap_record(&self, field: usize) -> Result<Option<HeapRecord<'a>>, Number>;
 
@@ -35,6 +39,10 @@ pub trait Objects<'a> {
 
     fn required(&self, field: usize) -> Result<Bytes<'a>, Number> {
         self.optional(field)?.ok_or(number::REFERENCE)
+    }
+
+    fn required_text(&self, field: usize) -> Result<Text<'a>, Number> {
+        self.optional_text(field)?.ok_or(number::REFERENCE)
     }
 
     /// Where the condition fails, the field is ignored and not looked at.
@@ -51,6 +59,7 @@ pub trait Objects<'a> {
 pub enum Target<'r, 'a> {
     Absent,
     Object(&'r Bytes<'a>),
+    Text(&'r Text<'a>),
     Info(&'r Info<'a>),
     Identity(&'r Identity<'a>),
     Extended(&'r Extended<'a>),
@@ -61,11 +70,16 @@ impl<'r, 'a> Target<'r, 'a> {
         object.as_ref().map_or(Target::Absent, Target::Object)
     }
 
+    pub fn optional_text(text: &'r Option<Text<'a>>) -> Self {
+        text.as_ref().map_or(Target::Absent, Target::Text)
+    }
+
     /// The heap bytes of the target and of what a heap record refers to.
     pub fn length(&self) -> usize {
         match self {
             Target::Absent => 0,
             Target::Object(object) => object.len(),
+            Target::Text(text) => text.ended().len(),
             Target::Info(info) => Info::SIZE + heap_length(*info),
             Target::Identity(identity) => Identity::SIZE + heap_length(*identity),
             Target::Extended(extended) => Extended::SIZE + heap_length(*extended),
@@ -108,9 +122,10 @@ pub trait Record<'a>: Sized {
     /// The length of the field at this offset; none for references.
     fn field_length(offset: u32) -> Option<usize>;
 
-    /// The object at this reference field: the outer `None` where there is
-    /// no such field, the inner one where it is absent or unused.
-    fn object<'r>(record: Option<&'r Self>, offset: u32) -> Option<Option<&'r Bytes<'a>>>;
+    /// What a reader hands back of the object at this reference field: the
+    /// outer `None` where there is no such field, the inner one where it is
+    /// absent or unused.
+    fn object(record: Option<&Self>, offset: u32) -> Option<Option<&[u8]>>;
 
     fn is_valid(bytes: &[u8]) -> bool {
         bytes[Self::VALID_AT] & 1 == 1
@@ -164,6 +179,10 @@ impl<'a> InTable<'a> {
 impl<'a> Objects<'a> for InTable<'a> {
     fn optional(&self, field: usize) -> Result<Option<Bytes<'a>>, Number> {
         Ok(self.part(field)?.map(Cow::Borrowed))
+    }
+
+    fn optional_text(&self, field: usize) -> Result<Option<Text<'a>>, Number> {
+        self.part(field)?.map(Text::read).transpose()
     }
 
     fn optional_heap_record(&self, field: usize) -> Result<Option<HeapRecord<'a>>, Number> {

@@ -12,6 +12,7 @@ use crate::record::{Bytes, Record};
 use crate::security::Security;
 use crate::state::State;
 use crate::subsystem::{Extended, Subsystem};
+use crate::text::Text;
 use crate::wire::{array_at, set_bit};
 
 /// One call that the builder takes, with all that it is told.
@@ -108,7 +109,8 @@ pub fn make_all(calls: &[Call], buffer: &mut [u8]) -> (Answer, State) {
 }
 
 /// All calls that build a table with this meaning. What the builder drops
-/// or sets itself is told as noise.
+/// or sets itself is told as noise. A text that is there and empty cannot be
+/// told: it is told as one that is absent.
 pub fn calls(random: &mut Random, meaning: &Meaning) -> Vec<Call> {
     let mut header = [0; 64];
     meaning.origin.write(&mut header);
@@ -151,8 +153,13 @@ fn told(object: &Option<Bytes>) -> Vec<u8> {
     object.as_ref().map_or(Vec::new(), |object| object.to_vec())
 }
 
+fn told_text(text: &Option<Text>) -> Vec<u8> {
+    text.as_ref()
+        .map_or(Vec::new(), |text| text.words().to_vec())
+}
+
 /// An object that the record's flags ignore: anything will do.
-fn told_or_noise(random: &mut Random, object: Option<&Bytes>) -> Vec<u8> {
+fn told_or_noise(random: &mut Random, object: Option<&[u8]>) -> Vec<u8> {
     match object {
         Some(object) => object.to_vec(),
         None if random.one_in(20) => vec![0; 70_000],
@@ -161,7 +168,7 @@ fn told_or_noise(random: &mut Random, object: Option<&Bytes>) -> Vec<u8> {
 }
 
 fn tell_host(random: &mut Random, host: &Host) -> Call {
-    Call::Host(tell_record(random, host), host.name.to_vec())
+    Call::Host(tell_record(random, host), host.name.words().to_vec())
 }
 
 fn tell_interface(random: &mut Random, interface: &Interface) -> Call {
@@ -179,7 +186,7 @@ fn tell_interface(random: &mut Random, interface: &Interface) -> Call {
             Some(Some(identity)) => tell_record(random, identity),
             _ => random.array(),
         },
-        objects: [told(&info.host_name), iaid, duid],
+        objects: [told_text(&info.host_name), iaid, duid],
     }
 }
 
@@ -201,14 +208,14 @@ fn tell_subsystem(random: &mut Random, subsystem: &Subsystem) -> Call {
         None => random.array(),
     };
     let root_path = match &subsystem.extended {
-        Some(Extended { root_path, .. }) => told(root_path),
+        Some(Extended { root_path, .. }) => told_text(root_path),
         None => told_or_noise(random, None),
     };
     let objects = [
         subsystem.address.to_vec(),
         subsystem.service.to_vec(),
         told(&subsystem.secondary_interfaces),
-        subsystem.name.to_vec(),
+        subsystem.name.words().to_vec(),
         root_path,
     ];
     Call::Ssns(Box::new(record), extended, objects)
@@ -226,5 +233,6 @@ fn tell_security(random: &mut Random, security: &Security) -> Call {
 
 fn tell_discovery(random: &mut Random, discovery: &Discovery) -> Call {
     let record = tell_record(random, discovery);
-    Call::Discovery(record, told(&discovery.address), told(&discovery.name))
+    let [address, name] = [&discovery.address, &discovery.name].map(told_text);
+    Call::Discovery(record, address, name)
 }

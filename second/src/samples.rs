@@ -11,6 +11,7 @@ use crate::meaning::{Entry, Meaning, Origin};
 use crate::record::Record;
 use crate::security::{Policy, Security};
 use crate::subsystem::{Extended, Subsystem};
+use crate::text::Text;
 use crate::wire::{put, put_reference, put_u32, u32_at};
 
 /// A table with the answer that it must get.
@@ -52,6 +53,15 @@ fn smallest_with(changes: &[(usize, u8)]) -> Vec<u8> {
     }
     put_checksum(&mut table);
     table
+}
+
+/// The smallest table with a host name that lacks the byte that ends it.
+pub fn unended() -> Sample {
+    Sample {
+        name: "smallest-host-name-unended".to_string(),
+        table: smallest_with(&[(150, 1)]),
+        answer: Answer::at(number::TEXT, Host::ID, 0),
+    }
 }
 
 fn heap_that_wraps() -> Vec<u8> {
@@ -114,7 +124,7 @@ fn plain_host() -> Host<'static> {
         name_configured: false,
         primary: 2,
         id: *b"\x01\x02\x03\x04\x05\x06\x07\x08\x09\x0A\x0B\x0C\x0D\x0E\x0F\x10",
-        name: b"nqn.h".into(),
+        name: Text::of("nqn.h"),
     }
 }
 
@@ -173,7 +183,7 @@ fn full_interface() -> Interface<'static> {
             primary_dns: ipv4([10, 0, 0, 3]),
             secondary_dns: ipv4([10, 0, 0, 4]),
             dhcp_server: Some(ipv4([10, 0, 0, 5])),
-            host_name: Some(b"name".into()),
+            host_name: Some(Text::of("name")),
             ..plain_interface().info
         },
     }
@@ -296,7 +306,7 @@ fn plain_subsystem() -> Subsystem<'static> {
         security: None,
         primary_interface: 1,
         secondary_interfaces: None,
-        name: b"nqn.s".into(),
+        name: Text::of("nqn.s"),
         extended: None,
     }
 }
@@ -317,7 +327,7 @@ fn full_subsystem(position: u8) -> Subsystem<'static> {
             queue_size_configured: true,
             controller: 0x0102,
             queue_size: 32,
-            root_path: Some(b"root".into()),
+            root_path: Some(Text::of("root")),
         }),
         ..plain_subsystem()
     }
@@ -407,8 +417,8 @@ pub fn small(kind: u8, position: u8) -> Meaning<'static> {
                 position,
                 Discovery {
                     security: position,
-                    address: Some(b"tcp:10.0.0.8".into()),
-                    name: Some(b"nqn.d".into()),
+                    address: Some(Text::of("tcp:10.0.0.8")),
+                    name: Some(Text::of("nqn.d")),
                     ..plain_discovery(position)
                 },
             ),
@@ -416,6 +426,18 @@ pub fn small(kind: u8, position: u8) -> Meaning<'static> {
         },
         _ => base,
     }
+}
+
+/// A table whose only fault is a discovery index that names no record.
+pub fn refused() -> Vec<u8> {
+    let subsystem = Subsystem {
+        discovery: 4,
+        ..full_subsystem(2)
+    };
+    form(&Meaning {
+        subsystems: at_position(2, subsystem),
+        ..small(Subsystem::ID, 2)
+    })
 }
 
 /// Indexes that need all eight bits.
@@ -433,8 +455,8 @@ pub fn far_interface() -> Meaning<'static> {
     }
 }
 
-/// K11: all counts 255, every list record unused, so that the records end at 65,440. A host NQN of 96 bytes is taken,
-/// one of 97 gives 17.
+/// K11: all counts 255, every list record unused, so that the records end at 65,440. A host NQN of 95 bytes, with the
+/// one that ends it 96, is taken; one of 96 gives 17.
 pub fn crowded(name_length: usize) -> Meaning<'static> {
     fn unused<R>() -> Vec<Entry<R>> {
         (0..255).map(|_| Entry::Unused).collect()
@@ -442,7 +464,7 @@ pub fn crowded(name_length: usize) -> Meaning<'static> {
     Meaning {
         driver_signature: None,
         host: Host {
-            name: vec![b'n'; name_length].into(),
+            name: Text::of(vec![b'n'; name_length]),
             ..plain_host()
         },
         interfaces: unused(),
@@ -457,7 +479,7 @@ pub fn crowded(name_length: usize) -> Meaning<'static> {
 pub fn longest() -> Meaning<'static> {
     let mut meaning = host_only();
     meaning.driver_signature = None;
-    meaning.host.name = vec![0; 65_536 - 160].into();
+    meaning.host.name = Text::of(vec![b'n'; 65_536 - 160 - 1]);
     meaning
 }
 
@@ -478,7 +500,7 @@ pub fn machine() -> Meaning<'static> {
             name_configured: true,
             primary: 2,
             id: *b"\x52\x7A\x1E\x3C\x40\x9D\x6F\x4B\x8A\x11\x5E\x0D\x2F\x7C\x9B\x34",
-            name: host_name.as_bytes().into(),
+            name: Text::of(host_name),
         },
         interfaces: vec![
             Entry::Used(machine_interface(1)),
@@ -492,8 +514,8 @@ pub fn machine() -> Meaning<'static> {
         discoveries: vec![Entry::Used(Discovery {
             interface: 1,
             security: 1,
-            address: Some(b"nvme+tcp://192.168.101.40:8009/".into()),
-            name: Some(b"nqn.2014-08.org.nvmexpress.discovery".into()),
+            address: Some(Text::of("nvme+tcp://192.168.101.40:8009/")),
+            name: Some(Text::of("nqn.2014-08.org.nvmexpress.discovery")),
         })],
     }
 }
@@ -571,7 +593,7 @@ fn machine_interface(port: u8) -> Interface<'static> {
             primary_dns: ipv4([192, 168, 100 + port, 2]),
             secondary_dns: [0; 16],
             dhcp_server: (port == 1).then_some(ipv4([192, 168, 101, 2])),
-            host_name: Some(b"server-17.example.net".into()),
+            host_name: Some(Text::of("server-17.example.net")),
             addition: None,
         },
     }
@@ -597,12 +619,12 @@ fn machine_subsystem(port: u8) -> Subsystem<'static> {
         security: (port == 1).then_some(1),
         primary_interface: port,
         secondary_interfaces: Some(vec![3 - port].into()),
-        name: name.as_bytes().into(),
+        name: Text::of(name),
         extended: (port == 1).then(|| Extended {
             queue_size_configured: true,
             controller: 0,
             queue_size: 32,
-            root_path: Some(b"NVME+TCP://192.168.101.40:4420/nqn.array/1".into()),
+            root_path: Some(Text::of("NVME+TCP://192.168.101.40:4420/nqn.array/1")),
         }),
         ..plain_subsystem()
     }

@@ -118,9 +118,12 @@ impl<'a> Record<'a> for Security<'a> {
         }
     }
 
-    fn object<'r>(record: Option<&'r Self>, offset: u32) -> Option<Option<&'r Bytes<'a>>> {
+    fn object(record: Option<&Self>, offset: u32) -> Option<Option<&[u8]>> {
         match offset {
-            6 | 12 | 18 | 24 | 30 | 36 => Some(record.and_then(|r| r.list_at(offset))),
+            6 | 12 | 18 | 24 | 30 | 36 => {
+                let list = record.and_then(|security| security.list_at(offset));
+                Some(list.map(|list| &**list))
+            }
             _ => None,
         }
     }

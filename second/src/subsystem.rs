@@ -6,6 +6,7 @@ use crate::frame::Frame;
 use crate::interface::Interface;
 use crate::record::{is_extended, stamp_extended, Bytes, Number, Objects, Record, Target, TCP};
 use crate::security::Security;
+use crate::text::Text;
 use crate::wire::{
     array_at, bit, put, put_u16, put_u32, set_bit, set_two_bits, two_bits, u16_at, u32_at,
 };
@@ -32,7 +33,7 @@ pub struct Subsystem<'a> {
     pub security: Option<u8>,
     pub primary_interface: u8,
     pub secondary_interfaces: Option<Bytes<'a>>,
-    pub name: Bytes<'a>,
+    pub name: Text<'a>,
     /// Present exactly when extended info is in use.
     pub extended: Option<Extended<'a>>,
 }
@@ -103,7 +104,7 @@ impl<'a> Record<'a> for Subsystem<'a> {
             security: bit(flags, 2).then_some(bytes[45]),
             primary_interface: bytes[46],
             secondary_interfaces: objects.optional(48)?,
-            name: objects.required(54)?,
+            name: objects.required_text(54)?,
             extended: match bit(flags, 4) {
                 true => Self::read_extended(position, objects)?,
                 false => None,
@@ -142,7 +143,7 @@ impl<'a> Record<'a> for Subsystem<'a> {
             (10, Target::Object(&self.address)),
             (16, Target::Object(&self.service)),
             (48, Target::optional(&self.secondary_interfaces)),
-            (54, Target::Object(&self.name)),
+            (54, Target::Text(&self.name)),
         ];
         if let Some(extended) = &self.extended {
             targets.push((60, Target::Extended(extended)));
@@ -161,12 +162,12 @@ impl<'a> Record<'a> for Subsystem<'a> {
     }
 
     /// The extended info is read by its own kind, not as an object.
-    fn object<'r>(record: Option<&'r Self>, offset: u32) -> Option<Option<&'r Bytes<'a>>> {
+    fn object(record: Option<&Self>, offset: u32) -> Option<Option<&[u8]>> {
         match offset {
-            10 => Some(record.map(|subsystem| &subsystem.address)),
-            16 => Some(record.map(|subsystem| &subsystem.service)),
-            48 => Some(record.and_then(|subsystem| subsystem.secondary_interfaces.as_ref())),
-            54 => Some(record.map(|subsystem| &subsystem.name)),
+            10 => Some(record.map(|subsystem| &*subsystem.address)),
+            16 => Some(record.map(|subsystem| &*subsystem.service)),
+            48 => Some(record.and_then(|subsystem| subsystem.secondary_interfaces.as_deref())),
+            54 => Some(record.map(|subsystem| subsystem.name.words())),
             _ => None,
         }
     }
@@ -177,7 +178,7 @@ pub struct Extended<'a> {
     pub queue_size_configured: bool,
     pub controller: u16,
     pub queue_size: u16,
-    pub root_path: Option<Bytes<'a>>,
+    pub root_path: Option<Text<'a>>,
 }
 
 impl<'a> Record<'a> for Extended<'a> {
@@ -197,7 +198,7 @@ impl<'a> Record<'a> for Extended<'a> {
             queue_size_configured: bit(u32_at(bytes, 4), 1),
             controller: u16_at(bytes, 8),
             queue_size: u16_at(bytes, 10),
-            root_path: objects.optional(12)?,
+            root_path: objects.optional_text(12)?,
         })
     }
 
@@ -209,7 +210,7 @@ impl<'a> Record<'a> for Extended<'a> {
     }
 
     fn targets(&self) -> Vec<(usize, Target<'_, 'a>)> {
-        vec![(12, Target::optional(&self.root_path))]
+        vec![(12, Target::optional_text(&self.root_path))]
     }
 
     fn field_length(offset: u32) -> Option<usize> {
@@ -221,9 +222,12 @@ impl<'a> Record<'a> for Extended<'a> {
         }
     }
 
-    fn object<'r>(record: Option<&'r Self>, offset: u32) -> Option<Option<&'r Bytes<'a>>> {
+    fn object(record: Option<&Self>, offset: u32) -> Option<Option<&[u8]>> {
         match offset {
-            12 => Some(record.and_then(|extended| extended.root_path.as_ref())),
+            12 => {
+                let path = record.and_then(|extended| extended.root_path.as_ref());
+                Some(path.map(Text::words))
+            }
             _ => None,
         }
     }

@@ -13,7 +13,7 @@ use crate::layout::{lay_out_freely, with_tail, Style};
 use crate::meaning::{check, meaning};
 use crate::random::Random;
 use crate::record::Record;
-use crate::samples::{dhcp, host_only, known, machine, small, smallest, Sample};
+use crate::samples::{dhcp, host_only, known, machine, small, smallest, unended, Sample};
 use crate::security::Security;
 use crate::subsystem::Subsystem;
 use crate::Answer;
@@ -176,7 +176,7 @@ fn front_damage() -> Vec<Sample> {
 /// Two faults at once, of which the first counts.
 fn double_damage(random: &mut Random) -> Vec<Sample> {
     let good = form(&small(Subsystem::ID, 1));
-    let numbers = [2, 3, 6, 7, 8, 9, 10, 11, 12, 13];
+    let numbers = [2, 3, 6, 7, 8, 9, 10, 11, 12, 13, 18];
     doubly_damaged(random, &good, &damages(&good), &numbers)
 }
 
@@ -187,7 +187,7 @@ fn double_addition_damage(random: &mut Random) -> Vec<Sample> {
     let found = damages(&good).into_iter();
     let of_kind = found.filter(|damage| damage.answer.kind == Interface::ID);
     let found: Vec<Damage> = of_kind.map(|damage| damage.named("identity")).collect();
-    doubly_damaged(random, &good, &found, &[10, 11, 12])
+    doubly_damaged(random, &good, &found, &[10, 11, 12, 18])
 }
 
 /// Five samples for each number of the first fault.
@@ -265,6 +265,7 @@ fn good(name: String, table: Vec<u8>) -> Sample {
 pub fn vectors() -> Vec<Vector> {
     let mut random = Random::seeded(2026);
     let mut samples = known();
+    samples.push(unended());
     samples.extend(goods());
     samples.extend(front_damage());
     samples.extend(record_damage());

@@ -18,9 +18,9 @@ const NOT_THERE: Answer = Answer::plain(number::NO_SUCH_FIELD);
 
 /// Where the info and the extended info of the small table stand: behind
 /// header, control, host, one HFI, signature and host NQN, and behind the
-/// host name of four bytes.
-const INFO: usize = 160 + 32 + 3 + 5;
-const IDENTITY: usize = INFO + 128 + 4;
+/// host name, both with the byte that ends them.
+const INFO: usize = 160 + 32 + 3 + 6;
+const IDENTITY: usize = INFO + 128 + 5;
 
 /// The answer to the small table with these changes.
 fn changed(changes: &[(usize, &[u8])]) -> Answer {
@@ -38,7 +38,7 @@ fn a_form_has_its_records_and_objects_in_order() {
     assert_eq!(table[50], 1);
     assert_eq!(table[66], 0);
     assert_eq!(table[INFO..INFO + 7], [7, 1, 3, 2, 1, 0, 7]);
-    assert_eq!(&table[INFO + 128..IDENTITY], b"name");
+    assert_eq!(&table[INFO + 128..IDENTITY], b"name\0");
     let (identity, objects) = table[IDENTITY..].split_at(20);
     let places = [IDENTITY as u32 + 20, IDENTITY as u32 + 24].map(u32::to_le_bytes);
     let [[a, b, ..], [c, d, ..]] = places;
@@ -118,6 +118,7 @@ fn the_faults_of_an_interface_are_met_in_order() {
         (176, half, number::REFERENCE),
         (INFO + 3, &[3], number::HEAP_RECORD),
         (INFO + 104, half, number::REFERENCE),
+        (INFO + 128, &[0], number::TEXT),
         (INFO + 110, half, number::REFERENCE),
         (IDENTITY, &[9], number::HEAP_RECORD),
         (IDENTITY + 8, half, number::REFERENCE),
@@ -238,7 +239,7 @@ fn answer_to(told: &ToldInterface, room: usize) -> (Answer, State) {
 /// With a host name that is too long, a missing IAID and no room.
 #[test]
 fn a_told_record_s_own_rule_comes_before_its_objects_and_the_room() {
-    let long = vec![0; 65_536];
+    let long = vec![0; 65_535];
     for wrong in [
         told([0, 4, 3], Some(2)),
         told([3, 4, 3], None),
@@ -281,7 +282,7 @@ fn told_objects_are_judged_before_the_room() {
     let iaid = &long[1..];
     let too_long = answer_to(&ToldInterface { iaid, ..good }, 0);
     assert_eq!(too_long, refused(Answer::plain(number::FORM_TOO_LONG)));
-    let end = 192 + 128 + 4 + 20 + 4 + 4;
+    let end = 192 + 128 + 5 + 20 + 4 + 4;
     let too_short = answer_to(&good, end - 1);
     assert_eq!(too_short, refused(Answer::plain(number::OUTPUT_TOO_SHORT)));
     let (answer, next) = answer_to(&good, end);
@@ -300,7 +301,7 @@ fn what_does_not_count_is_dropped_before_any_test() {
     let used = |told| {
         let (answer, next) = answer_to(&anything(told), 400);
         assert_eq!(answer, Answer::DONE);
-        (next.used - 192 - 128 - 4, next.minor)
+        (next.used - 192 - 128 - 5, next.minor)
     };
     assert_eq!(used(told([1, 12, 1], Some(2))), (0, 0));
     assert_eq!(used(told([2, 4, 1], None)), (0, 1));

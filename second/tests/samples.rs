@@ -42,7 +42,7 @@ fn a_builder_run_makes_the_smallest_table() {
     let mut buffer = vec![0xEE; 200];
     let (answer, state) = builder::begin(&mut buffer, State::EMPTY, &[0; 26], [0; 4], &[]);
     assert_eq!(answer, Answer::DONE);
-    let (answer, state) = builder::host(&mut buffer, state, &[0xE0; 32], &[0x6E, 0]);
+    let (answer, state) = builder::host(&mut buffer, state, &[0xE0; 32], &[0x6E]);
     assert_eq!(answer, Answer::DONE);
     assert_eq!(buffer[4..8], [0; 4]);
     let (answer, state) = builder::finish(&mut buffer, state);
@@ -56,13 +56,13 @@ fn a_builder_run_makes_the_smallest_table() {
 
 /// K11, call by call.
 #[test]
-fn all_counts_255_leave_room_for_96_bytes() {
+fn all_counts_255_leave_room_for_95_bytes_of_text() {
     assert_eq!(records_end([255; 4]), 65_440);
     let mut buffer = vec![0; 65_536];
     let (_, state) = builder::begin(&mut buffer, State::EMPTY, &[0; 26], [255; 4], &[]);
-    let refused = builder::host(&mut buffer, state, &[0; 32], &[b'n'; 97]);
+    let refused = builder::host(&mut buffer, state, &[0; 32], &[b'n'; 96]);
     assert_eq!(refused, (Answer::plain(number::FORM_TOO_LONG), state));
-    let (answer, mut state) = builder::host(&mut buffer, state, &[0; 32], &[b'n'; 96]);
+    let (answer, mut state) = builder::host(&mut buffer, state, &[0; 32], &[b'n'; 95]);
     assert_eq!(answer, Answer::DONE);
     while state.turn != READY {
         let (answer, next) = builder::leave(&mut buffer, state);
@@ -77,12 +77,12 @@ fn all_counts_255_leave_room_for_96_bytes() {
 
 #[test]
 fn the_longest_tables_are_taken() {
-    for meaning in [crowded(96), longest()] {
+    for meaning in [crowded(95), longest()] {
         let table = form(&meaning);
         assert_eq!(table.len(), 65_536);
         assert_eq!(check(&table), Answer::DONE);
     }
-    assert_eq!(second::form_length(&crowded(97)), 65_537);
+    assert_eq!(second::form_length(&crowded(96)), 65_537);
 }
 
 #[test]
@@ -336,14 +336,14 @@ fn later_calls_refuse_in_order() {
         builder::host(&mut [], state, &[0; 32], &[]),
         (missing, state)
     );
-    let too_long = builder::host(&mut [], state, &[0; 32], &[1; 65_217]);
+    let too_long = builder::host(&mut [], state, &[0; 32], &[1; 65_216]);
     assert_eq!(too_long, (Answer::plain(number::FORM_TOO_LONG), state));
     let short = Answer::plain(number::OUTPUT_TOO_SHORT);
-    let full = builder::host(&mut buffer[..320], state, &[0; 32], &[1]);
+    let full = builder::host(&mut buffer[..321], state, &[0; 32], &[1]);
     assert_eq!(full, (short, state));
-    let (answer, state) = builder::host(&mut buffer[..321], state, &[0; 32], &[1]);
+    let (answer, state) = builder::host(&mut buffer[..322], state, &[0; 32], &[1]);
     assert_eq!((answer, state.turn, state.position), (Answer::DONE, 3, 1));
-    assert_eq!(builder::leave(&mut buffer[..320], state), (short, state));
+    assert_eq!(builder::leave(&mut buffer[..321], state), (short, state));
     let early = builder::finish(&mut buffer, state);
     assert_eq!(early, (Answer::plain(number::OUT_OF_TURN), state));
 }

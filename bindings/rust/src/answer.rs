@@ -3,7 +3,9 @@
 use core::error::Error;
 use core::fmt::{self, Display, Formatter};
 
-/// Why a call is refused. Those of a check stand in the order in which they are tested, then those of the other calls.
+/// Why a call is refused: those of a check, then those of the other calls, then [`Number::Text`], which is of both. Up
+/// to [`Number::Version`] they are tested in this order; then record after record, of each its own fields, its
+/// references in turn, with the heap record or the text that one names, and its indexes.
 #[repr(u8)]
 #[derive(Clone, Copy, Debug, PartialEq, Eq, Hash)]
 pub enum Number {
@@ -41,11 +43,13 @@ pub enum Number {
     NoSuchField = 16,
     /// The result would pass 65,536 bytes.
     ResultTooLong = 17,
+    /// A text does not end in its only zero byte; of a builder call, a text is told with a zero byte.
+    Text = 18,
 }
 
 impl Number {
     /// All numbers; each stands one place before the one that it is.
-    pub const ALL: [Number; 17] = [
+    pub const ALL: [Number; 18] = [
         Number::TooFewBytes,
         Number::Signature,
         Number::Length,
@@ -63,6 +67,7 @@ impl Number {
         Number::OutOfTurn,
         Number::NoSuchField,
         Number::ResultTooLong,
+        Number::Text,
     ];
 
     /// What it means, in words.
@@ -85,13 +90,16 @@ impl Number {
             Number::OutOfTurn => "a builder call out of turn or an impossible state",
             Number::NoSuchField => "no such kind, position or field",
             Number::ResultTooLong => "the output would pass 65536 bytes",
+            Number::Text => "a text does not end in its only zero byte",
         }
     }
 }
 
 /// Kinds of records, with the offsets of their fields, and of the references to their objects.
 ///
-/// A field of more than one byte is followed by its length in brackets.
+/// A field of more than one byte is followed by its length in brackets. Six objects are text: NQNs, host name, root
+/// path and the address of a discovery record, which is a URI. In the table a text ends in a zero byte, its terminator,
+/// and has no other. The other objects are bytes of any values.
 #[repr(u8)]
 #[derive(Clone, Copy, Debug, PartialEq, Eq, Hash)]
 pub enum Kind {
@@ -170,7 +178,7 @@ impl Display for Refusal {
 
 impl Error for Refusal {}
 
-/// Bits 0 to 7 are the number, 8 to 15 the kind, 16 to 31 the position. The library answers with no number above 17 and no
+/// Bits 0 to 7 are the number, 8 to 15 the kind, 16 to 31 the position. The library answers with no number above 18 and no
 /// kind above 6.
 pub(crate) fn answered(packed: u32) -> Result<(), Refusal> {
     let [number, kind, low, high] = packed.to_le_bytes();

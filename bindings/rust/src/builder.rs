@@ -21,7 +21,7 @@ pub struct Counts {
 pub struct Host<'a> {
     /// In table layout.
     pub record: &'a [u8; 32],
-    /// Required.
+    /// A text; required.
     pub nqn: &'a [u8],
 }
 
@@ -33,7 +33,7 @@ pub struct Hfi<'a> {
     /// The transport info. Its byte 3 is its version, 1 or 2; the DHCP server's address counts under its flag 2 alone.
     /// Flag 3 (autoconfigured) counts under version 2, and goes with neither flag 2 nor an IP origin (19).
     pub info: &'a [u8; 128],
-    /// The host name; optional.
+    /// The host name, a text; optional.
     pub name: &'a [u8],
     /// The extended info; optional under version 2, dropped under version 1.
     pub extended: Option<HfiExtended<'a>>,
@@ -61,11 +61,11 @@ pub struct Ssns<'a> {
     pub service: &'a [u8],
     /// The indexes of the secondary HFIs, one byte each; optional.
     pub others: &'a [u8],
-    /// Required.
+    /// A text; required.
     pub nqn: &'a [u8],
     /// The extended info. It and the root path count where flag 4 of the record is set.
     pub extended: &'a [u8; 18],
-    /// The root path; optional.
+    /// The root path, a text; optional.
     pub path: &'a [u8],
 }
 
@@ -94,9 +94,9 @@ pub struct Security<'a> {
 pub struct Discovery<'a> {
     /// In table layout.
     pub record: &'a [u8; 32],
-    /// Optional.
+    /// A URI, which is a text; optional.
     pub address: &'a [u8],
-    /// Optional.
+    /// A text; optional.
     pub nqn: &'a [u8],
 }
 
@@ -111,14 +111,20 @@ pub struct Discovery<'a> {
 /// only the version in byte 3 of a transport info is the caller's. Reserved bits, references in the told bytes, and fields
 /// and objects that other fields switch off are dropped before anything is tested. An object without bytes is absent.
 ///
-/// Each call is refused, in this order, out of turn; for a two-bit field that is 3 ([`Number::Record`]); for a transport
-/// info's version, flags or origin, or an HFI extended info's flags ([`Number::HeapRecord`]); for a required object that is
-/// empty or one of more than 65,535 bytes ([`Number::Reference`]); where the table would pass 65,536 bytes; and where the
-/// buffer is too short. A refused call changes nothing: what was wrong can be mended and the call made again.
+/// Text is told without its terminator, a zero byte that the builder writes behind it. So an empty text, which can be
+/// read and rewritten, cannot be built.
+///
+/// Each call is refused, in this order, out of turn; for a two-bit field that is 3 ([`Number::Record`]); for a
+/// transport info's version, flags or origin, or an HFI extended info's flags ([`Number::HeapRecord`]); object by
+/// object, for a required one that is empty, one of more than 65,535 bytes or a text of more than 65,534
+/// ([`Number::Reference`]), then for a text with a zero byte ([`Number::Text`]); where the table would pass 65,536
+/// bytes, terminators among them; and where the buffer is too short. A refused call changes nothing: what was wrong can
+/// be mended and the call made again.
 ///
 /// [`Number::Record`]: crate::Number::Record
 /// [`Number::HeapRecord`]: crate::Number::HeapRecord
 /// [`Number::Reference`]: crate::Number::Reference
+/// [`Number::Text`]: crate::Number::Text
 pub struct Builder<'b> {
     state: [u8; 16],
     out: &'b mut [u8],

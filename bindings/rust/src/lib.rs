@@ -88,6 +88,9 @@ pub fn field(table: &[u8], kind: Kind, position: u16, offset: u32) -> Result<Fie
 
 /// The object of the reference at `offset` in a record, as a part of `table`; `None` where it is absent.
 ///
+/// A text ([`Kind`] says which objects are) comes without its terminator. One that is present may be empty, and is then
+/// `Some(b"")`.
+///
 /// Positions and refusals are those of [`field`]. In an unused record every object is absent.
 pub fn object(table: &[u8], kind: Kind, position: u16, offset: u32) -> Result<Option<&[u8]>, Refusal> {
     // SAFETY: pointer and length are a slice's, which the functions only read.
@@ -98,8 +101,8 @@ pub fn object(table: &[u8], kind: Kind, position: u16, offset: u32) -> Result<Op
         )
     };
     answered(packed as u32)?;
-    let length = (packed >> 32) as usize;
-    Ok((length != 0).then(|| &table[start..start + length]))
+    let (present, length) = (packed >> 48 & 1 == 1, usize::from((packed >> 32) as u16));
+    Ok(present.then(|| &table[start..start + length]))
 }
 
 /// Writes the table's one form into the first bytes of `out`, and hands them back; those behind stay as they were.

@@ -238,7 +238,51 @@ fn heap_records_of_an_interface_are_judged_before_its_objects() {
     }
 }
 
-/// What is wrong here: the turn, the state, a two-bit field, an empty NQN and one that is too long, and the room.
+#[test]
+fn a_text_is_told_without_its_terminator() {
+    let mut buffer = vec![0; 200];
+    let mut builder = Builder::new(&mut buffer);
+    builder.begin(&[0; 26], Counts::default(), b"").unwrap();
+    builder.host(&Host { record: &[0; 32], nqn: b"nqn.h" }).unwrap();
+    let table = builder.finish().unwrap();
+    assert!(table.ends_with(b"nqn.h\0"));
+    assert_eq!(object(table, Kind::Host, 0, 18), Ok(Some(&b"nqn.h"[..])));
+}
+
+/// What is read as an empty text is told as one that is absent.
+#[test]
+fn an_empty_text_is_absent() {
+    let mut buffer = vec![0; 1000];
+    let mut builder = Builder::new(&mut buffer);
+    builder.begin(&[0; 26], Counts { hfi: 1, ..Counts::default() }, b"").unwrap();
+    builder.host(&Host { record: &[0; 32], nqn: b"nqn.h" }).unwrap();
+    builder.hfi(&Hfi { record: &[0; 32], info: &info(1, 0, 0), name: b"", extended: None }).unwrap();
+    assert_eq!(object(builder.finish().unwrap(), Kind::HfiInfo, 1, 104), Ok(None));
+}
+
+/// Address and service may have zero bytes, the NQN may not; whether it is too long is asked first. The root path, which
+/// has one too, is dropped without flag 4.
+#[test]
+fn the_first_object_at_fault_is_told() {
+    let told = |address: &[u8], nqn: &[u8]| {
+        let mut buffer = vec![0; 1000];
+        let mut builder = Builder::new(&mut buffer);
+        builder.begin(&[0; 26], Counts { ssns: 1, ..Counts::default() }, b"").unwrap();
+        builder.host(&Host { record: &[0; 32], nqn: b"nqn.h" }).unwrap();
+        let (record, extended): (&[u8; 128], &[u8; 18]) = (&[0; 128], &[0; 18]);
+        builder.ssns(&Ssns { record, address, service: b"\0", others: b"", nqn, extended, path: b"\0" })
+    };
+    let refused = |number| Err(Refusal { number, kind: Kind::Ssns, position: 1 });
+    assert_eq!(told(b"\0", b"nqn.s"), Ok(()));
+    assert_eq!(told(b"\0", b"nqn.s\0"), refused(Number::Text));
+    assert_eq!(told(b"", b"nqn.s\0"), refused(Number::Reference));
+    assert_eq!(told(b"\0", b""), refused(Number::Reference));
+    assert_eq!(told(b"\0", &[0; 65_535]), refused(Number::Reference));
+    assert_eq!(told(b"\0", &[0; 65_534]), refused(Number::Text));
+}
+
+/// What is wrong here: the turn, the state, a two-bit field, an empty NQN, one with a zero byte, two that are too long,
+/// and the room.
 #[test]
 fn refused_calls_change_nothing() {
     let mut begun = vec![0xA5; 170];
@@ -246,14 +290,16 @@ fn refused_calls_change_nothing() {
     builder.begin(&[7; 26], Counts::default(), b"").unwrap();
     let state = builder.state();
     type Call = fn(&mut Builder) -> Result<(), Refusal>;
-    let calls: [([u8; 16], Call, Number, Kind); 7] = [
+    let calls: [([u8; 16], Call, Number, Kind); 9] = [
         (state, |b| b.begin(&[0; 26], Counts::default(), b""), Number::OutOfTurn, Kind::Header),
         (state, |b| b.finish().map(|_| ()), Number::OutOfTurn, Kind::Header),
         ([0xFF; 16], |b| b.host(&Host { record: &[0; 32], nqn: b"n" }), Number::OutOfTurn, Kind::Header),
         (state, |b| b.host(&Host { record: &[0x18; 32], nqn: b"n" }), Number::Record, Kind::Host),
         (state, |b| b.host(&Host { record: &[0; 32], nqn: b"" }), Number::Reference, Kind::Host),
-        (state, |b| b.host(&Host { record: &[0; 32], nqn: &[1; 65_500] }), Number::ResultTooLong, Kind::Header),
-        (state, |b| b.host(&Host { record: &[0; 32], nqn: &[1; 11] }), Number::OutputTooShort, Kind::Header),
+        (state, |b| b.host(&Host { record: &[0; 32], nqn: b"n\0" }), Number::Text, Kind::Host),
+        (state, |b| b.host(&Host { record: &[0; 32], nqn: &[1; 65_535] }), Number::Reference, Kind::Host),
+        (state, |b| b.host(&Host { record: &[0; 32], nqn: &[1; 65_534] }), Number::ResultTooLong, Kind::Header),
+        (state, |b| b.host(&Host { record: &[0; 32], nqn: &[1; 10] }), Number::OutputTooShort, Kind::Header),
     ];
     for (before, call, number, kind) in calls {
         let mut buffer = begun.clone();
@@ -271,5 +317,5 @@ fn a_refused_call_can_be_mended_and_made_again() {
     builder.begin(&[0; 26], Counts::default(), b"").unwrap();
     assert!(builder.host(&Host { record: &[0; 32], nqn: b"" }).is_err());
     builder.host(&Host { record: &[0; 32], nqn: b"n" }).unwrap();
-    assert_eq!(builder.finish().map(<[u8]>::len), Ok(161));
+    assert_eq!(builder.finish().map(<[u8]>::len), Ok(162));
 }

@@ -46,6 +46,33 @@ fn an_object_is_a_part_of_the_table() {
     assert!(host.as_ptr_range().end <= MACHINE.as_ptr_range().end);
 }
 
+/// K7: the host NQN is the zero byte that ends the text of the smallest sample.
+#[test]
+fn an_empty_text_is_present() {
+    let mut table = SMALLEST.to_vec();
+    (table[146], table[150]) = (161, 1);
+    let table = summed(table);
+    let name = object(&table, Kind::Host, 0, 18).unwrap().unwrap();
+    assert_eq!(name, b"");
+    assert_eq!(name.as_ptr(), table[161..].as_ptr());
+    assert_eq!(object(&table, Kind::Header, 0, 44), Ok(None));
+}
+
+/// A text without its terminator, one with a zero byte inside, and one byte that is not zero.
+#[test]
+fn a_text_ends_in_its_only_zero_byte() {
+    let refusal = Refusal { number: Number::Text, kind: Kind::Host, position: 0 };
+    for (place, byte) in [(161, b'n'), (160, 0), (150, 1)] {
+        let mut table = SMALLEST.to_vec();
+        table[place] = byte;
+        let table = summed(table);
+        assert_eq!(check(&table), Err(refusal));
+        assert_eq!(object(&table, Kind::Host, 0, 18), Err(refusal));
+    }
+    assert_eq!(refusal.to_string(), "a text does not end in its only zero byte: host");
+    assert_eq!(bytes(SMALLEST, Kind::Host, 0, 18), b"n");
+}
+
 #[test]
 fn an_unused_record_has_no_field_and_no_object() {
     let unused = field(MIXED, Kind::Ssns, 1, 24).unwrap();
@@ -104,7 +131,8 @@ fn a_flipped_byte_is_refused() {
     }
 }
 
-/// What says how long the table is and where its heap stands is refused; another OEM or another name is not.
+/// What says how long the table is and where its heap stands is refused; another OEM or another name is not, but one
+/// that does not end is.
 #[test]
 fn a_flipped_byte_under_a_right_checksum_is_judged_by_what_it_says() {
     let flipped = |place: usize| {
@@ -113,9 +141,13 @@ fn a_flipped_byte_under_a_right_checksum_is_judged_by_what_it_says() {
         check(&summed(table))
     };
     let answers: Vec<_> = (0..MACHINE.len()).map(flipped).collect();
-    let (frame, oem, heap, last) = (&answers[..9], &answers[10..36], &answers[36..44], &answers[1157..]);
+    let name = object(MACHINE, Kind::Discovery, 1, 12).unwrap().unwrap();
+    let start = name.as_ptr() as usize - MACHINE.as_ptr() as usize;
+    let (frame, oem, heap) = (&answers[..9], &answers[10..36], &answers[36..44]);
     assert!(frame.iter().chain(heap).all(Result::is_err));
-    assert!(oem.iter().chain(last).all(Result::is_ok));
+    assert!(oem.iter().chain(&answers[start..][..name.len()]).all(Result::is_ok));
+    let text = Refusal { number: Number::Text, kind: Kind::Discovery, position: 1 };
+    assert_eq!(answers[start + name.len()], Err(text));
     let index = Refusal { number: Number::Index, kind: Kind::Ssns, position: 2 };
     assert_eq!(answers[398], Err(index));
     assert_eq!(index.to_string(), "an index names no valid record: SSNS 2");
@@ -124,7 +156,7 @@ fn a_flipped_byte_under_a_right_checksum_is_judged_by_what_it_says() {
 #[test]
 fn every_number_has_its_code_and_its_words() {
     let codes: Vec<u8> = Number::ALL.iter().map(|number| *number as u8).collect();
-    assert_eq!(codes, (1..=17).collect::<Vec<u8>>());
+    assert_eq!(codes, (1..=18).collect::<Vec<u8>>());
     assert_eq!(plain(Number::Checksum).to_string(), "the checksum is wrong");
     let host = Refusal { number: Number::Version, kind: Kind::Host, position: 0 };
     assert_eq!(host.to_string(), "a version is wrong: host");

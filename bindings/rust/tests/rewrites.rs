@@ -3,7 +3,7 @@
 mod common;
 
 use common::{form, image, summed, MACHINE, SAMPLES, SMALLEST};
-use nbft::{check, rewrite, Kind, Number};
+use nbft::{check, object, rewrite, Kind, Number};
 
 #[test]
 fn a_form_is_good_and_rewrites_to_itself() {
@@ -29,6 +29,16 @@ fn reserved_bytes_are_no_part_of_the_form() {
     assert_eq!(check(&table), Ok(()));
     assert_ne!(table, SMALLEST);
     assert_eq!(form(&table), form(SMALLEST));
+}
+
+/// K7, whose host NQN is one zero byte.
+#[test]
+fn an_empty_text_stays_one() {
+    let mut table = SMALLEST.to_vec();
+    (table[146], table[150]) = (161, 1);
+    let once = form(&summed(table));
+    assert_eq!(once.len(), 161);
+    assert_eq!(object(&once, Kind::Host, 0, 18), Ok(Some(&b""[..])));
 }
 
 #[test]

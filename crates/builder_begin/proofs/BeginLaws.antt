@@ -11,21 +11,21 @@ use borrow.Author.Tests.{eq-eqb, ne-eqb}
 use Rattle.table.specs.declared.Answer.{Answer}
 use Rattle.table.specs.declared.State.{State}
 use Rattle.table.specs.Bytes.{splice}
-use Rattle.table.specs.Layout.{Env, env, slotAt}
+use Rattle.table.specs.Layout.{Env, env, slotAt, anything}
 use Rattle.table.specs.FixedLayouts.{header, host, listKinds}
 use Rattle.table.specs.Objects.{sizeOf, sizeEntry, spanBody, heapOf, recEntry, heapEntry, recsBody, heapBody}
 use Rattle.table.specs.Meaning.{Meaning, heapAt, heapLen, formLength, headFront, headBack, controlBytes, behind, laidOut}
 use Rattle.table.specs.Rules.{answer, firstFail}
-use Rattle.table.specs.Builder.{begin, begun, endOf, recordsEnd, countOf, empty, opened, allUnused, roomTests, sameState, slotsRule}
+use Rattle.table.specs.Builder.{begin, begun, endOf, recordsEnd, countOf, empty, opened, allUnused, roomTests, sameState, slotsRule, toldSlots}
 use Rattle.laws.specs.Blank.{AllBlank, lengthsOf, fit-unused, blank-recs, blank-heap, blank-size}
 use Rattle.laws.specs.Turns.{end-is}
 use Rattle.bytes_front.specs.declared.Counts.{Counts}
 use Rattle.bytes_front.specs.Front.{headerFor, controlFor}
 use Rattle.bytes_writer.proofs.StoreLaws.{concat}
 use Rattle.bytes_front.proofs.FrontLaws.{header-is, header-joined, header-long, control-is, control-joined, control-long}
-use Rattle.builder_record.proofs.FillLaws.{slots-fault}
+use Rattle.builder_record.proofs.FillLaws.{faults-told}
 use Rattle.laws.specs.RefWalk.{first-zero}
-use Rattle.builder_told.specs.Faults.{objectFault}
+use Rattle.laws.specs.TextLaws.{toldFault}
 use Rattle.table.specs.declared.Need.the-variants.{Optional}
 use Rattle.builder_begin.specs.Begins.{headerTold, beginWith, SmallCounts}
 
@@ -99,9 +99,9 @@ module _ (oem : List ℕ) (c : Counts) (small : SmallCounts c) (signature : List
 
 -- ---- answers
 
-number-is : (e : Env) (signature : List ℕ) → slotsRule e [] (headerTold signature) ≡ objectFault Optional signature
-unfolding headerTold header
-number-is e signature = slots-fault e [] (headerTold signature) ∙ first-zero (objectFault Optional signature)
+number-is : (e : Env) (signature : List ℕ) → slotsRule e [] (headerTold signature) ≡ toldFault Optional anything signature
+unfolding headerTold header toldSlots
+number-is e signature = faults-told e 0 [] (headerTold signature) ∙ first-zero (toldFault Optional anything signature)
 
 module _ (s : State) (b oem cs signature : List ℕ) where
   pub begin-again : sameState s empty ≡ false → (record { answer = answer 15 0 0; state = s } ≡ beginWith s b oem cs signature .step) × (b ≡ beginWith s b oem cs signature .buffer)
@@ -109,7 +109,7 @@ module _ (s : State) (b oem cs signature : List ℕ) where
   begin-again e = (rw e refl, rw e refl)
 
   module _ (e : sameState s empty ≡ true) where
-    module _ (q : ℕ) (p : q ≡ objectFault Optional signature) where
+    module _ (q : ℕ) (p : q ≡ toldFault Optional anything signature) where
       number : slotsRule (env (countOf listKinds cs) 0) [] (headerTold signature) ≡ q
       number = number-is (env (countOf listKinds cs) 0) signature ∙ sym p
 
@@ -117,7 +117,7 @@ module _ (s : State) (b oem cs signature : List ℕ) where
       unfolding beginWith begin
       begin-faulty z = let f = ne-eqb q 0 z in (rw (e, number, f) (rw f refl), rw (e, number, f) (rw f refl))
 
-    module _ (k : objectFault Optional signature ≡ 0) (n : ℕ) (f : n ≡ formLength (opened oem cs (headerTold signature))) (a : Answer) (g : a ≡ firstFail (roomTests n (length b))) where
+    module _ (k : toldFault Optional anything signature ≡ 0) (n : ℕ) (f : n ≡ formLength (opened oem cs (headerTold signature))) (a : Answer) (g : a ≡ firstFail (roomTests n (length b))) where
       none : slotsRule (env (countOf listKinds cs) 0) [] (headerTold signature) ≡ 0
       none = number-is (env (countOf listKinds cs) 0) signature ∙ k
 

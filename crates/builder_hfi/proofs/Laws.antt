@@ -9,27 +9,27 @@ use lib.ListN.{length, getD, length-append}
 use lib.Dec.{eqb, lit<}
 use borrow.Author.Tests.{eq-eqb, ne-eqb, eqb-true}
 use Rattle.table.specs.declared.Need.{Need}
-use Rattle.table.specs.declared.Need.the-variants.{Ignored, Optional, Required}
+use Rattle.table.specs.declared.Need.the-variants.{Optional}
 use Rattle.table.specs.declared.Answer.{Answer}
 use Rattle.table.specs.declared.State.{State}
-use Rattle.table.specs.Bytes.{pick, num, bits}
-use Rattle.table.specs.Layout.{Slots, nil, bytes, gone, rec, recAt, baseOf}
-use Rattle.table.specs.FixedLayouts.{layoutOf, whenIs, whenSet, infoRule, identityRule, hfi, info, hfiExtended}
+use Rattle.table.specs.Bytes.{pick, num}
+use Rattle.table.specs.Layout.{Slots, bytes, recAt, baseOf, anything, text}
+use Rattle.table.specs.FixedLayouts.{layoutOf, whenSet, infoRule, identityRule, hfi, info, hfiExtended}
 use Rattle.table.specs.Objects.{under, sizeOf, heapOf, patched}
 use Rattle.table.specs.Rules.{firstOf, firstFail}
-use Rattle.table.specs.Builder.{waits, toldImage, toldSlots, nestsRight, mayHave, mayLack}
+use Rattle.table.specs.Builder.{ended, waits, toldImage, toldSlots, nestsRight}
 use Rattle.laws.specs.Fields.{Bytes, imageIn, masked-if, whole, one-byte}
 use Rattle.laws.specs.RefWalk.{first-zero}
 use Rattle.bytes_writer.proofs.StoreLaws.{concat}
 use Rattle.builder_writers.specs.Written.{recordWith}
 use Rattle.builder_writers.proofs.WriterLaws.{record-is}
 use Rattle.builder_told.specs.Marks.{marked}
-use Rattle.builder_told.specs.Faults.{objectFault}
+use Rattle.laws.specs.TextLaws.{toldFault}
 use Rattle.builder_told.proofs.Laws.{image-is}
 use Rattle.builder_record.specs.Steps.{laid, judgeTests}
 use Rattle.builder_record.specs.Calls.{identityTold, infoTold, hfiTold, tellHfi}
 use Rattle.builder_record.proofs.JudgeLaws.{judge-passed}
-use Rattle.builder_record.proofs.FillLaws.{slotsFault, fill-refused, fill-done, first-none, fault-short}
+use Rattle.builder_record.proofs.FillLaws.{toldFaults, fill-refused, fill-done, first-none, fault-short}
 use Rattle.builder_hfi.specs.HfiParts.{ownNeed, ownFault, hfiFault, hfiSlots, identitySize, identityPart, infoPart, laidHfi}
 
 -- ---- bytes of the transport info, in x
@@ -238,7 +238,7 @@ module _ (s : State) (buf x b i c name : List ℕ) (told : Bool) (e d iaid duid 
 
   -- what is left of what is told
   abbrev left : Bool → Slots (hfi .refs)
-  left t = hfiSlots img₇ name t img₁₀ iaid duid
+  left t = hfiSlots img₇ (ended text name) t img₁₀ iaid duid
 
   left-by : (t v : Bool) → eqb (getD img₇ 3 0) 2 ≡ v → toldSlots (s .position) img₃ (hfiTold i name t e iaid duid) ≡ left (t && v)
   unfolding hfi info hfiExtended hfiSlots hfiTold infoTold identityTold toldSlots ownNeed
@@ -249,16 +249,16 @@ module _ (s : State) (buf x b i c name : List ℕ) (told : Bool) (e d iaid duid 
   left-is : toldSlots (s .position) img₃ (hfiTold i name told e iaid duid) ≡ left there
   left-is = left-by told (eqb (getD img₇ 3 0) 2) refl ∙ ap left (sym there-is)
 
-  fault-is : (t v : Bool) → eqb (getD img₇ 3 0) 2 ≡ v → hfiFault name (ownNeed (t && v) img₁₀) iaid duid ≡ slotsFault img₃ (left (t && v))
-  unfolding hfi info hfiExtended hfiSlots hfiTold infoTold identityTold ownNeed
+  fault-is : (t v : Bool) → eqb (getD img₇ 3 0) 2 ≡ v → hfiFault name (ownNeed (t && v) img₁₀) iaid duid ≡ toldFaults (s .position) img₃ (hfiTold i name t e iaid duid)
+  unfolding hfi info hfiExtended hfiTold infoTold identityTold ownNeed
   fault-is true true q =
-      let f₁ : ℕ = objectFault Optional name in
-      let f₂ : ℕ = objectFault (whenSet 4 4 1 1 img₁₀) iaid in
-      let f₃ : ℕ = objectFault (whenSet 4 4 1 1 img₁₀) duid in
+      let f₁ : ℕ = toldFault Optional text name in
+      let f₂ : ℕ = toldFault (whenSet 4 4 1 1 img₁₀) anything iaid in
+      let f₃ : ℕ = toldFault (whenSet 4 4 1 1 img₁₀) anything duid in
       rw q (sym (first-zero (firstOf f₁ (firstOf (firstOf f₂ (firstOf f₃ 0)) 0)) ∙ ap (firstOf f₁) (first-zero (firstOf f₂ (firstOf f₃ 0)) ∙ ap (firstOf f₂) (first-zero f₃))))
-  fault-is true false q = rw q (sym (first-zero (firstOf (objectFault Optional name) 0)))
-  fault-is false true q = rw q (sym (first-zero (firstOf (objectFault Optional name) 0)))
-  fault-is false false q = rw q (sym (first-zero (firstOf (objectFault Optional name) 0)))
+  fault-is true false q = rw q (sym (first-zero (firstOf (toldFault Optional text name) 0)))
+  fault-is false true q = rw q (sym (first-zero (firstOf (toldFault Optional text name) 0)))
+  fault-is false false q = rw q (sym (first-zero (firstOf (toldFault Optional text name) 0)))
 
   kept₃ : Slots (hfi .refs)
   kept₃ = toldSlots (s .position) img₃ (hfiTold i name told e iaid duid)
@@ -267,16 +267,13 @@ module _ (s : State) (buf x b i c name : List ℕ) (told : Bool) (e d iaid duid 
   unfolding kept₃ hfiSlots
   own-is =
       eo ∙ ap₂ (λ (y z : List ℕ). ownFault y there z) told₇ told₁₀
-      ∙ own-rules img₃ img₇ name img₁₀ (under (ownNeed there img₁₀) [] iaid) (under (ownNeed there img₁₀) [] duid) there
+      ∙ own-rules img₃ img₇ (ended text name) img₁₀ (under (ownNeed there img₁₀) [] iaid) (under (ownNeed there img₁₀) [] duid) there
       ∙ ap (λ (ss : Slots (hfi .refs)). pick (nestsRight img₃ ss) 0 12) (sym left-is)
 
-  objects-are : objects ≡ slotsFault img₃ kept₃
-  unfolding kept₃
+  objects-are : objects ≡ toldFaults (s .position) img₃ (hfiTold i name told e iaid duid)
   objects-are =
       en ∙ ap₂ (λ (t : Bool) (y : List ℕ). hfiFault name (ownNeed t y) iaid duid) there-is told₁₀
       ∙ fault-is told (eqb (getD img₇ 3 0) 2) refl
-      ∙ ap (λ (t : Bool). slotsFault img₃ (left t)) (sym there-is)
-      ∙ ap (slotsFault img₃) (sym left-is)
 
   pub hfi-refused : (a .number ≡ 0 → ⊥)
       → (record { answer = a; state = s } ≡ tellHfi s buf x i name told e iaid duid .step) × (buf ≡ tellHfi s buf x i name told e iaid duid .buffer)
@@ -284,20 +281,20 @@ module _ (s : State) (buf x b i c name : List ℕ) (told : Bool) (e d iaid duid 
   hfi-refused z = fill-refused hfi s buf x b (hfiTold i name told e iaid duid) own objects a eb ea own-is objects-are z
 
   pub hfi-passed : a .number ≡ 0
-      → (waits s 3 ≡ true) × (length name ≤ 65535)
+      → (waits s 3 ≡ true) × (length (ended text name) ≤ 65535)
       × (length (under (ownNeed there (imageIn hfiExtended d 0)) [] iaid) ≤ 65535)
       × (length (under (ownNeed there (imageIn hfiExtended d 0)) [] duid) ≤ 65535)
   unfolding layoutOf hfi
   hfi-passed z =
       let n : Need = ownNeed there (imageIn hfiExtended d 0) in
       let p = judge-passed (layoutOf 3) s (imageIn (layoutOf 3) b 0) own objects a ea z in
-      let a₁ = first-none (objectFault Optional name) (firstOf (objectFault n iaid) (objectFault n duid)) (sym en ∙ p .1) in
-      let a₂ = first-none (objectFault n iaid) (objectFault n duid) (a₁ .1) in
-      (p .0, fault-short Optional name (a₁ .0), fault-short n iaid (a₂ .0), fault-short n duid (a₂ .1))
+      let a₁ = first-none (toldFault Optional text name) (firstOf (toldFault n anything iaid) (toldFault n anything duid)) (sym en ∙ p .1) in
+      let a₂ = first-none (toldFault n anything iaid) (toldFault n anything duid) (a₁ .1) in
+      (p .0, fault-short Optional text name (a₁ .0), fault-short n anything iaid (a₂ .0), fault-short n anything duid (a₂ .1))
 
-  pub hfi-done : a .number ≡ 0 → laidHfi s buf b c name there d iaid duid ≡ tellHfi s buf x i name told e iaid duid
+  pub hfi-done : a .number ≡ 0 → laidHfi s buf b c (ended text name) there d iaid duid ≡ tellHfi s buf x i name told e iaid duid
   unfolding laidHfi tellHfi layoutOf kept₃
   hfi-done z =
-      ap₂ (λ (y w : List ℕ). laid hfi s buf b (hfiSlots y name there w iaid duid)) told₇ told₁₀
+      ap₂ (λ (y w : List ℕ). laid hfi s buf b (hfiSlots y (ended text name) there w iaid duid)) told₇ told₁₀
       ∙ ap (laid hfi s buf b) (sym left-is)
       ∙ fill-done hfi s buf x b (hfiTold i name told e iaid duid) own objects a eb ea own-is objects-are z

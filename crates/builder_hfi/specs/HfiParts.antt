@@ -7,7 +7,7 @@ use Rattle.table.specs.declared.Need.{Need}
 use Rattle.table.specs.declared.Need.the-variants.{Ignored, Optional}
 use Rattle.table.specs.declared.State.{State}
 use Rattle.table.specs.Bytes.{pick}
-use Rattle.table.specs.Layout.{Slots, baseOf}
+use Rattle.table.specs.Layout.{Slots, baseOf, anything, text}
 use Rattle.table.specs.FixedLayouts.{infoRule, identityRule, whenSet, hfi, info, hfiExtended}
 use Rattle.table.specs.Objects.{under}
 use Rattle.table.specs.Rules.{firstOf}
@@ -15,7 +15,7 @@ use Rattle.table.specs.Builder.{Outcome}
 use Rattle.laws.specs.Fields.{imageIn}
 use Rattle.bytes_writer.proofs.StoreLaws.{concat}
 use Rattle.builder_writers.specs.Written.{recordWith}
-use Rattle.builder_told.specs.Faults.{objectFault}
+use Rattle.laws.specs.TextLaws.{toldFault}
 use Rattle.builder_record.specs.Steps.{laid}
 use Rattle.builder_record.specs.Calls.{hfiTold}
 
@@ -29,7 +29,7 @@ ownFault own there extended = firstOf (pick (infoRule [] own) 0 12) (pick there 
 
 -- the first fault of the objects
 abbrev pub hfiFault : (name : List ℕ) (need : Need) (iaid duid : List ℕ) → ℕ
-hfiFault name need iaid duid = firstOf (objectFault Optional name) (firstOf (objectFault need iaid) (objectFault need duid))
+hfiFault name need iaid duid = firstOf (toldFault Optional text name) (firstOf (toldFault need anything iaid) (toldFault need anything duid))
 
 -- what is named: own and extended are images
 unfoldable pub hfiSlots : (own name : List ℕ) (there : Bool) (extended iaid duid : List ℕ) → Slots (hfi .refs)

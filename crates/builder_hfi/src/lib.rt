@@ -3,12 +3,15 @@
 // own to set (`builder_told::marks`); so are `info` and `extended` where they are slices.
 use builder_record::judging::judged;
 use builder_record::judging::refused;
+use builder_record::laying::lay_text;
 use builder_record::laying::stepped;
 use builder_told::marks::mark_20;
 use builder_told::marks::mark_32;
 use builder_told::marks::mark_128;
+use builder_told::objects::ended_len;
 use builder_told::objects::first_of;
 use builder_told::objects::fits;
+use builder_told::objects::fits_text;
 use builder_told::objects::kept;
 use builder_writers::write_hfi;
 use builder_writers::write_hfi_extended;
@@ -28,11 +31,11 @@ ghost use Prim.Native.Nat.{_+_, _≤_};
 ghost use lib.ListN.{length, getD};
 ghost use lib.Dec.{eqb};
 ghost use Rattle.table.specs.Bytes.{pick, splice};
-ghost use Rattle.table.specs.Layout.{baseOf};
+ghost use Rattle.table.specs.Layout.{text, baseOf};
 ghost use Rattle.table.specs.FixedLayouts as layouts;
 ghost use Rattle.table.specs.Objects.{under};
 ghost use Rattle.table.specs.Meaning.{limit};
-ghost use Rattle.table.specs.Builder.{waits, Gives};
+ghost use Rattle.table.specs.Builder.{waits, ended, Gives};
 ghost use Rattle.laws.specs.Fields.{imageIn};
 ghost use Rattle.builder_record.specs.Calls.{tellHfi};
 ghost use Rattle.builder_hfi.specs.HfiParts.{ownNeed, ownFault, hfiFault, identitySize, identityPart, infoPart, laidHfi};
@@ -140,7 +143,7 @@ fn object_fault(name: &[u8], there: bool, extended: &[u8], iaid: &[u8], duid: &[
 {
     let need = own_need(there, extended);
     let identity = first_of(fits(need, iaid), fits(need, duid));
-    first_of(fits(Need::Optional, name), identity)
+    first_of(fits_text(Need::Optional, name), identity)
 }
 
 // The HFI extended info's bytes, none where it is not.
@@ -186,16 +189,17 @@ fn lay_info(
     duid: &[u8],
 )
     requires { ⌜ (length (now info) ≡ baseOf layouts.info) × (length (now extended) ≡ baseOf layouts.hfiExtended) ⌝ }
-    requires { ⌜ (length (now name) ≤ 65535) × (length (now iaid) ≤ 65535) × (length (now duid) ≤ 65535) ⌝ }
-    requires { ⌜ (at + (128 + (length (now name) + identitySize there (now iaid) (now duid))) ≤ limit) × (at + (128 + (length (now name) + identitySize there (now iaid) (now duid))) ≤ length (now out)) ⌝ }
-    ensures { λ r. ⌜ now (out .exit) ≡ splice (now (out .entry)) at (infoPart (now (info .entry)) at (now (name .entry)) there (now (extended .entry)) (now (iaid .entry)) (now (duid .entry))) ⌝ }
+    requires { ⌜ (length (ended text (now name)) ≤ 65535) × (length (now iaid) ≤ 65535) × (length (now duid) ≤ 65535) ⌝ }
+    requires { ⌜ (at + (128 + (length (ended text (now name)) + identitySize there (now iaid) (now duid))) ≤ limit) × (at + (128 + (length (ended text (now name)) + identitySize there (now iaid) (now duid))) ≤ length (now out)) ⌝ }
+    ensures { λ r. ⌜ now (out .exit) ≡ splice (now (out .entry)) at (infoPart (now (info .entry)) at (ended text (now (name .entry))) there (now (extended .entry)) (now (iaid .entry)) (now (duid .entry))) ⌝ }
 {
     let end = at + Info::SIZE;
     let size = own_size(there);
     let span = identity_size(there, iaid, duid);
-    write_info(&mut out[at..end], info, end, name.len(), size, span);
-    copy_into(out, end, name);
-    lay_identity(out, end + name.len(), there, extended, iaid, duid);
+    let name_len = ended_len(name);
+    write_info(&mut out[at..end], info, end, name_len, size, span);
+    lay_text(out, end, name);
+    lay_identity(out, end + name_len, there, extended, iaid, duid);
 }
 
 // The HFI, and behind the bytes used its transport info with what this names, where there is room.
@@ -211,14 +215,14 @@ fn lay_hfi(
     duid: &[u8],
 ) -> Step
     requires { ⌜ (waits state 3 ≡ true) × (length (now marked) ≡ baseOf layouts.hfi) × (length (now info) ≡ baseOf layouts.info) × (length (now extended) ≡ baseOf layouts.hfiExtended) ⌝ }
-    requires { ⌜ (length (now name) ≤ 65535) × (length (under (ownNeed there (imageIn layouts.hfiExtended (now extended) 0)) [] (now iaid)) ≤ 65535) × (length (under (ownNeed there (imageIn layouts.hfiExtended (now extended) 0)) [] (now duid)) ≤ 65535) ⌝ }
-    ensures { λ r. ⌜ Gives (laidHfi state (now (out .entry)) (now (marked .entry)) (now (info .entry)) (now (name .entry)) there (now (extended .entry)) (now (iaid .entry)) (now (duid .entry))) r (now (out .exit)) ⌝ }
+    requires { ⌜ (length (ended text (now name)) ≤ 65535) × (length (under (ownNeed there (imageIn layouts.hfiExtended (now extended) 0)) [] (now iaid)) ≤ 65535) × (length (under (ownNeed there (imageIn layouts.hfiExtended (now extended) 0)) [] (now duid)) ≤ 65535) ⌝ }
+    ensures { λ r. ⌜ Gives (laidHfi state (now (out .entry)) (now (marked .entry)) (now (info .entry)) (ended text (now (name .entry))) there (now (extended .entry)) (now (iaid .entry)) (now (duid .entry))) r (now (out .exit)) ⌝ }
 {
     let used = state.used;
     let need = own_need(there, extended);
     let own_iaid = kept(need, iaid);
     let own_duid = kept(need, duid);
-    let named = name.len() + identity_size(there, own_iaid, own_duid);
+    let named = ended_len(name) + identity_size(there, own_iaid, own_duid);
     let written = Info::SIZE + named;
     let room = room_fault(used + written, out.len());
     if room.number != 0 {

@@ -2,12 +2,13 @@
 // bytes once the builder has set those that are its own to set (`builder_told::marks`).
 use builder_record::judging::judged;
 use builder_record::judging::refused;
+use builder_record::laying::lay_text;
 use builder_record::laying::stepped;
 use builder_told::marks::mark_32;
-use builder_told::objects::fits;
+use builder_told::objects::ended_len;
+use builder_told::objects::fits_text;
 use builder_writers::write_host;
 use bytes_room::room_fault;
-use bytes_writer::stores::copy_into;
 use table::Host;
 use table::Need;
 use table::State;
@@ -16,19 +17,19 @@ ghost use mathlib.Core.Path.{_≡_};
 ghost use mathlib.Core.Bool.{true};
 ghost use Prim.Native.Nat.{_≤_};
 ghost use lib.ListN.{length};
-ghost use Rattle.table.specs.Layout.{baseOf};
+ghost use Rattle.table.specs.Layout.{text, baseOf};
 ghost use Rattle.table.specs.FixedLayouts as layouts;
-ghost use Rattle.table.specs.Builder.{waits, Gives};
+ghost use Rattle.table.specs.Builder.{waits, ended, Gives};
 ghost use Rattle.builder_record.specs.Steps.{laid};
 ghost use Rattle.builder_record.specs.Calls.{hostTold, tellHost};
 
-// The host and its NQN, where there is room.
+// The host and its NQN, a text, where there is room.
 fn lay_host(out: &mut [u8], state: State, marked: &[u8], nqn: &[u8]) -> Step
-    requires { ⌜ (waits state 2 ≡ true) × (length (now marked) ≡ baseOf layouts.host) × (length (now nqn) ≤ 65535) ⌝ }
-    ensures { λ r. ⌜ Gives (laid layouts.host state (now (out .entry)) (now (marked .entry)) (hostTold (now (nqn .entry)))) r (now (out .exit)) ⌝ }
+    requires { ⌜ (waits state 2 ≡ true) × (length (now marked) ≡ baseOf layouts.host) × (length (ended text (now nqn)) ≤ 65535) ⌝ }
+    ensures { λ r. ⌜ Gives (laid layouts.host state (now (out .entry)) (now (marked .entry)) (hostTold (ended text (now (nqn .entry))))) r (now (out .exit)) ⌝ }
 {
     let used = state.used;
-    let written = nqn.len();
+    let written = ended_len(nqn);
     let room = room_fault(used + written, out.len());
     if room.number != 0 {
         return refused(room, state);
@@ -36,7 +37,7 @@ fn lay_host(out: &mut [u8], state: State, marked: &[u8], nqn: &[u8]) -> Step
     let at = builder_state::place_of(state, Host::ID);
     let end = at + Host::SIZE;
     write_host(&mut out[at..end], marked, used, written);
-    copy_into(out, used, nqn);
+    lay_text(out, used, nqn);
     stepped(room, state, written, false)
 }
 
@@ -46,7 +47,7 @@ pub fn host(out: &mut [u8], state: State, told: Host, nqn: &[u8]) -> Step
 {
     let bytes = told.bytes;
     let marked = mark_32(bytes, Host::ID, state.position as usize);
-    let answer = judged(state, Host::ID, &marked, 0, fits(Need::Required, nqn));
+    let answer = judged(state, Host::ID, &marked, 0, fits_text(Need::Required, nqn));
     if answer.number != 0 {
         return refused(answer, state);
     }

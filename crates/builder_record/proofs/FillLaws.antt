@@ -8,40 +8,51 @@ use lib.ListN.{length}
 use lib.Dec.{T, eqb}
 use borrow.Author.Tests.{eq-eqb, ne-eqb, eqb-true, leb-true}
 use Rattle.table.specs.declared.Need.{Need}
+use Rattle.table.specs.declared.Need.the-variants.{Ignored, Optional, Required}
 use Rattle.table.specs.declared.Answer.{Answer}
 use Rattle.table.specs.declared.State.{State}
 use Rattle.table.specs.Bytes.{pick}
-use Rattle.table.specs.Layout.{Layout, Env, Refs, none, plain, nest, Slots, nil, bytes, gone, rec, pairsRight}
+use Rattle.table.specs.Layout.{Layout, Content, Env, env, Refs, none, plain, nest, Slots, nil, bytes, gone, rec, pairsRight}
 use Rattle.table.specs.FixedLayouts.{host, ssns, security, discovery, extended}
 use Rattle.table.specs.Objects.{sizeOf, under}
-use Rattle.table.specs.Rules.{Test, test, answer, firstFail, firstOf}
-use Rattle.table.specs.Builder.{Outcome, outcome, envOf, fill, fillAnswer, fitsNeed, isShort, mayHave, mayLack, nestsRight, next, placeOf, placed, roomTests, slotsRule, toldImage, toldSlots, waits}
+use Rattle.table.specs.Rules.{Test, test, answer, firstFail, firstOf, ruled}
+use Rattle.table.specs.Builder.{Outcome, outcome, ended, envOf, fill, fillAnswer, fitsNeed, isShort, mayLack, nestsRight, next, placeOf, placed, roomTests, slotsRule, toldImage, toldSlots, waits}
 use Rattle.laws.specs.Fields.{imageIn}
-use Rattle.laws.specs.Refusals.{asks-none}
 use Rattle.laws.specs.RefWalk.{first-zero}
+use Rattle.laws.specs.TextLaws.{toldFault, told-fault}
 use Rattle.builder_told.specs.Marks.{marked}
-use Rattle.builder_told.specs.Faults.{objectFault}
 use Rattle.builder_told.proofs.Laws.{image-is}
 use Rattle.builder_record.specs.Steps.{laid, judgeTests}
 
 -- ---- the objects
 
--- no further rule of an object gives a number yet: what is left of slotsRule
-abbrev pub slotsFault : {rs : Refs} → List ℕ → Slots rs → ℕ
-slotsFault img nil = 0
-slotsFault img (bytes {need = need} b ss) = firstOf (pick (fitsNeed (need img) b && isShort b) 0 11) (slotsFault img ss)
-slotsFault img (gone {need = need} ss) = firstOf (pick (mayLack (need img)) 0 11) (slotsFault img ss)
-slotsFault img (rec {need = need} img′ own ss) = firstOf (firstOf (pick (mayHave (need img)) 0 11) (slotsFault img′ own)) (slotsFault img ss)
+-- the first fault by field, of what is told: a dropped heap record has none
+abbrev pub toldFaults : {rs : Refs} → ℕ → List ℕ → Slots rs → ℕ
+toldFaults n img nil = 0
+toldFaults n img (bytes {need = need} {content = content} b ss) = firstOf (toldFault (need img) content b) (toldFaults n img ss)
+toldFaults n img (gone {need = need} ss) = firstOf (pick (mayLack (need img)) 0 11) (toldFaults n img ss)
+toldFaults n img (rec {need = need} {shape = shape} x own ss) = firstOf (under (need img) 0 (toldFaults n (toldImage shape n x) own)) (toldFaults n img ss)
 
-pub slots-fault : {rs : Refs} (e : Env) (img : List ℕ) (ss : Slots rs) → slotsRule e img ss ≡ slotsFault img ss
-unfolding slotsRule
-slots-fault e img nil = refl
-slots-fault e img (bytes {need = need} {content = content} b ss) =
-    let here : ℕ = pick (fitsNeed (need img) b && isShort b) 0 11 in
-    ap₂ (λ (x y : ℕ). firstOf (firstOf here x) y) (asks-none content e b) (slots-fault e img ss) ∙ ap (λ (x : ℕ). firstOf x (slotsFault img ss)) (first-zero here)
-slots-fault e img (gone {need = need} ss) = ap (firstOf (pick (mayLack (need img)) 0 11)) (slots-fault e img ss)
-slots-fault e img (rec {need = need} img′ own ss) =
-    ap₂ (λ (x y : ℕ). firstOf (firstOf (pick (mayHave (need img)) 0 11) x) y) (slots-fault e img′ own) (slots-fault e img ss)
+-- it is that of the objects as they are kept
+pub faults-told : {rs : Refs} (e : Env) (n : ℕ) (img : List ℕ) (ss : Slots rs) → slotsRule e img (toldSlots n img ss) ≡ toldFaults n img ss
+unfolding slotsRule toldSlots
+faults-told e n img nil = refl
+faults-told e n img (bytes {need = need} {content = content} b ss) = ap₂ firstOf (told-fault e (need img) content b) (faults-told e n img ss)
+faults-told e n img (gone {need = need} ss) = ap (firstOf (pick (mayLack (need img)) 0 11)) (faults-told e n img ss)
+faults-told e n img (rec {p = p} {need = need} {shape = shape} x own ss) =
+    go (need img) refl (faults-told e n (toldImage shape n x) own) (faults-told e n img ss)
+  where
+    y : List ℕ
+    y = toldImage shape n x
+
+    -- under the need m
+    go : (m : Need) → need img ≡ m → slotsRule e y (toldSlots n y own) ≡ toldFaults n y own → slotsRule e img (toldSlots n img ss) ≡ toldFaults n img ss
+        → slotsRule e img
+        (under m (gone {p = p} {need = need} {shape = shape} (toldSlots n img ss)) (rec {p = p} {need = need} {shape = shape} y (toldSlots n y own) (toldSlots n img ss)))
+        ≡ firstOf (under m 0 (toldFaults n y own)) (toldFaults n img ss)
+    go Ignored q i r = rw q r
+    go Optional q i r = rw q (ap₂ firstOf i r)
+    go Required q i r = rw q (ap₂ firstOf i r)
 
 -- ---- the tests, in two halves
 
@@ -114,12 +125,12 @@ module _ (l : Layout) (s : State) (buf x b : List ℕ) (objects : Slots (l .refs
   img-is : imageIn l b 0 ≡ img
   img-is = image-is l (s .position) x b eb
 
-  module _ (eo : own ≡ pick (nestsRight img kept) 0 12) (en : n ≡ slotsFault img kept) where
+  module _ (eo : own ≡ pick (nestsRight img kept) 0 12) (en : n ≡ toldFaults (s .position) img objects) where
     answer-is : a ≡ firstFail (judgeTests l s img (pick (nestsRight img kept) 0 12) n)
     answer-is = ea ∙ ap₂ (λ (y : List ℕ) (o : ℕ). firstFail (judgeTests l s y o n)) img-is eo
 
     number : slotsRule (envOf s) img kept ≡ n
-    number = slots-fault (envOf s) img kept ∙ sym en
+    number = faults-told (envOf s) (s .position) img objects ∙ sym en
 
     rests : List Test
     rests = roomTests (s .used + sizeOf kept) (length buf)
@@ -163,14 +174,17 @@ first-none x y e = go (eqb x 0) refl e
     go true q z = (eqb-true x 0 q, z)
     go false q z = absurd (unlike x q z)
 
-pub fault-short : (n : Need) (o : List ℕ) → objectFault n o ≡ 0 → length (under n [] o) ≤ 65535
-fault-short n o e = go (fitsNeed n (under n [] o)) (isShort (under n [] o)) refl e
+pub fault-short : (n : Need) (c : Content) (o : List ℕ) → toldFault n c o ≡ 0 → length (under n [] (ended c o)) ≤ 65535
+fault-short n c o e =
+    let k = under n [] (ended c o) in
+    let none = env (λ i. 0) 0 in
+    go (fitsNeed n k) (isShort k) refl (first-none (pick (fitsNeed n k && isShort k) 0 11) (ruled c none k) (told-fault none n c o ∙ e) .0)
   where
-    go : (c d : Bool) → isShort (under n [] o) ≡ d → _≡_ {A = ℕ} (pick (c && d) 0 11) 0 → length (under n [] o) ≤ 65535
-    go true true q z = leb-true (length (under n [] o)) 65535 q
+    go : (f d : Bool) → isShort (under n [] (ended c o)) ≡ d → _≡_ {A = ℕ} (pick (f && d) 0 11) 0 → length (under n [] (ended c o)) ≤ 65535
+    go true true q z = leb-true (length (under n [] (ended c o))) 65535 q
     go true false q z = absurd (omega arith)
     go false d q z = absurd (omega arith)
 
 -- a heap record that may be there, whose only object has the fault f
-pub nested-fault : (f : ℕ) → f ≡ firstOf (firstOf 0 (firstOf f 0)) 0
+pub nested-fault : (f : ℕ) → f ≡ firstOf (firstOf f 0) 0
 nested-fault f = sym (first-zero (firstOf f 0) ∙ first-zero f)

@@ -11,12 +11,12 @@ use Rattle.table.specs.declared.Answer.{Answer}
 use Rattle.table.specs.declared.State.{State}
 use Rattle.table.specs.declared.Step.{Step}
 use Rattle.table.specs.Bytes.{splice}
-use Rattle.table.specs.Layout.{Layout, Slots}
+use Rattle.table.specs.Layout.{Layout, Slots, text}
 use Rattle.table.specs.Objects.{sizeOf, heapOf, patched}
 use Rattle.table.specs.Rules.{firstFail}
-use Rattle.table.specs.Builder.{roomTests, placeOf, placed, next, recordsEnd, waits}
+use Rattle.table.specs.Builder.{ended, roomTests, placeOf, placed, next, recordsEnd, waits}
 use Rattle.laws.specs.Fields.{imageIn}
-use Rattle.bytes_writer.proofs.StoreLaws.{concat, lent}
+use Rattle.bytes_writer.proofs.StoreLaws.{concat, lent, splice-none}
 use Rattle.builder_state.proofs.Laws.{used-bounds}
 use Rattle.bytes_room.proofs.RoomLaws.{room-passed}
 use Rattle.builder_record.specs.Steps.{laid}
@@ -29,6 +29,20 @@ two-long p q = simp (length-append, add-zero)
 
 pub six-long : (p q r s t v : List ℕ) → length (concat (p ∷ q ∷ r ∷ s ∷ t ∷ v ∷ [])) ≡ length p + (length q + (length r + (length s + (length t + length v))))
 six-long p q r s t v = simp (length-append, add-zero)
+
+-- ---- a text
+
+pub text-none : (o : List ℕ) → length o ≡ 0 → (t : List ℕ) (a : ℕ) → t ≡ splice t a (ended text o)
+text-none [] e t a = splice-none t a
+text-none (x ∷ o) e t a = absurd (omega (arith, e))
+
+pub text-some : (o : List ℕ) → (length o ≡ 0 → ⊥) → ended text o ≡ o ++ (0 ∷ [])
+text-some [] n = absurd (n refl)
+text-some (x ∷ o) n = refl
+
+-- with its terminator it is one byte longer
+pub text-long : (o : List ℕ) → (length o ≡ 0 → ⊥) → length (ended text o) ≡ length o + 1
+text-long o n = ap length (text-some o n) ∙ length-append o (0 ∷ [])
 
 -- ---- a part that is lent
 

@@ -1,5 +1,6 @@
 // What every call does for a told record that has passed its tests: objects behind the bytes used, and the state that it hands back.
 use bytes_writer::stores::copy_into;
+use bytes_writer::stores::put_u8;
 use table::Answer;
 use table::State;
 use table::Step;
@@ -8,7 +9,9 @@ ghost use mathlib.Core.List.{[], _∷_};
 ghost use Prim.Native.Nat.{_+_, _≤_};
 ghost use lib.ListN.{length};
 ghost use Rattle.table.specs.Bytes.{splice};
+ghost use Rattle.table.specs.Layout.{text};
 ghost use Rattle.table.specs.Meaning.{limit};
+ghost use Rattle.table.specs.Builder.{ended};
 ghost use Rattle.table.specs.Builder as definition;
 ghost use Rattle.bytes_writer.proofs.StoreLaws.{concat};
 
@@ -36,6 +39,19 @@ pub fn lay_pieces(
     let at5 = at4 + fourth.len();
     copy_into(out, at5, fifth);
     copy_into(out, at5 + fifth.len(), sixth);
+}
+
+// A text and its terminator; nothing of an empty one.
+pub fn lay_text(out: &mut [u8], at: usize, object: &[u8])
+    requires { ⌜ at + length (ended text (now object)) ≤ length (now out) ⌝ }
+    ensures { λ r. ⌜ now (out .exit) ≡ splice (now (out .entry)) at (ended text (now (object .entry))) ⌝ }
+{
+    let len = object.len();
+    if len == 0 {
+        return;
+    }
+    copy_into(out, at, object);
+    put_u8(out, at + len, 0);
 }
 
 // A done call hands back the next state: `written` bytes of objects and heap records were written, and `newer` says that the record asks for the

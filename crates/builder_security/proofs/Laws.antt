@@ -8,6 +8,7 @@ use lib.ListN.{length}
 use Rattle.table.specs.declared.Need.{Need}
 use Rattle.table.specs.declared.Answer.{Answer}
 use Rattle.table.specs.declared.State.{State}
+use Rattle.table.specs.Layout.{anything}
 use Rattle.table.specs.FixedLayouts.{layoutOf, security}
 use Rattle.table.specs.Objects.{under, sizeOf, heapOf, patched}
 use Rattle.table.specs.Reads.{needAt}
@@ -23,9 +24,9 @@ use Rattle.builder_record.specs.Steps.{laid, judgeTests}
 use Rattle.builder_record.proofs.JudgeLaws.{judge-passed}
 use Rattle.builder_security.specs.SecurityFaults.{securityFault}
 use Rattle.builder_record.specs.Calls.{securityTold, tellSecurity}
-use Rattle.builder_record.proofs.FillLaws.{slotsFault, unruled, security-free, fill-refused, fill-done, fault-short, first-none}
+use Rattle.builder_record.proofs.FillLaws.{toldFaults, unruled, security-free, fill-refused, fill-done, fault-short, first-none}
 use Rattle.laws.specs.RefWalk.{first-zero}
-use Rattle.builder_told.specs.Faults.{objectFault}
+use Rattle.laws.specs.TextLaws.{toldFault}
 
 six-none : (x₁ x₂ x₃ x₄ x₅ x₆ : ℕ) → firstOf x₁ (firstOf x₂ (firstOf x₃ (firstOf x₄ (firstOf x₅ x₆)))) ≡ 0
     → (x₁ ≡ 0) × (x₂ ≡ 0) × (x₃ ≡ 0) × (x₄ ≡ 0) × (x₅ ≡ 0) × (x₆ ≡ 0)
@@ -70,9 +71,9 @@ module _ (s : State) (buf x b o₁ o₂ o₃ o₄ o₅ o₆ : List ℕ) (a : Ans
     unfolding layoutOf
     told₅ = image-is security (s .position) x b eb
 
-    security-fault : securityFault (imageIn security b 0) o₁ o₂ o₃ o₄ o₅ o₆ ≡ slotsFault img₅ (toldSlots (s .position) img₅ (securityTold o₁ o₂ o₃ o₄ o₅ o₆))
-    unfolding security securityTold toldSlots
-    security-fault = ap (λ (y : List ℕ). securityFault y o₁ o₂ o₃ o₄ o₅ o₆) told₅ ∙ rw (first-zero (objectFault (needAt 36 (security .refs) img₅) o₆)) refl
+    security-fault : securityFault (imageIn security b 0) o₁ o₂ o₃ o₄ o₅ o₆ ≡ toldFaults (s .position) img₅ (securityTold o₁ o₂ o₃ o₄ o₅ o₆)
+    unfolding security securityTold
+    security-fault = ap (λ (y : List ℕ). securityFault y o₁ o₂ o₃ o₄ o₅ o₆) told₅ ∙ rw (first-zero (toldFault (needAt 36 (security .refs) img₅) anything o₆)) refl
 
     pub security-refused : (a .number ≡ 0 → ⊥) → (record { answer = a; state = s } ≡ tellSecurity s buf x o₁ o₂ o₃ o₄ o₅ o₆ .step) × (buf ≡ tellSecurity s buf x o₁ o₂ o₃ o₄ o₅ o₆ .buffer)
     unfolding tellSecurity layoutOf
@@ -86,16 +87,17 @@ module _ (s : State) (buf x b o₁ o₂ o₃ o₄ o₅ o₆ : List ℕ) (a : Ans
     unfolding layoutOf security
     security-passed z =
         let p = judge-passed (layoutOf 5) s (imageIn (layoutOf 5) b 0) 0 (securityFault (imageIn security b 0) o₁ o₂ o₃ o₄ o₅ o₆) a ea z in
-        let q = six-none (objectFault (needFor b 6) o₁) (objectFault (needFor b 12) o₂) (objectFault (needFor b 18) o₃) (objectFault (needFor b 24) o₄) (objectFault (needFor b 30) o₅)
-        (objectFault (needFor b 36) o₆) (p .1) in (
+        let q = six-none (toldFault (needFor b 6) anything o₁) (toldFault (needFor b 12) anything o₂) (toldFault (needFor b 18) anything o₃) (toldFault (needFor b 24) anything o₄)
+        (toldFault (needFor b 30) anything o₅)
+        (toldFault (needFor b 36) anything o₆) (p .1) in (
           p .0,
-          fault-short (needFor b 6) o₁ (q .0),
-          fault-short (needFor b 12) o₂ (q .1),
-          fault-short (needFor b 18) o₃ (q .2),
-          fault-short (needFor b 24) o₄ (q .3),
-          fault-short (needFor b 30) o₅
+          fault-short (needFor b 6) anything o₁ (q .0),
+          fault-short (needFor b 12) anything o₂ (q .1),
+          fault-short (needFor b 18) anything o₃ (q .2),
+          fault-short (needFor b 24) anything o₄ (q .3),
+          fault-short (needFor b 30) anything o₅
               (q .4),
-          fault-short (needFor b 36) o₆ (q .5),
+          fault-short (needFor b 36) anything o₆ (q .5),
         )
 
     pub security-done : a .number ≡ 0 → (k₁ k₂ k₃ k₄ k₅ k₆ : List ℕ)

@@ -12,11 +12,11 @@ use Rattle.table.specs.declared.Need.the-variants.{Ignored, Optional, Required}
 use Rattle.table.specs.declared.Answer.{Answer}
 use Rattle.table.specs.declared.State.{State}
 use Rattle.table.specs.Bytes.{pick, num, bits}
-use Rattle.table.specs.Layout.{Slots, nil, bytes, gone, rec}
-use Rattle.table.specs.FixedLayouts.{layoutOf, whenSet, ssns, info, extended}
+use Rattle.table.specs.Layout.{Slots, nil, bytes, gone, rec, anything, text}
+use Rattle.table.specs.FixedLayouts.{layoutOf, ssns, info, extended}
 use Rattle.table.specs.Objects.{under, sizeOf, heapOf, patched}
 use Rattle.table.specs.Rules.{firstOf, firstFail}
-use Rattle.table.specs.Builder.{waits, toldImage, toldSlots}
+use Rattle.table.specs.Builder.{waits, ended, toldImage, toldSlots}
 use Rattle.laws.specs.Fields.{imageIn}
 use Rattle.bytes_writer.proofs.StoreLaws.{concat}
 use Rattle.builder_writers.specs.Written.{recordWith}
@@ -27,8 +27,8 @@ use Rattle.builder_record.specs.Steps.{laid, judgeTests}
 use Rattle.builder_record.proofs.JudgeLaws.{judge-passed}
 use Rattle.builder_record.specs.Calls.{pathTold, ssnsTold, tellSsns}
 use Rattle.builder_ssns.specs.SsnsParts.{ownNeed, ssnsFault, ssnsSlots, extendedSize, extendedPart, namedPart, laidSsns}
-use Rattle.builder_record.proofs.FillLaws.{nested-fault, slotsFault, unruled, ssns-free, fill-refused, fill-done, first-none, fault-short}
-use Rattle.builder_told.specs.Faults.{objectFault}
+use Rattle.builder_record.proofs.FillLaws.{nested-fault, toldFaults, unruled, ssns-free, fill-refused, fill-done, first-none, fault-short}
+use Rattle.laws.specs.TextLaws.{toldFault}
 
 -- ---- the extended info, in c, and its object
 
@@ -52,9 +52,15 @@ extended-room Ignored m own e = rw e (omega arith)
 extended-room Optional m own e = rw e (omega arith)
 extended-room Required m own e = rw e (omega arith)
 
--- four objects, then the rest
-pub four-then : (p q r s x : List ℕ) → concat (p ∷ q ∷ r ∷ s ∷ [] ∷ [] ∷ []) ++ x ≡ concat (p ∷ q ∷ r ∷ s ∷ x ∷ [])
-four-then p q r s x = simp (append-assoc, append-nil)
+-- three objects, then the text, then the rest
+pub three-then : (p q r s x : List ℕ) → (concat (p ∷ q ∷ r ∷ [] ∷ [] ∷ [] ∷ []) ++ s) ++ x ≡ concat (p ∷ q ∷ r ∷ s ∷ x ∷ [])
+three-then p q r s x = simp (append-assoc, append-nil)
+
+-- text that is dropped is not ended
+pub ended-under : (n : Need) (o : List ℕ) → ended text (under n [] o) ≡ under n [] (ended text o)
+ended-under Ignored o = refl
+ended-under Optional o = refl
+ended-under Required o = refl
 
 -- ---- an SSNS record, in b, and its extended info, in c
 
@@ -137,21 +143,21 @@ module _ (s : State) (buf x b address service others nqn e c path : List ℕ) (a
     unfolding layoutOf
     told₉ = image-is extended (s .position) e c ec
 
-    last-fault : (f : Bool) → eqb (bits 3 2 4 4 img₄) 0 ≡ f → objectFault (ownNeed img₄) path
-        ≡ slotsFault img₄ (under (pick f Ignored Required) (gone {p = 60} {need = whenSet 3 2 4 4} {shape = extended .shape} {own = extended .refs} nil)
-        (rec {p = 60} {need = whenSet 3 2 4 4} {shape = extended .shape} img₉ (toldSlots (s .position) img₉ (pathTold path)) nil))
-    unfolding ownNeed extended pathTold toldSlots
-    last-fault true q = ap (λ (g : Bool). objectFault (pick g Ignored Optional) path) q ∙ rw q refl
-    last-fault false q = ap (λ (g : Bool). objectFault (pick g Ignored Optional) path) q ∙ rw q (nested-fault (objectFault Optional path))
+    last-fault : (f : Bool) → eqb (bits 3 2 4 4 img₄) 0 ≡ f → toldFault (ownNeed img₄) text path
+        ≡ firstOf (under (pick f Ignored Required) 0 (toldFaults (s .position) img₉ (pathTold path))) 0
+    unfolding ownNeed extended pathTold
+    last-fault true q = ap (λ (g : Bool). toldFault (pick g Ignored Optional) text path) q
+    last-fault false q = ap (λ (g : Bool). toldFault (pick g Ignored Optional) text path) q ∙ nested-fault (toldFault Optional text path)
 
     abbrev fault₄ : List ℕ → ℕ
     fault₄ img = ssnsFault img address service others nqn path
 
-    ssns-fault : fault₄ (imageIn ssns b 0) ≡ slotsFault img₄ (toldSlots (s .position) img₄ (ssnsTold address service others nqn e path))
-    unfolding ssns extended ssnsTold toldSlots pathTold
+    ssns-fault : fault₄ (imageIn ssns b 0) ≡ toldFaults (s .position) img₄ (ssnsTold address service others nqn e path)
+    unfolding ssns extended ssnsTold pathTold
     ssns-fault =
         ap fault₄ told₄
-        ∙ ap (λ (f : ℕ). firstOf (objectFault Required address) (firstOf (objectFault Required service) (firstOf (objectFault Optional others) (firstOf (objectFault Required nqn) f))))
+        ∙ ap (λ (f : ℕ). firstOf (toldFault Required anything address) (firstOf (toldFault Required anything service) (firstOf (toldFault Optional anything others) (firstOf (toldFault
+        Required text nqn) f))))
         (last-fault (eqb (bits 3 2 4 4 img₄) 0) refl)
 
     pub ssns-refused : (a .number ≡ 0 → ⊥)
@@ -159,32 +165,32 @@ module _ (s : State) (buf x b address service others nqn e c path : List ℕ) (a
     unfolding tellSsns layoutOf
     ssns-refused z = fill-refused ssns s buf x b (ssnsTold address service others nqn e path) 0 (fault₄ (imageIn ssns b 0)) a eb ea (unruled (ssns-free .0) _ _) ssns-fault z
 
-    pub ssns-passed : a .number ≡ 0 → (waits s 4 ≡ true) × (length address ≤ 65535) × (length service ≤ 65535) × (length others ≤ 65535) × (length nqn ≤ 65535)
-        × (length (under (ownNeed (imageIn ssns b 0)) [] path) ≤ 65535)
+    pub ssns-passed : a .number ≡ 0 → (waits s 4 ≡ true) × (length address ≤ 65535) × (length service ≤ 65535) × (length others ≤ 65535) × (length (ended text nqn) ≤ 65535)
+        × (length (under (ownNeed (imageIn ssns b 0)) [] (ended text path)) ≤ 65535)
     unfolding layoutOf ssns
     ssns-passed z =
-        let f₁ : ℕ = objectFault Required address in
-        let f₂ : ℕ = objectFault Required service in
-        let f₃ : ℕ = objectFault Optional others in
-        let f₄ : ℕ = objectFault Required nqn in
-        let f₅ : ℕ = objectFault (ownNeed (imageIn ssns b 0)) path in
+        let f₁ : ℕ = toldFault Required anything address in
+        let f₂ : ℕ = toldFault Required anything service in
+        let f₃ : ℕ = toldFault Optional anything others in
+        let f₄ : ℕ = toldFault Required text nqn in
+        let f₅ : ℕ = toldFault (ownNeed (imageIn ssns b 0)) text path in
         let p = judge-passed (layoutOf 4) s (imageIn (layoutOf 4) b 0) 0 (fault₄ (imageIn ssns b 0)) a ea z in
         let a₁ = first-none f₁ (firstOf f₂ (firstOf f₃ (firstOf f₄ f₅))) (p .1) in
         let a₂ = first-none f₂ (firstOf f₃ (firstOf f₄ f₅)) (a₁ .1) in
         let a₃ = first-none f₃ (firstOf f₄ f₅) (a₂ .1) in
         let a₄ = first-none f₄ f₅ (a₃ .1) in (
           p .0,
-          fault-short Required address (a₁ .0),
-          fault-short Required service (a₂ .0),
-          fault-short Optional others (a₃ .0),
-          fault-short Required nqn (a₄ .0),
-          fault-short (ownNeed (imageIn ssns b 0)) path (a₄ .1),
+          fault-short Required anything address (a₁ .0),
+          fault-short Required anything service (a₂ .0),
+          fault-short Optional anything others (a₃ .0),
+          fault-short Required text nqn (a₄ .0),
+          fault-short (ownNeed (imageIn ssns b 0)) text path (a₄ .1),
         )
 
-    pub ssns-done : a .number ≡ 0 → laidSsns s buf b c address service others nqn path ≡ tellSsns s buf x address service others nqn e path
+    pub ssns-done : a .number ≡ 0 → laidSsns s buf b c address service others (ended text nqn) (ended text path) ≡ tellSsns s buf x address service others nqn e path
     unfolding laidSsns ssnsSlots tellSsns layoutOf ssns extended ssnsTold pathTold toldSlots
     ssns-done z =
-        ap₂ (λ (img own : List ℕ). laid ssns s buf b (ssnsSlots img address service others nqn own path)) told₄ told₉
+        ap₂ (λ (img own : List ℕ). laid ssns s buf b (ssnsSlots img address service others (ended text nqn) own (ended text path))) told₄ told₉
         ∙ fill-done ssns s buf x b (ssnsTold address service others nqn e path) 0 (fault₄ (imageIn ssns b 0)) a eb ea (unruled (ssns-free .0) _ _) ssns-fault z
 
 pub not-own : (img : List ℕ) (f : ℕ) → f ≡ num img 3 2 → f / 16 % 2 ≡ 0 → Ignored ≡ ownNeed img

@@ -7,7 +7,7 @@ use Rattle.table.specs.declared.Need.{Need}
 use Rattle.table.specs.declared.Need.the-variants.{Ignored, Optional, Required}
 use Rattle.table.specs.declared.State.{State}
 use Rattle.table.specs.Bytes.{pick, bits}
-use Rattle.table.specs.Layout.{Slots, nil, bytes, gone, rec, baseOf}
+use Rattle.table.specs.Layout.{Slots, nil, bytes, gone, rec, baseOf, anything, text}
 use Rattle.table.specs.FixedLayouts.{whenSet, ssns, extended}
 use Rattle.table.specs.Objects.{under}
 use Rattle.table.specs.Rules.{firstOf}
@@ -15,7 +15,7 @@ use Rattle.table.specs.Builder.{Outcome}
 use Rattle.laws.specs.Fields.{imageIn}
 use Rattle.bytes_writer.proofs.StoreLaws.{concat}
 use Rattle.builder_writers.specs.Written.{recordWith}
-use Rattle.builder_told.specs.Faults.{objectFault}
+use Rattle.laws.specs.TextLaws.{toldFault}
 use Rattle.builder_record.specs.Steps.{laid}
 use Rattle.builder_record.specs.Calls.{pathTold}
 
@@ -26,9 +26,9 @@ ownNeed img = pick (eqb (bits 3 2 4 4 img) 0) Ignored Optional
 -- the first fault of its objects
 abbrev pub ssnsFault : (img address service others nqn path : List ℕ) → ℕ
 ssnsFault img address service others nqn path =
-    firstOf (objectFault Required address)
-    (firstOf (objectFault Required service)
-    (firstOf (objectFault Optional others) (firstOf (objectFault Required nqn) (objectFault (ownNeed img) path))))
+    firstOf (toldFault Required anything address)
+    (firstOf (toldFault Required anything service)
+    (firstOf (toldFault Optional anything others) (firstOf (toldFault Required text nqn) (toldFault (ownNeed img) text path))))
 
 -- what it names: own is the image of the extended info
 unfoldable pub ssnsSlots : (img address service others nqn own path : List ℕ) → Slots (ssns .refs)

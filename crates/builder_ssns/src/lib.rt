@@ -4,16 +4,18 @@
 use builder_record::judging::judged;
 use builder_record::judging::refused;
 use builder_record::laying::lay_pieces;
+use builder_record::laying::lay_text;
 use builder_record::laying::stepped;
 use builder_told::marks::mark_18;
 use builder_told::marks::mark_128;
+use builder_told::objects::ended_len;
 use builder_told::objects::first_of;
 use builder_told::objects::fits;
+use builder_told::objects::fits_text;
 use builder_told::objects::kept;
 use builder_writers::write_extended;
 use builder_writers::write_ssns;
 use bytes_room::room_fault;
-use bytes_writer::stores::copy_into;
 use layout_flags::ssns_flags;
 use table::Extended;
 use table::Need;
@@ -26,11 +28,11 @@ ghost use mathlib.Core.List.{[]};
 ghost use Prim.Native.Nat.{_+_, _≤_};
 ghost use lib.ListN.{length};
 ghost use Rattle.table.specs.Bytes.{splice};
-ghost use Rattle.table.specs.Layout.{baseOf};
+ghost use Rattle.table.specs.Layout.{text, baseOf};
 ghost use Rattle.table.specs.FixedLayouts as layouts;
 ghost use Rattle.table.specs.Objects.{under};
 ghost use Rattle.table.specs.Meaning.{limit};
-ghost use Rattle.table.specs.Builder.{waits, Gives};
+ghost use Rattle.table.specs.Builder.{waits, ended, Gives};
 ghost use Rattle.laws.specs.Fields.{imageIn};
 ghost use Rattle.builder_record.specs.Calls.{tellSsns};
 ghost use Rattle.builder_ssns.specs.SsnsParts.{ownNeed, ssnsFault, extendedSize, extendedPart, namedPart, laidSsns};
@@ -69,7 +71,10 @@ fn ssns_fault(
     requires { ⌜ 128 ≤ length (now marked) ⌝ }
     ensures { λ r. ⌜ r ≡ ssnsFault (imageIn layouts.ssns (now (marked .entry)) 0) (now (address .entry)) (now (service .entry)) (now (others .entry)) (now (nqn .entry)) (now (path .entry)) ⌝ }
 {
-    let last = first_of(fits(Need::Required, nqn), fits(own_need(marked), path));
+    let last = first_of(
+        fits_text(Need::Required, nqn),
+        fits_text(own_need(marked), path),
+    );
     let rest = first_of(fits(Need::Optional, others), last);
     first_of(
         fits(Need::Required, address),
@@ -79,15 +84,15 @@ fn ssns_fault(
 
 // The extended info at `at`, and behind it its root path; nothing where it is to have no bytes.
 fn lay_extended(out: &mut [u8], at: usize, size: usize, extended: &[u8], path: &[u8])
-    requires { ⌜ (length (now extended) ≡ baseOf layouts.extended) × (length (now path) ≤ 65535) × (at ≤ limit) × (at + extendedSize size (now path) ≤ length (now out)) ⌝ }
-    ensures { λ r. ⌜ now (out .exit) ≡ splice (now (out .entry)) at (extendedPart (now (extended .entry)) at size (now (path .entry))) ⌝ }
+    requires { ⌜ (length (now extended) ≡ baseOf layouts.extended) × (length (ended text (now path)) ≤ 65535) × (at ≤ limit) × (at + extendedSize size (ended text (now path)) ≤ length (now out)) ⌝ }
+    ensures { λ r. ⌜ now (out .exit) ≡ splice (now (out .entry)) at (extendedPart (now (extended .entry)) at size (ended text (now (path .entry)))) ⌝ }
 {
     if size == 0 {
         return;
     }
     let end = at + Extended::SIZE;
-    write_extended(&mut out[at..end], extended, end, path.len());
-    copy_into(out, end, path);
+    write_extended(&mut out[at..end], extended, end, ended_len(path));
+    lay_text(out, end, path);
 }
 
 // What an SSNS record names, from `next` on.
@@ -102,14 +107,15 @@ fn lay_named(
     extended: &[u8],
     path: &[u8],
 )
-    requires { ⌜ (length (now extended) ≡ baseOf layouts.extended) × (length (now path) ≤ 65535) ⌝ }
-    requires { ⌜ (next + (length (now address) + length (now service) + length (now others) + length (now nqn) + extendedSize size (now path)) ≤ limit) × (next + (length (now address) + length (now service) + length (now others) + length (now nqn) + extendedSize size (now path)) ≤ length (now out)) ⌝ }
-    ensures { λ r. ⌜ now (out .exit) ≡ splice (now (out .entry)) next (namedPart next (now (address .entry)) (now (service .entry)) (now (others .entry)) (now (nqn .entry)) size (now (extended .entry)) (now (path .entry))) ⌝ }
+    requires { ⌜ (length (now extended) ≡ baseOf layouts.extended) × (length (ended text (now path)) ≤ 65535) ⌝ }
+    requires { ⌜ (next + (length (now address) + length (now service) + length (now others) + length (ended text (now nqn)) + extendedSize size (ended text (now path))) ≤ limit) × (next + (length (now address) + length (now service) + length (now others) + length (ended text (now nqn)) + extendedSize size (ended text (now path))) ≤ length (now out)) ⌝ }
+    ensures { λ r. ⌜ now (out .exit) ≡ splice (now (out .entry)) next (namedPart next (now (address .entry)) (now (service .entry)) (now (others .entry)) (ended text (now (nqn .entry))) size (now (extended .entry)) (ended text (now (path .entry)))) ⌝ }
 {
     let none = &nqn[0..0];
-    lay_pieces(out, next, address, service, others, nqn, none, none);
-    let at = next + address.len() + service.len() + others.len() + nqn.len();
-    lay_extended(out, at, size, extended, path);
+    lay_pieces(out, next, address, service, others, none, none, none);
+    let at = next + address.len() + service.len() + others.len();
+    lay_text(out, at, nqn);
+    lay_extended(out, at + ended_len(nqn), size, extended, path);
 }
 
 // The SSNS record and what it names, where there is room; its extended info and the object of this only where its flag 4 is set.
@@ -125,15 +131,17 @@ fn lay_ssns(
     path: &[u8],
 ) -> Step
     requires { ⌜ (waits state 4 ≡ true) × (length (now marked) ≡ baseOf layouts.ssns) × (length (now extended) ≡ baseOf layouts.extended) ⌝ }
-    requires { ⌜ (length (now address) ≤ 65535) × (length (now service) ≤ 65535) × (length (now others) ≤ 65535) × (length (now nqn) ≤ 65535) × (length (under (ownNeed (imageIn layouts.ssns (now marked) 0)) [] (now path)) ≤ 65535) ⌝ }
-    ensures { λ r. ⌜ Gives (laidSsns state (now (out .entry)) (now (marked .entry)) (now (extended .entry)) (now (address .entry)) (now (service .entry)) (now (others .entry)) (now (nqn .entry)) (now (path .entry))) r (now (out .exit)) ⌝ }
+    requires { ⌜ (length (now address) ≤ 65535) × (length (now service) ≤ 65535) × (length (now others) ≤ 65535) × (length (ended text (now nqn)) ≤ 65535) × (length (under (ownNeed (imageIn layouts.ssns (now marked) 0)) [] (ended text (now path))) ≤ 65535) ⌝ }
+    ensures { λ r. ⌜ Gives (laidSsns state (now (out .entry)) (now (marked .entry)) (now (extended .entry)) (now (address .entry)) (now (service .entry)) (now (others .entry)) (ended text (now (nqn .entry))) (ended text (now (path .entry)))) r (now (out .exit)) ⌝ }
 {
     let used = state.used;
     let need = own_need(marked);
     let size = own_size(need);
     let own = kept(need, path);
-    let front = address.len() + service.len() + others.len() + nqn.len();
-    let written = front + size + own.len();
+    let nqn_len = ended_len(nqn);
+    let path_len = ended_len(own);
+    let front = address.len() + service.len() + others.len() + nqn_len;
+    let written = front + size + path_len;
     let room = room_fault(used + written, out.len());
     if room.number != 0 {
         return refused(room, state);
@@ -147,9 +155,9 @@ fn lay_ssns(
         address.len(),
         service.len(),
         others.len(),
-        nqn.len(),
+        nqn_len,
         size,
-        own.len(),
+        path_len,
     );
     lay_named(
         out,

@@ -1,20 +1,22 @@
 -- Told records: which kinds may be told, what the builder sets of them, and the image and the objects that are left. Assumes nothing.
 use mathlib.Core.Path.{_≡_, refl, sym, ap, ap₂, _∙_, subst}
-use mathlib.Core.Bool.{Bool, true, false}
+use mathlib.Core.Bool.{Bool, true, false, not}
 use mathlib.Core.List.{List, [], _∷_, _++_, append-nil}
 use Prim.Native.Nat.{ℕ, _+_, _*_, _/_, _≤_, _<_}
 use native.Mathlib.Omega.{arith}
-use lib.ListN.{length, getD, take, drop}
+use lib.ListN.{length, getD, take, drop, length-append}
 use lib.Seq.{take-length, drop-length}
-use lib.Dec.{leb, eqb, lit<, lit≤}
+use lib.Dec.{eqb, lit<, lit≤}
 use borrow.Author.Tests.{ne-eqb, eqb-true}
-use Rattle.table.specs.declared.Need.the-variants.{Required}
+use Rattle.table.specs.declared.Need.{Need}
+use Rattle.table.specs.declared.Need.the-variants.{Ignored, Optional, Required}
 use Rattle.table.specs.Bytes.{pick, le, splice}
-use Rattle.table.specs.Layout.{Layout, Shape, baseOf}
+use Rattle.table.specs.Layout.{Layout, Shape, Content, text, baseOf}
 use Rattle.table.specs.FixedLayouts.{layoutOf, host, hfi, ssns, security, discovery, info, extended, hfiExtended}
-use Rattle.table.specs.Builder.{toldImage}
+use Rattle.table.specs.Builder.{toldImage, ended}
 use Rattle.laws.specs.Fields.{imageIn}
-use Rattle.builder_told.specs.Faults.{objectFault}
+use Rattle.laws.specs.TextLaws.{noZero, bytesFault, toldFault}
+use Rattle.builder_told.specs.Faults.{faultUnder}
 use Rattle.builder_told.specs.Marks.{Tellable, stamped, marked}
 
 -- one more store
@@ -40,13 +42,27 @@ last-kinds k t a b c d e f = go (eqb k 9) refl
 
 -- ---- objects
 
-pub required-none : (o : List ℕ) → length o ≡ 0 → objectFault Required o ≡ 11
-required-none [] e = refl
-required-none (x ∷ o) e = absurd (omega (arith, e))
+-- the fault is that of the bytes by themselves, under the need
+pub fault-told : (n : Need) (c : Content) (o : List ℕ) → faultUnder n (length o) (bytesFault c o) ≡ toldFault n c o
+fault-told Ignored c o = refl
+fault-told Optional c o = refl
+fault-told Required c [] = refl
+fault-told Required c (x ∷ o) = rw (ne-eqb (length (x ∷ o)) 0 (λ e. omega (arith, e))) refl
 
-pub required-some : (o : List ℕ) → (length o ≡ 0 → ⊥) → objectFault Required o ≡ pick (leb (length o) 65535) 0 11
-required-some [] e = absurd (e refl)
-required-some (x ∷ o) e = refl
+pub ended-none : (o : List ℕ) → length o ≡ 0 → _≡_ {A = ℕ} 0 (length (ended text o))
+ended-none [] e = refl
+ended-none (x ∷ o) e = absurd (omega (arith, e))
+
+pub ended-some : (o : List ℕ) → (length o ≡ 0 → ⊥) → length o + 1 ≡ length (ended text o)
+ended-some [] e = absurd (e refl)
+ended-some (x ∷ o) e = sym (length-append (x ∷ o) (0 ∷ []))
+
+pub zero-fault : (bs : List ℕ) (c : Bool) → c ≡ not (noZero bs) → _≡_ {A = ℕ} (pick c 18 0) (pick (noZero bs) 0 18)
+zero-fault bs c e = ap (λ (d : Bool). pick {X = ℕ} d 18 0) e ∙ go (noZero bs)
+  where
+    go : (d : Bool) → _≡_ {A = ℕ} (pick (not d) 18 0) (pick d 0 18)
+    go true = refl
+    go false = refl
 
 -- ---- any kind that is told
 

@@ -1,12 +1,12 @@
--- The fault of one told object. Definitions only.
-use mathlib.Core.Bool.{_&&_}
-use mathlib.Core.List.{List, []}
+-- The fault of a told object under the need for it. Definitions only.
 use Prim.Native.Nat.{ℕ}
+use lib.Dec.{eqb}
 use Rattle.table.specs.declared.Need.{Need}
+use Rattle.table.specs.declared.Need.the-variants.{Ignored, Optional, Required}
 use Rattle.table.specs.Bytes.{pick}
-use Rattle.table.specs.Objects.{under}
-use Rattle.table.specs.Builder.{fitsNeed, isShort}
 
--- what a need leaves of an object must be there where it is required, and short: 0 or 11
-abbrev pub objectFault : Need → List ℕ → ℕ
-objectFault n o = pick (fitsNeed n (under n [] o) && isShort (under n [] o)) 0 11
+-- of its length, and the fault of its bytes by themselves
+abbrev pub faultUnder : Need → (len fault : ℕ) → ℕ
+faultUnder Ignored len fault = 0
+faultUnder Optional len fault = fault
+faultUnder Required len fault = pick (eqb len 0) 11 fault

@@ -27,11 +27,6 @@ above : (a b : Answer) (m n : ℕ) → Small a → Small b → packed a + 2 ^ 32
 unfolding packed
 above a b m n s t e = (packed-same a b s t (omega (arith, s, t, e)), omega (arith, s, t, e))
 
--- of an object's place: the answer and the length
-pub place-same : (p q : Place) → Small (p .answer) → Small (q .answer) → packedPlace p ≡ packedPlace q → (p .answer ≡ q .answer) × (p .len ≡ q .len)
-unfolding packedPlace
-place-same p q s t e = above (p .answer) (q .answer) (p .len) (q .len) s t e
-
 -- of a rewrite: the answer and the length
 pub rewritten-same : (r q : Rewritten) → Small (r .answer) → Small (q .answer) → packedRewritten r ≡ packedRewritten q → (r .answer ≡ q .answer) × (r .len ≡ q .len)
 unfolding packedRewritten
@@ -43,6 +38,22 @@ bits true true m n e = (refl, omega (arith, e))
 bits true false m n e = absurd (omega (arith, e))
 bits false true m n e = absurd (omega (arith, e))
 bits false false m n e = (refl, omega (arith, e))
+
+-- sixteen bits, and one above them
+topBit : (c d : Bool) (m n : ℕ) → m < 65536 → n < 65536 → m + 65536 * pick c 1 0 ≡ n + 65536 * pick d 1 0 → (c ≡ d) × (m ≡ n)
+topBit true true m n a b e = (refl, omega (arith, e))
+topBit true false m n a b e = absurd (omega (arith, e, a, b))
+topBit false true m n a b e = absurd (omega (arith, e, a, b))
+topBit false false m n a b e = (refl, omega (arith, e))
+
+-- of an object's place: the answer, whether it is present, and the length
+pub place-same : (p q : Place) → Small (p .answer) → Small (q .answer) → p .len < 65536 → q .len < 65536 → packedPlace p ≡ packedPlace q
+    → (p .answer ≡ q .answer) × (p .present ≡ q .present) × (p .len ≡ q .len)
+unfolding packedPlace
+place-same p q s t l m e =
+    let h = above (p .answer) (q .answer) (p .len + 65536 * pick (p .present) 1 0) (q .len + 65536 * pick (q .present) 1 0) s t (omega (arith, e)) in
+    let k = topBit (p .present) (q .present) (p .len) (q .len) l m (h .1) in
+    (h .0, k .0, k .1)
 
 -- of a field: the answer, whether its record is used, and the length
 pub field-same : (f g : Field) → Small (f .answer) → Small (g .answer) → packedField f ≡ packedField g

@@ -20,9 +20,9 @@ packedField f = packed (f .answer) + 2 ^ 32 * pick (f .used) 1 0 + 2 ^ 40 * f .l
 unfoldable pub valueAfter : Field → List ℕ → List ℕ
 valueAfter f before = pick (eqb (f .answer .number) 0) (f .bytes) before
 
--- 64 bits: the answer, from bit 32 on the object's length
+-- 64 bits: the answer, in bits 32 to 47 the object's length, in bit 48 whether it is present
 unfoldable pub packedPlace : Place → ℕ
-packedPlace p = packed (p .answer) + 2 ^ 32 * p .len
+packedPlace p = packed (p .answer) + 2 ^ 32 * p .len + 2 ^ 48 * pick (p .present) 1 0
 
 -- 64 bits: the answer, from bit 32 on the form's length
 unfoldable pub packedRewritten : Rewritten → ℕ

@@ -37,7 +37,7 @@ pub fn pack_place(p: Place) -> u64
     ensures { λ r. ⌜ r ≡ packedPlace p ⌝ }
 {
     let answer = pack(p.answer) as u64;
-    answer + 4294967296 * (p.len as u64)
+    answer + 4294967296 * (p.len as u64) + 281474976710656 * bit(p.present)
 }
 
 pub fn pack_rewritten(r: Rewritten) -> u64

@@ -7,12 +7,13 @@ use native.Mathlib.Omega.{arith}
 use lib.Dec.{eqb, lit<}
 use borrow.Author.Tests.{eqb-true, eqb-false}
 use Rattle.table.specs.declared.Field.{Field}
+use Rattle.table.specs.declared.Place.{Place}
 use Rattle.table.specs.Bytes.{pick, part, padded}
-use Rattle.table.specs.Layout.{Layout}
+use Rattle.table.specs.Layout.{Content, anything, text, Layout}
 use Rattle.table.specs.FixedLayouts.{layoutOf}
 use Rattle.table.specs.Rules.{answer, done}
 use Rattle.table.specs.Numbers.{check}
-use Rattle.table.specs.Reads.{Seat, nowhere, seat, seatOf, widthAt, shown, refusedField, fieldAt, readField, readPlace}
+use Rattle.table.specs.Reads.{Seat, nowhere, seat, seatOf, widthAt, shown, refusedField, fieldAt, readField, contentAt, handed, wholeAt, placeAt, readPlace}
 use Rattle.laws.specs.Fields.{Bytes}
 use Rattle.laws.specs.Positions.{check-placed}
 use Rattle.reads_seats.specs.Seats.{Good}
@@ -51,6 +52,15 @@ field-fits t b k n q = go (eqb (check t .number) 0) refl where
 
 -- ---- objects
 
+-- what is handed back is no longer
+handed-fits : (c : Content) (p : Place) → PlaceFits p → PlaceFits (handed c p)
+handed-fits anything p f = f
+handed-fits text p f = (f .0, omega (arith, f .1), f .2)
+
+handed-seat : (t : List ℕ) → Bytes t → (q : ℕ) (s : Seat) → PlaceFits (placeAt t q s)
+handed-seat t b q nowhere = seat-place t b q nowhere
+handed-seat t b q (seat l a on) = handed-fits (contentAt q (l .refs)) (wholeAt t q (seat l a on)) (seat-place t b q (seat l a on))
+
 pub place-fits : (t : List ℕ) → Bytes t → (k n q : ℕ) → PlaceFits (readPlace t k n q)
 unfolding readPlace
-place-fits t b k n q = one-fits (eqb (check t .number) 0) _ _ (seat-place t b q (seatOf t k n)) (check-placed t b, lit< tt, lit< tt)
+place-fits t b k n q = one-fits (eqb (check t .number) 0) _ _ (handed-seat t b q (seatOf t k n)) (check-placed t b, lit< tt, lit< tt)

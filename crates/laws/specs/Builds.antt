@@ -18,38 +18,7 @@ use Rattle.table.specs.Objects.{countIn, sizeOf, spanBody, usedIn}
 use Rattle.table.specs.Rules.{Test, answer, bodyRule, done, first, firstFail, listRule, test}
 use Rattle.table.specs.Meaning.{Meaning, form, formLength, heapAt, laidOut, limit, meaning}
 use Rattle.table.specs.Numbers.{check, driverRule, heapIn, hostRule, records, tests}
-use Rattle.table.specs.Builder.{
-  Outcome,
-  begin,
-  begun,
-  countOf,
-  counts,
-  empty,
-  endOf,
-  fill,
-  fillAnswer,
-  finish,
-  finished,
-  finishing,
-  inList,
-  leave,
-  moved,
-  next,
-  opened,
-  outcome,
-  placeOf,
-  placed,
-  recordsEnd,
-  roomTests,
-  sameState,
-  sealed,
-  slotsRule,
-  toldImage,
-  toldSlots,
-  turn,
-  turnAfter,
-  waits,
-}
+use Rattle.table.specs.Builder.{Outcome, begin, begun, countOf, counts, empty, endOf, fill, fillAnswer, finish, finished, finishing, inList, leave, moved, next, opened, outcome, placeOf, placed, recordsEnd, roomTests, sameState, sealed, slotsRule, toldImage, toldSlots, turn, turnAfter, waits}
 use Rattle.laws.specs.Lawful.{FitBody, Shaped, okLayout}
 use Rattle.laws.specs.ListLaws.{ok-layout}
 use Rattle.laws.specs.TestLaws.{AllPass, all-pass, self-numbered}
@@ -57,34 +26,10 @@ use Rattle.laws.specs.FormLaws.{laid, round-trip}
 use Rattle.laws.specs.ToldLaws.{okMarks, okTold}
 use Rattle.laws.specs.Blank.{BlankFrom, Put, lengthsOf, there}
 use Rattle.laws.specs.Turns.{after-other, blank-leave, end-is, missing, put-here, off}
-use Rattle.laws.specs.Runs.{
-  AllProper,
-  Build,
-  Call,
-  Proper,
-  Sized,
-  after,
-  does,
-  entryOf,
-  finishes,
-  leaves,
-  opens,
-  run,
-  setDiscovery,
-  setHfi,
-  setSecurity,
-  setSsns,
-  tells,
-  tellsDiscovery,
-  tellsHfi,
-  tellsHost,
-  tellsSecurity,
-  tellsSsns,
-  withLists,
-  withOwner,
-}
+use Rattle.laws.specs.Runs.{AllProper, Build, Call, Proper, Sized, after, does, entryOf, finishes, leaves, opens, run, setDiscovery, setHfi, setSecurity, setSsns, tells, tellsDiscovery, tellsHfi, tellsHost, tellsSecurity, tellsSsns, withLists, withOwner}
 use Rattle.laws.specs.Filling.{AfterOk, InList, ListKind, OkKind, Open, Passed, begin-open, counts-same, fill-passed, host-open, in-list, list-open, next-after, next-counts}
 use Rattle.laws.specs.Sealing.{sealed-form, sealed-tail}
+use Rattle.laws.specs.Kept.{Kept, kept-same, kept-through, put-kept, same-body, unused-not}
 
 -- ---- the kinds that can be told: one computed test
 
@@ -123,19 +68,19 @@ host-kind : OkKind host
 unfolding host
 host-kind = ok-kind host (λ n. tt)
 
-hfi-kind : ListKind hfi
+pub hfi-kind : ListKind hfi
 unfolding hfi info hfiExtended
 hfi-kind = list-kind hfi (λ n. tt)
 
-ssns-kind : ListKind ssns
+pub ssns-kind : ListKind ssns
 unfolding ssns extended hfiExtended
 ssns-kind = list-kind ssns (λ n. tt)
 
-security-kind : ListKind security
+pub security-kind : ListKind security
 unfolding security
 security-kind = list-kind security (λ n. tt)
 
-discovery-kind : ListKind discovery
+pub discovery-kind : ListKind discovery
 unfolding discovery
 discovery-kind = list-kind discovery (λ n. tt)
 
@@ -310,9 +255,18 @@ finish-closed buf s b m o e =
 
 -- ---- any call
 
+-- from x on y is as far or farther; what x was told, once begun, y was told too
+pub record Goes (buf : List ℕ) (x y : Build) : Type 0 where
+  pub progress : Progress buf y
+  pub begunYet : eqb (x .state .turn) 0 ≡ false → eqb (y .state .turn) 0 ≡ false
+  pub keptAll : eqb (x .state .turn) 0 ≡ false → Kept (x .told) (y .told)
+
+goes-on : (buf : List ℕ) (x : Build) → Progress buf x → Goes buf x x
+goes-on buf x p = record { progress = p; begunYet = λ e. e; keptAll = λ e. kept-same (x .told) }
+
 -- what a call that is an `outcome` leaves: as it was where refused, what the call makes where done
 settle : (buf : List ℕ) (x : Build) (c : Call) (a : Answer) (s′ : State) (b′ : List ℕ) → does c (x .state) (x .buffer) ≡ outcome a (x .state) s′ (x .buffer) b′ → Progress buf x
-    → (a .number ≡ 0 → Progress buf (record { state = s′; buffer = b′; told = tells c (x .state) (x .told) })) → Progress buf (after x c)
+    → (a .number ≡ 0 → Goes buf x (record { state = s′; buffer = b′; told = tells c (x .state) (x .told) })) → Goes buf x (after x c)
 unfolding after
 settle buf x c a s′ b′ e p f = rw e (go (eqb (a .number) 0) refl)
   where
@@ -320,9 +274,9 @@ settle buf x c a s′ b′ e p f = rw e (go (eqb (a .number) 0) refl)
     left d = pick d (record { step = record { answer = a; state = s′ }; buffer = b′ }) (record { step = record { answer = a; state = x .state }; buffer = x .buffer })
 
     go : (d : Bool) → eqb (a .number) 0 ≡ d
-        → Progress buf (record { state = left d .step .state; buffer = left d .buffer; told = pick (eqb (left d .step .answer .number) 0) (tells c (x .state) (x .told)) (x .told) })
+        → Goes buf x (record { state = left d .step .state; buffer = left d .buffer; told = pick (eqb (left d .step .answer .number) 0) (tells c (x .state) (x .told)) (x .told) })
     go true q = rw q (f (eqb→eq (a .number) 0 (rw q tt)))
-    go false q = rw q p
+    go false q = rw q (goes-on buf x p)
 
 turn-is : (s : State) (k : ℕ) → T (waits s k) → s .turn ≡ k
 unfolding waits
@@ -338,12 +292,22 @@ host-turn : (s : State) → T (waits s (host .kind)) → T (waits s 2)
 unfolding host
 host-turn s t = t
 
+-- a done call for a record is in turn; one for a record of a list has a position of the list's
+pub turn-told : (l : Layout) (s : State) (room : ℕ) (img : List ℕ) (ss : Slots (l .refs)) → fillAnswer l s room img ss .number ≡ 0 → T (waits s (l .kind)) × (s .turn ≡ l .kind)
+turn-told l s room img ss e = let t = fill-passed l s room img ss e .turnIs in (t, turn-is s (l .kind) t)
+
+pub position-told : (buf : List ℕ) (x : Build) → Progress buf x → (l : Layout) → ListKind l → T (waits (x .state) (l .kind))
+    → (1 ≤ x .state .position) × (x .state .position ≤ countIn (x .told .lists) (l .kind))
+position-told buf x (fresh q r) l k t = absurd (clash (l .kind) 0 (sym (turn-is (x .state) (l .kind) t) ∙ turn-of q) (k .notEmpty))
+position-told buf x (over q) l k t = absurd (clash (l .kind) finished (sym (turn-is (x .state) (l .kind) t) ∙ q .turnIs) (k .notFinished))
+position-told buf x (going o) l k t = let r = turned buf (x .state) (x .buffer) (x .told) o (l .kind) (k .inLists) (k .notHost) t in (r .inside .from, r .counted)
+
 -- a call for a record of a list
 list-step : (buf : List ℕ) (x : Build) (c : Call) (l : Layout) → ListKind l → (y : List ℕ) (told : Slots (l .refs)) (b′ : Body listKinds) → Sized l y told
     → does c (x .state) (x .buffer) ≡ fill l (x .state) (x .buffer) y told → tells c (x .state) (x .told) ≡ withLists (x .told) b′
     → (1 ≤ x .state .position → x .state .position ≤ countIn (x .told .lists) (l .kind) → BlankFrom (l .kind) (x .state .position) (x .told .lists)
     → Put (x .state .position) (entryOf l (x .state) y told) listKinds (x .told .lists) b′)
-    → Progress buf x → Progress buf (after x c)
+    → Progress buf x → Goes buf x (after x c)
 unfolding fill
 list-step buf x c l k y told b′ z d t put p =
     settle buf x c (fillAnswer l s (length b) img ss) (next s (sizeOf ss) (l .newer ss)) (placed b (placeOf s l) (s .used) img ss) d p
@@ -362,14 +326,20 @@ list-step buf x c l k y told b′ z d t put p =
     ss = toldSlots (s .position) img told
 
     go : Progress buf x → Passed l s (length b) img ss
-        → Progress buf (record { state = next s (sizeOf ss) (l .newer ss); buffer = placed b (placeOf s l) (s .used) img ss; told = withLists (x .told) b′ })
+        → Goes buf x (record { state = next s (sizeOf ss) (l .newer ss); buffer = placed b (placeOf s l) (s .used) img ss; told = withLists (x .told) b′ })
     go (fresh q r) P = absurd (clash (l .kind) 0 (sym (turn-is s (l .kind) (P .turnIs)) ∙ turn-of q) (k .notEmpty))
     go (over q) P = absurd (clash (l .kind) finished (sym (turn-is s (l .kind) (P .turnIs)) ∙ q .turnIs) (k .notFinished))
     go (going o) P =
         let r = turned buf s b (x .told) o (l .kind) (k .inLists) (k .notHost) (P .turnIs) in
-        going (list-open buf s b (x .told) o l k y told b′ z P (r .small) (put (r .inside .from) (r .counted) (r .blank)))
+        let u = put (r .inside .from) (r .counted) (r .blank) in
+        let w = list-open buf s b (x .told) o l k y told b′ z P (r .small) u in
+        record {
+          progress = going w;
+          begunYet = λ e. w .started;
+          keptAll = λ e. record { ownerKept = λ i j f. f; listsKept = put-kept (s .position) (entryOf l s y told) (x .told .lists) b′ u };
+        }
 
-host-step : (buf : List ℕ) (x : Build) (y : List ℕ) (told : Slots (host .refs)) → Sized host y told → Progress buf x → Progress buf (after x (tellsHost y told))
+host-step : (buf : List ℕ) (x : Build) (y : List ℕ) (told : Slots (host .refs)) → Sized host y told → Progress buf x → Goes buf x (after x (tellsHost y told))
 unfolding fill
 host-step buf x y told z p =
     settle buf x (tellsHost y told) (fillAnswer host s (length b) img ss) (next s (sizeOf ss) (host .newer ss)) (placed b (placeOf s host) (s .used) img ss) refl p
@@ -389,16 +359,23 @@ host-step buf x y told z p =
 
     go : Progress buf x
         → Passed host s (length b) img ss
-        → Progress buf (record {
+        → Goes buf x (record {
           state = next s (sizeOf ss) (host .newer ss);
           buffer = placed b (placeOf s host) (s .used) img ss;
           told = withOwner (x .told) (entryOf host s y told);
         })
     go (fresh q r) P = absurd (clash 2 0 (sym (turn-is s 2 (host-turn s (P .turnIs))) ∙ turn-of q) refl)
     go (over q) P = absurd (clash 2 finished (sym (turn-is s 2 (host-turn s (P .turnIs))) ∙ q .turnIs) refl)
-    go (going o) P = going (host-open buf s b (x .told) o host-kind y told z (host-turn s (P .turnIs)) P)
+    go (going o) P =
+        let w = host-open buf s b (x .told) o host-kind y told z (host-turn s (P .turnIs)) P in
+        let u = rw (turn-is s 2 (host-turn s (P .turnIs))) at (o .untold) in
+        record {
+          progress = going w;
+          begunYet = λ e. w .started;
+          keptAll = λ e. record { ownerKept = λ i j f. absurd (unused-not (sym (u .0) ∙ f)); listsKept = same-body (x .told .lists) };
+        }
 
-begin-step : (buf : List ℕ) (x : Build) (oem : List ℕ) (h n c d : ℕ) (sig : Slots (header .refs)) → Proper (opens oem h n c d sig) → Progress buf x → Progress buf (after x (opens oem h n c d sig))
+begin-step : (buf : List ℕ) (x : Build) (oem : List ℕ) (h n c d : ℕ) (sig : Slots (header .refs)) → Proper (opens oem h n c d sig) → Progress buf x → Goes buf x (after x (opens oem h n c d sig))
 unfolding begin
 begin-step buf x oem h n c d sig z p =
     settle buf x (opens oem h n c d sig) (firstFail ts) (begun cs (formLength m)) (splice (x .buffer) 0 (laidOut m 0 0 0 0)) refl p
@@ -416,14 +393,19 @@ begin-step buf x oem h n c d sig z p =
     ts : List Test
     ts = test (sameState (x .state) empty) 15 0 0 ∷ test (eqb r 0) r 0 0 ∷ roomTests (formLength m) (length (x .buffer))
 
-    go : Progress buf x → AllPass ts → Progress buf (record { state = begun cs (formLength m); buffer = splice (x .buffer) 0 (laidOut m 0 0 0 0); told = m })
+    go : Progress buf x → AllPass ts → Goes buf x (record { state = begun cs (formLength m); buffer = splice (x .buffer) 0 (laidOut m 0 0 0 0); told = m })
     go (fresh q w) P =
         let room : formLength m ≤ length buf = rw w at (leb→le (formLength m) (length (x .buffer)) (P .1 .1 .1 .0)) in
-        rw w (going (begin-open buf oem h n c d sig (z .0) (z .1) (z .2) (z .3) (z .4) (eqb→eq r 0 (P .1 .0)) (leb→le (formLength m) limit (P .1 .1 .0)) room))
+        record {
+          progress =
+              rw w (going (begin-open buf oem h n c d sig (z .0) (z .1) (z .2) (z .3) (z .4) (eqb→eq r 0 (P .1 .0)) (leb→le (formLength m) limit (P .1 .1 .0)) room));
+          begunYet = λ e. refl;
+          keptAll = λ e. absurd (clash (x .state .turn) 0 (turn-of q) e);
+        }
     go (going o) P = absurd (clash (x .state .turn) 0 (eqb→eq (x .state .turn) 0 (and-yes (eqb (x .state .turn) 0) _ (P .0) .0)) (o .started))
     go (over q) P = absurd (clash finished 0 (sym (q .turnIs) ∙ eqb→eq (x .state .turn) 0 (and-yes (eqb (x .state .turn) 0) _ (P .0) .0)) refl)
 
-leave-step : (buf : List ℕ) (x : Build) → Progress buf x → Progress buf (after x leaves)
+leave-step : (buf : List ℕ) (x : Build) → Progress buf x → Goes buf x (after x leaves)
 unfolding leave
 leave-step buf x p =
     settle buf x leaves (firstFail ts) (next s 0 false) (x .buffer) refl p (λ e. go p (all-pass ts tt e))
@@ -437,12 +419,14 @@ leave-step buf x p =
     from : AllPass ts → 1 ≤ s .position
     from P = leb→le 1 (s .position) (and-yes (waits s (s .turn)) (leb 1 (s .position)) (P .0) .1)
 
-    go : Progress buf x → AllPass ts → Progress buf (record { state = next s 0 false; buffer = x .buffer; told = x .told })
+    go : Progress buf x → AllPass ts → Goes buf x (record { state = next s 0 false; buffer = x .buffer; told = x .told })
     go (fresh q w) P = absurd (omega (arith, from P, ap (λ (z : State). z .position) q))
     go (over q) P = absurd (omega (arith, from P, q .positionIs))
-    go (going o) P = going (leave-open buf s (x .buffer) (x .told) o (and-yes (waits s (s .turn)) (leb 1 (s .position)) (P .0) .0) (from P))
+    go (going o) P =
+        let w = leave-open buf s (x .buffer) (x .told) o (and-yes (waits s (s .turn)) (leb 1 (s .position)) (P .0) .0) (from P) in
+        record { progress = going w; begunYet = λ e. w .started; keptAll = λ e. kept-same (x .told) }
 
-finish-step : (buf : List ℕ) (x : Build) → Progress buf x → Progress buf (after x finishes)
+finish-step : (buf : List ℕ) (x : Build) → Progress buf x → Goes buf x (after x finishes)
 unfolding finish
 finish-step buf x p =
     settle buf x finishes (first (firstFail ts) (check t)) (moved s (turn finished 0) (s .used) (s .minor)) (sealed s (x .buffer)) refl p
@@ -457,13 +441,13 @@ finish-step buf x p =
     ts : List Test
     ts = test (waits s finishing) 15 0 0 ∷ test (leb (s .used) (length (x .buffer))) 14 0 0 ∷ []
 
-    go : Progress buf x → AllPass ts → check t .number ≡ 0 → Progress buf (record { state = moved s (turn finished 0) (s .used) (s .minor); buffer = sealed s (x .buffer); told = x .told })
+    go : Progress buf x → AllPass ts → check t .number ≡ 0 → Goes buf x (record { state = moved s (turn finished 0) (s .used) (s .minor); buffer = sealed s (x .buffer); told = x .told })
     go (fresh q w) P e = absurd (clash finishing 0 (sym (turn-is s finishing (P .0)) ∙ turn-of q) refl)
     go (over q) P e = absurd (clash finishing finished (sym (turn-is s finishing (P .0)) ∙ q .turnIs) refl)
-    go (going o) P e = over (finish-closed buf s (x .buffer) (x .told) o e)
+    go (going o) P e = record { progress = over (finish-closed buf s (x .buffer) (x .told) o e); begunYet = λ f. refl; keptAll = λ f. kept-same (x .told) }
 
--- every call keeps the progress
-step : (buf : List ℕ) (x : Build) (c : Call) → Proper c → Progress buf x → Progress buf (after x c)
+-- every call keeps the progress, and what was told
+pub step : (buf : List ℕ) (x : Build) (c : Call) → Proper c → Progress buf x → Goes buf x (after x c)
 unfolding hfi ssns security discovery
 step buf x (opens oem h n c d sig) z p = begin-step buf x oem h n c d sig z p
 step buf x (tellsHost y told) z p = host-step buf x y told z p
@@ -478,17 +462,29 @@ step buf x (tellsDiscovery y told) z p =
 step buf x leaves z p = leave-step buf x p
 step buf x finishes z p = finish-step buf x p
 
-steps : (buf : List ℕ) (x : Build) (cs : List Call) → AllProper cs → Progress buf x → Progress buf (run x cs)
+pub steps : (buf : List ℕ) (x : Build) (cs : List Call) → AllProper cs → Progress buf x → Goes buf x (run x cs)
 unfolding run
-steps buf x [] z p = p
-steps buf x (c ∷ cs) z p = steps buf (after x c) cs (z .1) (step buf x c (z .0) p)
+steps buf x [] z p = goes-on buf x p
+steps buf x (c ∷ cs) z p =
+    let s = step buf x c (z .0) p in
+    let r = steps buf (after x c) cs (z .1) (s .progress) in
+    record {
+      progress = r .progress;
+      begunYet = λ e. r .begunYet (s .begunYet e);
+      keptAll = λ e. kept-through (x .told) (after x c .told) (run x cs′ .told) (s .keptAll e) (r .keptAll (s .begunYet e));
+    }
+  where
+    cs′ : List Call
+    cs′ = c ∷ cs
+
+pub closed : (buf : List ℕ) (x : Build) → Progress buf x → x .state .turn ≡ finished → Closed buf (x .state) (x .buffer) (x .told)
+closed buf x (fresh q r) e = absurd (clash finished 0 (sym e ∙ turn-of q) refl)
+closed buf x (going o) e = absurd (clash (x .state .turn) finished e (o .unfinished))
+closed buf x (over q) e = q
 
 -- a run from the empty state that has finished has left the one form of what was told, accepted, with that meaning
 pub built : (buf : List ℕ) (m : Meaning) (cs : List Call) → AllProper cs → let x = run (record { state = empty; buffer = buf; told = m }) cs in
     x .state .turn ≡ finished → Closed buf (x .state) (x .buffer) (x .told)
-built buf m cs z e = go (steps buf (record { state = empty; buffer = buf; told = m }) cs z (fresh refl refl))
-  where
-    go : let x = run (record { state = empty; buffer = buf; told = m }) cs in Progress buf x → Closed buf (x .state) (x .buffer) (x .told)
-    go (fresh q r) = absurd (clash finished 0 (sym e ∙ turn-of q) refl)
-    go (going o) = absurd (clash _ finished e (o .unfinished))
-    go (over q) = q
+built buf m cs z e =
+    let x : Build = record { state = empty; buffer = buf; told = m } in
+    closed buf (run x cs) (steps buf x cs z (fresh refl refl) .progress) e

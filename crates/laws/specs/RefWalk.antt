@@ -14,12 +14,11 @@ use Rattle.table.specs.declared.Region.{Region}
 use Rattle.table.specs.declared.Need.{Need}
 use Rattle.table.specs.declared.Need.the-variants.{Ignored, Optional, Required}
 use Rattle.table.specs.Bytes.{num, part, pick}
-use Rattle.table.specs.Layout.{Content, Env, Refs, Shape, image, namedAt, nest, none, offsets, plain, referenceAt, region}
+use Rattle.table.specs.Layout.{Content, anything, Env, Refs, Shape, image, namedAt, nest, none, offsets, plain, referenceAt, region}
 use Rattle.table.specs.Objects.{under}
 use Rattle.table.specs.Rules.{firstOf, isSound, nestRule, plainRule, reaches, refRule, refsRule, ruled}
-use Rattle.table.specs.Reads.{needAt}
+use Rattle.table.specs.Reads.{contentAt, hasPlain, needAt}
 use Rattle.laws.specs.Lawful.{allKeep, okKeep}
-use Rattle.laws.specs.Refusals.{asks-none}
 use Rattle.laws.specs.Fields.{image-part, num-part}
 
 -- the rule of the reference at q
@@ -84,36 +83,68 @@ first-zero v = step (eqb v 0) refl where
   step true e = sym (eqb-true v 0 e)
   step false e = refl
 
-plain-free : (heap : Region) (n : Need) (content : Content) (e : Env) (t : List ℕ) (r : ℕ)
-    → plainRule heap n content e t r ≡ refRule heap n (referenceAt t r .at) (referenceAt t r .len)
-plain-free heap n content e t r = go n (refRule heap n (referenceAt t r .at) (referenceAt t r .len)) where
-  go : (n : Need) (v : ℕ) → firstOf v (under n 0 (ruled content e (namedAt t r))) ≡ v
+-- one that may hold anything
+pub plain-any : (heap : Region) (n : Need) (e : Env) (t : List ℕ) (r : ℕ) → plainRule heap n anything e t r ≡ refRule heap n (referenceAt t r .at) (referenceAt t r .len)
+plain-any heap n e t r = go n (refRule heap n (referenceAt t r .at) (referenceAt t r .len)) where
+  none-ruled : (b : List ℕ) → ruled anything e b ≡ 0
+  none-ruled [] = refl
+  none-ruled (b ∷ bs) = refl
+
+  go : (n : Need) (v : ℕ) → firstOf v (under n 0 (ruled anything e (namedAt t r))) ≡ v
   go Ignored v = first-zero v
-  go Optional v = ap (firstOf v) (asks-none content e (namedAt t r)) ∙ first-zero v
-  go Required v = ap (firstOf v) (asks-none content e (namedAt t r)) ∙ first-zero v
+  go Optional v = ap (firstOf v) (none-ruled (namedAt t r)) ∙ first-zero v
+  go Required v = ap (firstOf v) (none-ruled (namedAt t r)) ∙ first-zero v
 
 abbrev pub nestAt : ℕ → Refs → Bool
 nestAt q none = false
 nestAt q (plain p need content rest) = nestAt q rest
 nestAt q (nest p need shape own rest) = eqb q p || nestAt q rest
 
--- a plain reference's rule: by its need and its two halves
+-- none of the references to heap records is one to an object, since offsets are distinct
+no-nest : (q : ℕ) (rs : Refs) → T (notIn q (offsets rs)) → T (not (nestAt q rs))
+no-nest q none m = tt
+no-nest q (plain p need content rest) m = no-nest q rest (and-yes (not (eqb p q)) (notIn q (offsets rest)) m .1)
+no-nest q (nest p need shape own rest) m = let u = and-yes (not (eqb p q)) (notIn q (offsets rest)) m in go (eqb q p) refl (u .0) (no-nest q rest (u .1)) where
+  go : (c : Bool) → eqb q p ≡ c → T (not (eqb p q)) → T (not (nestAt q rest)) → T (not (c || nestAt q rest))
+  go true e x y = absurd (rw (eq-eqb p q (sym (eqb-true q p e))) at x)
+  go false e x y = y
+
+no-plain : (q : ℕ) (rs : Refs) → T (notIn q (offsets rs)) → T (hasPlain q rs) → ⊥
+no-plain q none m h = h
+no-plain q (plain p need content rest) m h = let u = and-yes (not (eqb p q)) (notIn q (offsets rest)) m in go (eqb q p) refl (u .0) h (no-plain q rest (u .1)) where
+  go : (c : Bool) → eqb q p ≡ c → T (not (eqb p q)) → T (pick c true (hasPlain q rest)) → (T (hasPlain q rest) → ⊥) → ⊥
+  go true e x y f = absurd (rw (eq-eqb p q (sym (eqb-true q p e))) at x)
+  go false e x y f = f y
+no-plain q (nest p need shape own rest) m h = no-plain q rest (and-yes (not (eqb p q)) (notIn q (offsets rest)) m .1) h
+
+pub plain-alone : (q : ℕ) (rs : Refs) → T (distinctRefs rs) → T (hasPlain q rs) → T (not (nestAt q rs))
+plain-alone q none d h = tt
+plain-alone q (plain p need content rest) d h = let u = and-yes (notIn p (offsets rest)) (distinctRefs rest) d in go (eqb q p) refl (u .0) h (plain-alone q rest (u .1)) where
+  go : (c : Bool) → eqb q p ≡ c → T (notIn p (offsets rest)) → T (pick c true (hasPlain q rest)) → (T (hasPlain q rest) → T (not (nestAt q rest))) → T (not (nestAt q rest))
+  go true e x y f = no-nest q rest (rw (eqb-true q p e) x)
+  go false e x y f = f y
+plain-alone q (nest p need shape own rest) d h = let u = and-yes (notIn p (offsets rest)) (distinctRefs rest) d in go (eqb q p) refl (u .0) (plain-alone q rest (u .1) h) where
+  go : (c : Bool) → eqb q p ≡ c → T (notIn p (offsets rest)) → T (not (nestAt q rest)) → T (not (c || nestAt q rest))
+  go true e x y = absurd (no-plain q rest (rw (eqb-true q p e) x) h)
+  go false e x y = y
+
+-- a plain reference's rule: by its need, what its object holds, and its two halves
 pub plain-at : (heap : Region) (e : Env) (t : List ℕ) (a : ℕ) (img : List ℕ) (rs : Refs) (q : ℕ) → T (not (nestAt q rs))
-    → ruleAt heap e t a img rs q ≡ refRule heap (needAt q rs img) (referenceAt t (a + q) .at) (referenceAt t (a + q) .len)
+    → ruleAt heap e t a img rs q ≡ plainRule heap (needAt q rs img) (contentAt q rs) e t (a + q)
 unfolding ruleAt
 plain-at heap e t a img none q n = refl
 plain-at heap e t a img (plain p need content rest) q n = go (eqb q p) (plain-at heap e t a img rest q n) where
-  go : (c : Bool) → ruleAt heap e t a img rest q ≡ refRule heap (needAt q rest img) (referenceAt t (a + q) .at) (referenceAt t (a + q) .len)
+  go : (c : Bool) → ruleAt heap e t a img rest q ≡ plainRule heap (needAt q rest img) (contentAt q rest) e t (a + q)
       → pick c (plainRule heap (need img) content e t (a + q)) (ruleAt heap e t a img rest q)
-      ≡ refRule heap (pick c (need img) (needAt q rest img)) (referenceAt t (a + q) .at) (referenceAt t (a + q) .len)
-  go true z = plain-free heap (need img) content e t (a + q)
+      ≡ plainRule heap (pick c (need img) (needAt q rest img)) (pick c content (contentAt q rest)) e t (a + q)
+  go true z = refl
   go false z = z
 plain-at heap e t a img (nest p need shape own rest) q n = go (eqb q p) n (λ m. plain-at heap e t a img rest q m) where
   go : (c : Bool) → T (not (c || nestAt q rest))
-      → (T (not (nestAt q rest)) → ruleAt heap e t a img rest q ≡ refRule heap (needAt q rest img) (referenceAt t (a + q) .at) (referenceAt t (a + q) .len))
+      → (T (not (nestAt q rest)) → ruleAt heap e t a img rest q ≡ plainRule heap (needAt q rest img) (contentAt q rest) e t (a + q))
       → pick c (nestRule heap (need img) shape e img t (a + q) (refsRule heap e t (referenceAt t (a + q) .at) (image (shape .keep) (drop (referenceAt t (a + q) .at) t)) own))
       (ruleAt heap e t a img rest q)
-      ≡ refRule heap (pick c (need img) (needAt q rest img)) (referenceAt t (a + q) .at) (referenceAt t (a + q) .len)
+      ≡ plainRule heap (pick c (need img) (needAt q rest img)) (contentAt q rest) e t (a + q)
   go true n z = absurd n
   go false n z = z n
 
@@ -171,13 +202,19 @@ partOk shape rs = allKeep (okKeep (shape .keep)) (shape .keep) && (distinctRefs 
 unfoldable pub soundRule : Env → Shape → List ℕ → List ℕ → ℕ → ℕ
 soundRule e shape owner x inner = firstOf (pick (leb (length (shape .keep)) (length x) && isSound shape e owner (image (shape .keep) x)) 0 12) inner
 
--- its plain reference at q by its own bytes x
-abbrev pub ownRule : Region → Refs → List ℕ → List ℕ → ℕ → ℕ
-ownRule heap rs img x q = refRule heap (needAt q rs img) (referenceAt x q .at) (referenceAt x q .len)
+-- a plain reference by its two halves r, and the bytes b that it names
+abbrev pub plainBy : Region → Need → Content → Env → Region → List ℕ → ℕ
+plainBy heap n content e r b = firstOf (refRule heap n (r .at) (r .len)) (under n 0 (ruled content e b))
+
+-- its plain reference at q by its own bytes x; what that names is a part of the table t
+abbrev pub ownRule : Region → Env → Refs → List ℕ → List ℕ → List ℕ → ℕ → ℕ
+ownRule heap e rs img t x q =
+    let r = referenceAt x q in
+    plainBy heap (needAt q rs img) (contentAt q rs) e r (part t (r .at) (r .len))
 
 -- the whole of one whose references are all plain
-unfoldable pub partRule : Region → Env → Shape → Refs → List ℕ → List ℕ → ℕ
-partRule heap e shape rs owner x = soundRule e shape owner x (firstOver (ownRule heap rs (image (shape .keep) x) x) (offsets rs))
+unfoldable pub partRule : Region → Env → Shape → Refs → List ℕ → List ℕ → List ℕ → ℕ
+partRule heap e shape rs owner t x = soundRule e shape owner x (firstOver (ownRule heap e rs (image (shape .keep) x) t x) (offsets rs))
 
 over-same : (f g : ℕ → ℕ) (n : ℕ) (qs : List ℕ) → T (fitting n qs) → ((q : ℕ) → q + 6 ≤ n → f q ≡ g q) → firstOver f qs ≡ firstOver g qs
 over-same f g n [] k s = refl
@@ -262,9 +299,11 @@ module _ (heap : Region) (e : Env) (shape : Shape) (rs : Refs) (t : List ℕ) (k
 
 -- the references of a heap record that names objects alone, by its own bytes
 pub plain-refs : (heap : Region) (e : Env) (shape : Shape) (rs : Refs) (t : List ℕ) → T (partOk shape rs) → T (allPlain rs) → (off len : ℕ) → length (shape .keep) ≤ len
-    → firstOver (ownRule heap rs (image (shape .keep) (part t off len)) (part t off len)) (offsets rs) ≡ refsRule heap e t off (image (shape .keep) (drop off t)) rs
+    → firstOver (ownRule heap e rs (image (shape .keep) (part t off len)) t (part t off len)) (offsets rs) ≡ refsRule heap e t off (image (shape .keep) (drop off t)) rs
 plain-refs heap e shape rs t k a off len l =
     let img = image (shape .keep) (drop off t) in
     rw (image-part (shape .keep) t off len (keeps heap e shape rs t k .0) l)
-    (own-refs heap e shape rs t k (ownRule heap rs img (part t off len)) img off len l
-    (λ q h. ap (λ (x : Region). refRule heap (needAt q rs img) (x .at) (x .len)) (reference-part t off len q (omega arith)) ∙ sym (plain-at heap e t off img rs q (plain-only rs q a))))
+    (own-refs heap e shape rs t k (ownRule heap e rs img t (part t off len)) img off len l
+    (λ q h.
+    ap (λ (x : Region). plainBy heap (needAt q rs img) (contentAt q rs) e x (part t (x .at) (x .len))) (reference-part t off len q (omega arith))
+    ∙ sym (plain-at heap e t off img rs q (plain-only rs q a))))

@@ -1,6 +1,6 @@
 -- Demand 2, last sentence: the builder and the rewriter refuse for the numbered causes alone; each number is given exactly when its cause is the first that holds (`Refuses`).
 -- Assumes nothing.
-use mathlib.Core.Path.{_≡_, refl, sym, subst}
+use mathlib.Core.Path.{_≡_, refl}
 use mathlib.Core.Bool.{Bool, true, false, _&&_, _||_}
 use mathlib.Core.List.{List, [], _∷_}
 use Prim.Native.Nat.{ℕ, zero, suc, _+_, _≤_}
@@ -15,54 +15,20 @@ use Rattle.table.specs.declared.Need.{Need}
 use Rattle.table.specs.declared.Need.the-variants.{Ignored, Optional, Required}
 use Rattle.table.specs.declared.State.{State}
 use Rattle.table.specs.Bytes.{num, pick}
-use Rattle.table.specs.Layout.{Body, Content, Entry, Env, Layout, Refs, Slots, anything, bytes, env, gone, image, isRight, more, namedAt, nest, nil, none, pairsRight, plain, rec, stop, unused, used}
+use Rattle.table.specs.Layout.{Body, Content, Entry, Env, Layout, Refs, Slots, anything, bytes, env, gone, image, isRight, isText, more, namedAt, nest, nil, none}
+use Rattle.table.specs.Layout.{pairsRight, plain, rec, stop, text, unused, used}
 use Rattle.table.specs.FixedLayouts.{discovery, header, hfi, host, listKinds, security, ssns}
 use Rattle.table.specs.Objects.{countIn, sizeOf, under, usedIn}
 use Rattle.table.specs.Rules.{Test, answer, bodyRule, done, entryRule, first, firstFail, firstOf, isSound, listRule, reaches, refRule, refsRule, ruled, usedRule}
 use Rattle.table.specs.Meaning.{Meaning, formLength, heapAt, limit, meaning}
 use Rattle.table.specs.Numbers.{check, driverRule, heapIn, hostRule, records, tests}
 use Rattle.table.specs.Rewriting.{rewriteAnswer}
-use Rattle.table.specs.Builder.{
-  Outcome,
-  allUnused,
-  begin,
-  begun,
-  countOf,
-  empty,
-  envOf,
-  fill,
-  fillAnswer,
-  finish,
-  finished,
-  finishing,
-  fitsNeed,
-  isShort,
-  leave,
-  mayHave,
-  mayLack,
-  moved,
-  nestsRight,
-  opened,
-  outcome,
-  recordsEnd,
-  sameState,
-  sealed,
-  slotsRule,
-  toldImage,
-  toldSlots,
-  turn,
-  waits,
-}
+use Rattle.table.specs.Builder.{Outcome, allUnused, begin, begun, countOf, empty, envOf, fill, fillAnswer, finish, finished, finishing, fitsNeed, isShort, leave, mayHave, mayLack, moved, nestsRight, opened, outcome, recordsEnd, sameState, sealed, slotsRule, toldImage, toldSlots, turn, waits}
 use Rattle.laws.specs.Turns.{end-is}
 use Rattle.laws.specs.Runs.{Call, does, finishes, leaves, opens, tellsDiscovery, tellsHfi, tellsHost, tellsSecurity, tellsSsns}
 use Rattle.laws.specs.TestLaws.{Refuses, fails-first, found, number-pick, oneOf, refuses, unless}
 
 -- ---- the numbers of objects and of the reader
-
--- no content asks for a number
-pub asks-none : (c : Content) (e : Env) (b : List ℕ) → ruled c e b ≡ 0
-asks-none anything e [] = refl
-asks-none anything e (b ∷ bs) = refl
 
 -- r is 0 or one of ns
 pub record ZeroOr (ns : List ℕ) (r : ℕ) : Type 0 where
@@ -94,8 +60,11 @@ under-need Ignored t = nothing
 under-need Optional t = t
 under-need Required t = t
 
-asked : {ns : List ℕ} (content : Content) (e : Env) (b : List ℕ) → ZeroOr ns (ruled content e b)
-asked {ns} content e b = subst (ZeroOr ns) (sym (asks-none content e b)) nothing
+-- what a content asks for: 18 of text
+asked : {ns : List ℕ} → T (oneOf 18 ns || eqb 18 0) → (content : Content) (e : Env) (b : List ℕ) → ZeroOr ns (ruled content e b)
+asked t content e [] = nothing
+asked t anything e (b ∷ bs) = nothing
+asked t text e (b ∷ bs) = either-of (isText (b ∷ bs)) nothing (is 18 t)
 
 either-answer : {ns : List ℕ} (c : Bool) (x y : Answer) → ZeroOr ns (x .number) → ZeroOr ns (y .number) → ZeroOr ns (pick c x y .number)
 either-answer true x y t u = t
@@ -106,20 +75,20 @@ first-answer x y t u = either-answer (eqb (x .number) 0) y x u t
 
 -- what a told object can be refused with
 abbrev pub objectNumbers : List ℕ
-objectNumbers = 11 ∷ []
+objectNumbers = 11 ∷ 18 ∷ []
 
 slots-number : {rs : Refs} (e : Env) (img : List ℕ) (ss : Slots rs) → ZeroOr objectNumbers (slotsRule e img ss)
 unfolding slotsRule
 slots-number e img nil = nothing
 slots-number e img (bytes {need = need} {content = content} b ss) =
-    first-of (first-of (either-of (fitsNeed (need img) b && isShort b) nothing (is 11 tt)) (asked content e b)) (slots-number e img ss)
+    first-of (first-of (either-of (fitsNeed (need img) b && isShort b) nothing (is 11 tt)) (asked tt content e b)) (slots-number e img ss)
 slots-number e img (gone {need = need} ss) = first-of (either-of (mayLack (need img)) nothing (is 11 tt)) (slots-number e img ss)
 slots-number e img (rec {need = need} img′ own ss) =
     first-of (first-of (either-of (mayHave (need img)) nothing (is 11 tt)) (slots-number e img′ own)) (slots-number e img ss)
 
 -- what the reader can refuse with
 abbrev pub readerNumbers : List ℕ
-readerNumbers = 1 ∷ 2 ∷ 3 ∷ 4 ∷ 5 ∷ 6 ∷ 7 ∷ 8 ∷ 9 ∷ 10 ∷ 11 ∷ 12 ∷ 13 ∷ []
+readerNumbers = 1 ∷ 2 ∷ 3 ∷ 4 ∷ 5 ∷ 6 ∷ 7 ∷ 8 ∷ 9 ∷ 10 ∷ 11 ∷ 12 ∷ 13 ∷ 18 ∷ []
 
 abbrev FromReader : ℕ → Type 0
 FromReader r = ZeroOr readerNumbers r
@@ -133,7 +102,7 @@ refs-number : (heap : Region) (e : Env) (t : List ℕ) (a : ℕ) (img : List ℕ
 unfolding refsRule
 refs-number heap e t a img none = nothing
 refs-number heap e t a img (plain p need content rest) =
-    first-of (first-of (ref-number heap (need img) (num t (a + p) 4) (num t (a + p + 4) 2)) (under-need (need img) (asked content e (namedAt t (a + p)))))
+    first-of (first-of (ref-number heap (need img) (num t (a + p) 4) (num t (a + p + 4) 2)) (under-need (need img) (asked tt content e (namedAt t (a + p)))))
     (refs-number heap e t a img rest)
 refs-number heap e t a img (nest p need shape own rest) =
     first-of
@@ -203,7 +172,7 @@ check-below t =
 -- ---- the calls of the builder
 
 -- refused or done, the answer handed back is the one found
-outcome-answer : (a : Answer) (s s′ : State) (b b′ : List ℕ) → outcome a s s′ b b′ .step .answer ≡ a
+pub outcome-answer : (a : Answer) (s s′ : State) (b b′ : List ℕ) → outcome a s s′ b b′ .step .answer ≡ a
 outcome-answer a s s′ b b′ = go (eqb (a .number) 0)
   where
     go : (c : Bool) → pick {X = Outcome} c (record { step = record { answer = a; state = s′ }; buffer = b′ }) (record { step = record { answer = a; state = s }; buffer = b }) .step .answer ≡ a

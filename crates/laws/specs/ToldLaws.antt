@@ -15,7 +15,7 @@ use Rattle.table.specs.Bytes.{Edit, apply, bits, edit, every, le, num, part, pi
 use Rattle.table.specs.Layout.{Env, Keep, Refs, Shape, Slots, bytes, fixedRight, gone, image, isRight, isValid, low, modOf, nest, nil, none, pairsRight, plain, rec, sel}
 use Rattle.table.specs.Objects.{under}
 use Rattle.table.specs.Rules.{firstOf}
-use Rattle.table.specs.Builder.{fitsNeed, isShort, mayHave, mayLack, nestsRight, slotsRule, toldImage, toldSlots}
+use Rattle.table.specs.Builder.{ended, fitsNeed, isShort, mayHave, mayLack, nestsRight, slotsRule, toldImage, toldSlots}
 use Rattle.laws.specs.Lawful.{Fit, allKeep, okKeep}
 use Rattle.laws.specs.ByteLaws.{Holds, holds-getD, holds-splice-above, holds-splice-below, length-le, length-splice, splice-here, val-le}
 use Rattle.laws.specs.ImageLaws.{all-at, even-low, image-at, image-idem, isEven, length-image}
@@ -305,7 +305,7 @@ told-fit e k img nil t z n r = tt
 told-fit e k img (bytes {need = need} {content = content} b ss) t z n r =
     let u = first-of _ _ r in
     let v = first-of _ _ (u .0) in
-    let b′ : List ℕ = under (need img) [] b in
+    let b′ : List ℕ = under (need img) [] (ended content b) in
     let w = and-yes (fitsNeed (need img) b′) (isShort b′) (pick-of (fitsNeed (need img) b′ && isShort b′) 11 (lit< tt) (v .0)) in
     let s : length b′ ≤ 65535 = leb→le (length b′) 65535 (w .1) in
     (record { need = w .0; lawful = rw (v .1) tt; short = omega arith }, told-fit e k img ss t z n (u .1))

@@ -1,8 +1,34 @@
--- A test that decides between yes and no. Assumes nothing.
+-- A test that decides between yes and no; kinds without text. Assumes nothing.
 use mathlib.Core.Path.{_≡_, refl}
 use mathlib.Core.Bool.{Bool, true, false}
+use Prim.Native.Nat.{ℕ}
+use lib.Dec.{T, eqb}
 use Rattle.table.specs.Bytes.{pick}
+use Rattle.table.specs.Layout.{anything, text, Refs, none, plain, nest}
+use Rattle.table.specs.Reads.{contentAt}
+use Rattle.layout_fields.specs.Texts.{isOfText}
 
 pub yes-or-no : (c : Bool) → c ≡ pick c true false
 yes-or-no true = refl
 yes-or-no false = refl
+
+-- text or any bytes, by a test
+pub text-or-not : (c : Bool) → c ≡ isOfText (pick c text anything)
+text-or-not true = refl
+text-or-not false = refl
+
+-- all objects are any bytes
+abbrev pub allBytes : Refs → Bool
+allBytes none = true
+allBytes (plain p need anything rest) = allBytes rest
+allBytes (plain p need text rest) = false
+allBytes (nest p need shape own rest) = allBytes rest
+
+pub no-text : (rs : Refs) → T (allBytes rs) → (q : ℕ) → false ≡ isOfText (contentAt q rs)
+no-text none t q = refl
+no-text (plain p need anything rest) t q = go (eqb q p) (no-text rest t q) where
+  go : (c : Bool) → false ≡ isOfText (contentAt q rest) → false ≡ isOfText (pick c anything (contentAt q rest))
+  go true e = refl
+  go false e = e
+no-text (plain p need text rest) t q = absurd t
+no-text (nest p need shape own rest) t q = no-text rest t q

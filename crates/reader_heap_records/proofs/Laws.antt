@@ -1,6 +1,6 @@
 -- A heap record's rule by the bytes that are read, in the order of the code. Assumes nothing.
 use mathlib.Core.Path.{_≡_, refl, sym, _∙_}
-use mathlib.Core.Bool.{Bool, true, false, not}
+use mathlib.Core.Bool.{true}
 use mathlib.Core.List.{List}
 use Prim.Native.Nat.{ℕ, _/_, _%_, _≤_, _<_}
 use native.Mathlib.Omega.{arith}
@@ -15,11 +15,11 @@ use Rattle.table.specs.FixedLayouts.{layoutOf, info, extended, hfiExtended}
 use Rattle.table.specs.Rules.{firstOf, isSound, refRule}
 use Rattle.laws.specs.Fields.{Bytes, imageIn, masked, masked-if, whole, one-byte, two-bytes}
 use Rattle.laws.specs.ImageLaws.{length-image}
-use Rattle.laws.specs.RefWalk.{firstOver, ownRule, partRule, soundRule, stop, more}
+use Rattle.laws.specs.RefWalk.{firstOver, soundRule, stop, more}
 use Rattle.reader_references.specs.References.{partIn}
 use Rattle.layout_needs.specs.Needs.{plainNeed}
 use Rattle.layout_flags.proofs.Laws.{identity-flags}
-use Rattle.reader_heap_records.specs.HeapRecords.{spot, soundBy, infoRight, identityRight, ownNeed, ownFault, ownFaults, identityFault}
+use Rattle.reader_heap_records.specs.HeapRecords.{spot, soundBy, infoRight, identityRight, ownNeed, ownFault, ownFaults, objectIn, flatPart, identityFault}
 use Rattle.laws.specs.FieldTests.{right-chain}
 
 -- ---- its own fields
@@ -88,13 +88,15 @@ origin-is x b = whole (info .shape .keep) x 0 19 tt refl (b 19)
 
 -- ---- the references of each kind: its need by kind and offset is its layout's
 
-pub extended-own : (heap : Region) (x : List ℕ) → ownFaults 9 heap x ≡ firstOver (ownRule heap (extended .refs) (image (extended .shape .keep) x) x) (offsets (extended .refs))
+pub extended-own : (heap : List ℕ) (from : ℕ) (x : List ℕ)
+    → ownFaults 9 heap from x ≡ firstOver (objectIn heap from (extended .refs) (image (extended .shape .keep) x) x) (offsets (extended .refs))
 unfolding ownFaults ownFault ownNeed plainNeed layoutOf extended
-extended-own heap x = refl
+extended-own heap from x = refl
 
-pub identity-own : (heap : Region) (x : List ℕ) → ownFaults 10 heap x ≡ firstOver (ownRule heap (hfiExtended .refs) (image (hfiExtended .shape .keep) x) x) (offsets (hfiExtended .refs))
+pub identity-own : (heap : List ℕ) (from : ℕ) (x : List ℕ)
+    → ownFaults 10 heap from x ≡ firstOver (objectIn heap from (hfiExtended .refs) (image (hfiExtended .shape .keep) x) x) (offsets (hfiExtended .refs))
 unfolding ownFaults ownFault ownNeed layoutOf imageIn
-identity-own heap x = refl
+identity-own heap from x = refl
 
 -- ---- the rule in the order of the code
 
@@ -124,7 +126,7 @@ module _ (heap : List ℕ) (from pos : ℕ) (x : List ℕ) (v : getD x 3 0 ≡ 2
   bytes = partIn heap from (named .at) (named .len)
 
   abbrev whole-of : ℕ
-  whole-of = partRule (region from (length heap)) (spot pos) (hfiExtended .shape) (hfiExtended .refs) (imageIn info x 0) bytes
+  whole-of = flatPart heap from pos (hfiExtended .shape) (hfiExtended .refs) (imageIn info x 0) bytes
 
   module _ (n : ℕ) (e : n ≡ refRule (region from (length heap)) Optional (named .at) (named .len)) where
     pub identity-wrong : (n ≡ 0 → ⊥) → n ≡ identityFault heap from pos x

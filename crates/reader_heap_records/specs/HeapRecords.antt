@@ -8,14 +8,15 @@ use Rattle.table.specs.declared.Region.{Region}
 use Rattle.table.specs.declared.Need.{Need}
 use Rattle.table.specs.declared.Need.the-variants.{Optional}
 use Rattle.table.specs.Bytes.{odd, pick}
-use Rattle.table.specs.Layout.{Env, env, offsets, referenceAt, region}
+use Rattle.table.specs.Layout.{Env, env, image, offsets, referenceAt, region, Refs, Shape}
 use Rattle.table.specs.FixedLayouts.{layoutOf, info, hfiExtended}
 use Rattle.table.specs.Rules.{firstOf, refRule}
-use Rattle.table.specs.Reads.{needAt}
+use Rattle.table.specs.Reads.{contentAt, needAt}
 use Rattle.laws.specs.Fields.{imageIn}
-use Rattle.laws.specs.RefWalk.{firstOver, partRule, soundRule}
+use Rattle.laws.specs.RefWalk.{firstOver, soundRule}
 use Rattle.layout_needs.specs.Needs.{plainNeed}
-use Rattle.reader_references.specs.References.{partIn}
+use Rattle.layout_fields.specs.Texts.{isOfText}
+use Rattle.reader_references.specs.References.{partIn, objectRule}
 
 -- a position in a list, where counts do not matter
 unfoldable pub spot : ℕ → Env
@@ -40,21 +41,29 @@ identityRight flags origin = eqb (flags / 2 % 2) 0 || eqb origin 3
 unfoldable pub ownNeed : ℕ → List ℕ → ℕ → Need
 ownNeed k x q = pick (eqb k 10) (needAt q (hfiExtended .refs) (imageIn hfiExtended x 0)) (plainNeed k q)
 
--- the reference at q of a heap record of kind k, whose bytes are x
-unfoldable pub ownFault : ℕ → Region → List ℕ → ℕ → ℕ
-ownFault k heap x q = refRule heap (ownNeed k x q) (referenceAt x q .at) (referenceAt x q .len)
+-- the reference at q of a heap record of kind k, whose bytes are x; the heap is lent, its first byte is the table's byte `from`
+unfoldable pub ownFault : ℕ → (heap : List ℕ) (from : ℕ) → List ℕ → ℕ → ℕ
+ownFault k heap from x q = objectRule (ownNeed k x q) (isOfText (contentAt q (layoutOf k .refs))) heap from (referenceAt x q)
 
 -- all of them
-unfoldable pub ownFaults : ℕ → Region → List ℕ → ℕ
-ownFaults k heap x = firstOver (ownFault k heap x) (offsets (layoutOf k .refs))
+unfoldable pub ownFaults : ℕ → (heap : List ℕ) (from : ℕ) → List ℕ → ℕ
+ownFaults k heap from x = firstOver (ownFault k heap from x) (offsets (layoutOf k .refs))
 
--- ---- the references of an info, whose bytes are x; the heap is lent, its first byte is the table's byte `from`
+-- the reference at q to an object, of a heap record with the references rs, whose image is img and whose bytes are x
+abbrev pub objectIn : (heap : List ℕ) (from : ℕ) (rs : Refs) (img x : List ℕ) → ℕ → ℕ
+objectIn heap from rs img x q = objectRule (needAt q rs img) (isOfText (contentAt q rs)) heap from (referenceAt x q)
+
+-- the whole of one, by its own bytes x
+unfoldable pub flatPart : (heap : List ℕ) (from pos : ℕ) (shape : Shape) (rs : Refs) (owner x : List ℕ) → ℕ
+flatPart heap from pos shape rs owner x = soundRule (spot pos) shape owner x (firstOver (objectIn heap from rs (image (shape .keep) x) x) (offsets rs))
+
+-- ---- the references of an info, whose bytes are x
 
 -- that to its extended info, by its version, the reference and its image
 abbrev pub identityBy : (heap : List ℕ) (from pos version : ℕ) (r : Region) (owner : List ℕ) → ℕ
 identityBy heap from pos version r owner =
     let y = partIn heap from (r .at) (r .len) in
-    let whole = partRule (region from (length heap)) (spot pos) (hfiExtended .shape) (hfiExtended .refs) owner y in
+    let whole = flatPart heap from pos (hfiExtended .shape) (hfiExtended .refs) owner y in
     pick (eqb version 2) (firstOf (refRule (region from (length heap)) Optional (r .at) (r .len)) (pick (eqb (length y) 0) 0 whole)) 0
 
 unfoldable pub identityFault : (heap : List ℕ) (from pos : ℕ) (x : List ℕ) → ℕ
@@ -62,7 +71,7 @@ identityFault heap from pos x = identityBy heap from pos (getD x 3 0) (reference
 
 unfoldable pub infoFault : (heap : List ℕ) (from pos : ℕ) (x : List ℕ) → ℕ → ℕ
 infoFault heap from pos x q =
-    pick (eqb q 110) (identityFault heap from pos x) (refRule (region from (length heap)) (plainNeed 7 q) (referenceAt x q .at) (referenceAt x q .len))
+    pick (eqb q 110) (identityFault heap from pos x) (objectRule (plainNeed 7 q) (isOfText (contentAt q (info .refs))) heap from (referenceAt x q))
 
 unfoldable pub infoFaults : (heap : List ℕ) (from pos : ℕ) (x : List ℕ) → ℕ
 infoFaults heap from pos x = firstOver (infoFault heap from pos x) (offsets (info .refs))

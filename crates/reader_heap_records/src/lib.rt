@@ -1,9 +1,11 @@
 // Heap records by their own bytes: the transport info of an HFI, the HFI extended info that it may name, and the extended info of an SSNS.
+use layout_fields::texts::holds_text;
 use layout_kinds::TCP;
 use layout_needs::identity_need;
 use layout_needs::plain_need;
 use reader_references::part_at;
 use reader_references::plain_fault;
+use reader_references::text_fault;
 use table::Extended;
 use table::HfiExtended;
 use table::Info;
@@ -15,11 +17,10 @@ ghost use Prim.Native.Nat.{_+_, _≤_, _<_};
 ghost use lib.ListN.{length, getD};
 ghost use lib.Dec.{eqb};
 ghost use Rattle.table.specs.Bytes.{pick};
-ghost use Rattle.table.specs.Layout.{baseOf, region};
+ghost use Rattle.table.specs.Layout.{baseOf};
 ghost use Rattle.table.specs.FixedLayouts.{layoutOf, info, extended, hfiExtended};
 ghost use Rattle.laws.specs.Fields.{imageIn};
-ghost use Rattle.laws.specs.RefWalk.{partRule};
-ghost use Rattle.reader_heap_records.specs.HeapRecords.{spot, soundBy, infoRight, identityRight, ownNeed, ownFaults, identityFault, infoFault, infoFaults, infoPart};
+ghost use Rattle.reader_heap_records.specs.HeapRecords.{soundBy, infoRight, identityRight, ownNeed, ownFault, ownFaults, flatPart, identityFault, infoFault, infoFaults, infoPart};
 
 // Valid, with the right ID, version, type and index, by what was read, and what else its kind asks for. For a kind without type the right one is
 // handed over.
@@ -110,17 +111,29 @@ fn own_need(x: &[u8], kind: u8, off: usize) -> Need
     }
 }
 
+// A reference of its own, to an object.
+fn own_ref(x: &[u8], kind: u8, off: usize, heap: &[u8], from: usize) -> u8
+    requires { ⌜ (baseOf (layoutOf kind) ≤ length (now x)) × (off + 6 ≤ length (now x)) × (from + length (now heap) < 8589934592) ⌝ }
+    ensures { λ r. ⌜ r ≡ ownFault kind (now (heap .entry)) from (now (x .entry)) off ⌝ }
+{
+    let need = own_need(x, kind, off);
+    if holds_text(kind, off) {
+        return text_fault(x, off, need, heap, from);
+    }
+    plain_fault(x, off, need, from, heap.len())
+}
+
 // The first fault of its references, by ascending field offset.
-fn own_fault(x: &[u8], kind: u8, from: usize, n: usize) -> u8
-    requires { ⌜ (baseOf (layoutOf kind) ≤ length (now x)) × (from + n < 8589934592) ⌝ }
-    ensures { λ r. ⌜ r ≡ ownFaults kind (region from n) (now (x .entry)) ⌝ }
+fn own_fault(x: &[u8], kind: u8, heap: &[u8], from: usize) -> u8
+    requires { ⌜ (baseOf (layoutOf kind) ≤ length (now x)) × (from + length (now heap) < 8589934592) ⌝ }
+    ensures { λ r. ⌜ r ≡ ownFaults kind (now (heap .entry)) from (now (x .entry)) ⌝ }
 {
     let rs = layout_kinds::reference_offsets(kind);
     let count = rs.count;
     let mut i: usize = 0;
     while i < count {
         let off = rs.at[i];
-        let fault = plain_fault(x, off, own_need(x, kind, off), from, n);
+        let fault = own_ref(x, kind, off, heap, from);
         if fault != 0 {
             return fault;
         }
@@ -130,9 +143,9 @@ fn own_fault(x: &[u8], kind: u8, from: usize, n: usize) -> u8
 }
 
 // HFI extended info by its own bytes and those of the info that names it: long enough, sound, then its references.
-fn identity_fault(owner: &[u8], x: &[u8], position: usize, from: usize, n: usize) -> u8
-    requires { ⌜ (128 ≤ length (now owner)) × (from + n < 8589934592) ⌝ }
-    ensures { λ r. ⌜ r ≡ partRule (region from n) (spot position) (hfiExtended .shape) (hfiExtended .refs) (imageIn info (now (owner .entry)) 0) (now (x .entry)) ⌝ }
+fn identity_fault(owner: &[u8], x: &[u8], position: usize, heap: &[u8], from: usize) -> u8
+    requires { ⌜ (128 ≤ length (now owner)) × (from + length (now heap) < 8589934592) ⌝ }
+    ensures { λ r. ⌜ r ≡ flatPart (now (heap .entry)) from position (hfiExtended .shape) (hfiExtended .refs) (imageIn info (now (owner .entry)) 0) (now (x .entry)) ⌝ }
 {
     if x.len() < HfiExtended::SIZE {
         return 12;
@@ -151,7 +164,7 @@ fn identity_fault(owner: &[u8], x: &[u8], position: usize, from: usize, n: usize
     if fault != 0 {
         return fault;
     }
-    own_fault(x, HfiExtended::ID, from, n)
+    own_fault(x, HfiExtended::ID, heap, from)
 }
 
 // The reference of an info to its extended info, which counts under version 2 alone. It is handed on as the part of the heap that it is.
@@ -170,7 +183,7 @@ fn identity_ref(x: &[u8], position: usize, heap: &[u8], from: usize) -> u8
     if named.len() == 0 {
         return 0;
     }
-    identity_fault(x, named, position, from, heap.len())
+    identity_fault(x, named, position, heap, from)
 }
 
 // A reference of an info: its extended info, or an object.
@@ -181,7 +194,11 @@ fn info_ref(x: &[u8], position: usize, off: usize, heap: &[u8], from: usize) -> 
     if off == 110 {
         return identity_ref(x, position, heap, from);
     }
-    plain_fault(x, off, plain_need(Info::ID, off), from, heap.len())
+    let need = plain_need(Info::ID, off);
+    if holds_text(Info::ID, off) {
+        return text_fault(x, off, need, heap, from);
+    }
+    plain_fault(x, off, need, from, heap.len())
 }
 
 // The first fault of them, by ascending field offset.
@@ -228,9 +245,9 @@ pub fn info_fault(x: &[u8], position: usize, heap: &[u8], from: usize) -> u8
 }
 
 // SSNS extended info, which names one object and asks for nothing else.
-pub fn extended_fault(x: &[u8], position: usize, from: usize, n: usize) -> u8
-    requires { ⌜ from + n < 8589934592 ⌝ }
-    ensures { λ r. ⌜ r ≡ partRule (region from n) (spot position) (extended .shape) (extended .refs) [] (now (x .entry)) ⌝ }
+pub fn extended_fault(x: &[u8], position: usize, heap: &[u8], from: usize) -> u8
+    requires { ⌜ from + length (now heap) < 8589934592 ⌝ }
+    ensures { λ r. ⌜ r ≡ flatPart (now (heap .entry)) from position (extended .shape) (extended .refs) [] (now (x .entry)) ⌝ }
 {
     if x.len() < Extended::SIZE {
         return 12;
@@ -248,5 +265,5 @@ pub fn extended_fault(x: &[u8], position: usize, from: usize, n: usize) -> u8
     if fault != 0 {
         return fault;
     }
-    own_fault(x, Extended::ID, from, n)
+    own_fault(x, Extended::ID, heap, from)
 }

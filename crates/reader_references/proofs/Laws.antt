@@ -1,7 +1,7 @@
 -- References by their halves, and the rule that their numbers are. Assumes nothing.
-use mathlib.Core.Path.{_≡_, refl}
+use mathlib.Core.Path.{_≡_, refl, sym, ap, ap₂, _∙_}
 use mathlib.Core.Bool.{Bool, true, false, not, _&&_}
-use mathlib.Core.List.{List, []}
+use mathlib.Core.List.{List, [], _∷_}
 use Prim.Native.Nat.{ℕ, _+_, _-_, _≤_, _<_}
 use native.Mathlib.Omega.{arith}
 use lib.ListN.{length, length-take, length-drop}
@@ -12,10 +12,13 @@ use Rattle.table.specs.declared.Region.{Region}
 use Rattle.table.specs.declared.Need.{Need}
 use Rattle.table.specs.declared.Need.the-variants.{Ignored, Optional, Required}
 use Rattle.table.specs.Bytes.{pick, part}
-use Rattle.table.specs.Layout.{region}
-use Rattle.table.specs.Rules.{reaches, refRule}
+use Rattle.table.specs.Layout.{isText, region}
+use Rattle.table.specs.Objects.{under}
+use Rattle.table.specs.Rules.{firstOf, reaches, refRule}
+use Rattle.laws.specs.RefWalk.{first-zero}
+use Rattle.reader_references.specs.declared.Ref.{Ref}
 use Rattle.reader_references.specs.declared.Ref.the-variants.{Absent, Wrong, Part}
-use Rattle.reader_references.specs.References.{refOf, refNumber, partIn}
+use Rattle.reader_references.specs.References.{refOf, refNumber, partIn, textRule, objectRule}
 
 -- a reference's number is the rule's
 pub ref-rule : (heap : Region) (n : Need) (off len : ℕ) → refNumber n (refOf heap off len) ≡ refRule heap n off len
@@ -96,6 +99,9 @@ reached from n off len e =
     let z = eqb-no {a = len} {b = 0} (v .0) in
     record { above = leb→le from off (w .0); below = leb→le (off + len) (from + n) (w .1); some = omega arith }
 
+pub part-inside : (from n off len at m : ℕ) → refOf (region from n) off len ≡ Part at m → Inside from n at m
+part-inside from n off len at m e = let f = ref-part (region from n) off len at m e in rw (f .1, f .2) (reached from n off len (f .0))
+
 -- the bytes that it names, in a heap that is lent as a part
 pub part-yes : (heap : List ℕ) (from off len : ℕ) → reaches (region from (length heap)) off len ≡ true → part heap (off - from) len ≡ partIn heap from off len
 unfolding partIn
@@ -121,3 +127,61 @@ part-some heap from off len z = go (reaches (region from (length heap)) off len)
     go : (c : Bool) → (length (pick c (part heap (off - from) len) []) ≡ 0 → ⊥) → c ≡ true
     go true n = refl
     go false n = absurd (n refl)
+
+-- ---- an object by its reference
+
+-- of any bytes: nothing is asked behind the reference
+pub plain-object : (n : Need) (heap : List ℕ) (from : ℕ) (r : Region) → refRule (region from (length heap)) n (r .at) (r .len) ≡ objectRule n false heap from r
+unfolding objectRule
+plain-object Ignored heap from r = refl
+plain-object Optional heap from r = sym (first-zero (refRule (region from (length heap)) Optional (r .at) (r .len)))
+plain-object Required heap from r = sym (first-zero (refRule (region from (length heap)) Required (r .at) (r .len)))
+
+-- what a call of either kind answers, where need and content are known by other names
+module _ (n m : Need) (c b : Bool) (heap : List ℕ) (from : ℕ) (r : Region) (x : ℕ) (en : n ≡ m) (ec : c ≡ b) where
+  pub as-text : c ≡ true → x ≡ objectRule n true heap from r → x ≡ objectRule m b heap from r
+  as-text e q = q ∙ ap₂ (λ (k : Need) (d : Bool). objectRule k d heap from r) en (sym e ∙ ec)
+
+  pub as-bytes : c ≡ false → x ≡ refRule (region from (length heap)) n (r .at) (r .len) → x ≡ objectRule m b heap from r
+  as-bytes e q = q ∙ plain-object n heap from r ∙ ap₂ (λ (k : Need) (d : Bool). objectRule k d heap from r) en (sym e ∙ ec)
+
+text-some : (bs : List ℕ) (c : Bool) → (length bs ≡ 0 → ⊥) → isText bs ≡ c → pick c 0 18 ≡ textRule bs
+text-some [] c n e = absurd (n refl)
+text-some (b ∷ bs) c n e = ap (λ (d : Bool). pick {X = ℕ} d 0 18) (sym e)
+
+-- a text that is not there has the number of its reference
+module _ (n : Need) (heap : List ℕ) (from : ℕ) (r : Region) where
+  abbrev here : Region
+  here = region from (length heap)
+
+  text-by : (x : ℕ) → refRule here n (r .at) (r .len) ≡ x → (b : List ℕ) → partIn heap from (r .at) (r .len) ≡ b → objectRule n true heap from r ≡ firstOf x (under n 0 (textRule b))
+  unfolding objectRule
+  text-by x e b f = ap₂ (λ (y : ℕ) (c : List ℕ). firstOf y (under n 0 (textRule c))) e f
+
+  pub text-nowhere : (x : Ref) → x ≡ refOf here (r .at) (r .len) → reaches here (r .at) (r .len) ≡ false → refNumber n x ≡ objectRule n true heap from r
+  text-nowhere x e f =
+      sym (text-by (refNumber n x) (sym (ref-rule here n (r .at) (r .len)) ∙ ap (refNumber n) (sym e)) [] (sym (part-no heap from (r .at) (r .len) f)) ∙ go n)
+    where
+      go : (m : Need) → firstOf (refNumber n x) (under m 0 (textRule [])) ≡ refNumber n x
+      go Ignored = first-zero (refNumber n x)
+      go Optional = first-zero (refNumber n x)
+      go Required = first-zero (refNumber n x)
+
+  -- one that is there has its own: the bytes b are those that it names
+  pub text-there : (at len : ℕ) → refOf here (r .at) (r .len) ≡ Part at len → _≡_ {A = ℕ} (under n 0 1) 1 → pick (isText (part heap (at - from) len)) 0 18 ≡ objectRule n true heap from r
+  unfolding refNumber
+  text-there at len e k =
+      let f = ref-part here (r .at) (r .len) at len e in
+      let b : List ℕ = part heap (r .at - from) (r .len) in
+      let some : length b ≡ 0 → ⊥ = λ z. absurd (omega (arith, reached from (length heap) (r .at) (r .len) (f .0), long (reached from (length heap) (r .at) (r .len) (f .0)), z)) in
+      ap₂ (λ (i j : ℕ). pick {X = ℕ} (isText (part heap (i - from) j)) 0 18) (f .1) (f .2)
+      ∙ text-some b (isText b) some refl
+      ∙ sym (text-by (refNumber n (Part at len)) (sym (ref-rule here n (r .at) (r .len)) ∙ ap (refNumber n) e) b (sym (part-yes heap from (r .at) (r .len) (f .0))) ∙ go n k)
+    where
+      long : Inside from (length heap) (r .at) (r .len) → length (part heap (r .at - from) (r .len)) ≡ r .len
+      long i = simp (length-take, length-drop) (omega (arith, i))
+
+      go : (m : Need) → _≡_ {A = ℕ} (under m 0 1) 1 → firstOf (refNumber m (Part at len)) (under m 0 (textRule (part heap (r .at - from) (r .len)))) ≡ textRule (part heap (r .at - from) (r .len))
+      go Ignored q = absurd (omega (arith, q))
+      go Optional q = refl
+      go Required q = refl

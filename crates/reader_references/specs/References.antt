@@ -1,6 +1,6 @@
 -- What a reference is, for each case its number: the definitions of the answer `Ref`. Definitions only.
-use mathlib.Core.Bool.{_&&_}
-use mathlib.Core.List.{List, []}
+use mathlib.Core.Bool.{Bool, _&&_}
+use mathlib.Core.List.{List, [], _∷_}
 use Prim.Native.Nat.{ℕ, _-_}
 use lib.ListN.{length}
 use lib.Dec.{eqb}
@@ -8,8 +8,9 @@ use Rattle.table.specs.declared.Region.{Region}
 use Rattle.table.specs.declared.Need.{Need}
 use Rattle.table.specs.declared.Need.the-variants.{Ignored, Optional, Required}
 use Rattle.table.specs.Bytes.{pick, part}
-use Rattle.table.specs.Layout.{region}
-use Rattle.table.specs.Rules.{reaches}
+use Rattle.table.specs.Layout.{isText, region}
+use Rattle.table.specs.Objects.{under}
+use Rattle.table.specs.Rules.{firstOf, reaches, refRule}
 use Rattle.reader_references.specs.declared.Ref.{Ref}
 use Rattle.reader_references.specs.declared.Ref.the-variants.{Absent, Wrong, Part}
 
@@ -30,3 +31,13 @@ refNumber Required (Part at len) = 0
 -- the bytes that it names, in a heap that is lent as the part from `from` on; none where it is absent or wrong
 unfoldable pub partIn : List ℕ → ℕ → ℕ → ℕ → List ℕ
 partIn heap from off len = pick (reaches (region from (length heap)) off len) (part heap (off - from) len) []
+
+-- what is asked of text that is present: 0 or 18
+abbrev pub textRule : List ℕ → ℕ
+textRule [] = 0
+textRule (b ∷ bs) = pick (isText (b ∷ bs)) 0 18
+
+-- the reference with the halves r to an object, which is text or any bytes, under a need: 0, 11 or 18
+unfoldable pub objectRule : Need → Bool → (heap : List ℕ) (from : ℕ) → Region → ℕ
+objectRule need isText heap from r =
+    firstOf (refRule (region from (length heap)) need (r .at) (r .len)) (under need 0 (pick isText (textRule (partIn heap from (r .at) (r .len))) 0))

@@ -1,11 +1,14 @@
 // A reference: offset and length of an object, which must lie in the heap. The heap is the bytes from `from` on, `n` of them.
+use bytes_text::is_text;
 use table::Need;
 ghost use mathlib.Core.Path.{_≡_};
+ghost use mathlib.Core.Bool.{true};
 ghost use Prim.Native.Nat.{_+_, _≤_, _<_};
 ghost use lib.ListN.{length};
-ghost use Rattle.table.specs.Layout.{region, referenceAt};
+ghost use Rattle.table.specs.Bytes.{pick, part};
+ghost use Rattle.table.specs.Layout.{isText, region, referenceAt};
 ghost use Rattle.table.specs.Rules.{refRule};
-ghost use Rattle.reader_references.specs.References.{refOf, refNumber, partIn};
+ghost use Rattle.reader_references.specs.References.{refOf, refNumber, partIn, objectRule};
 
 // What a reference names.
 pub enum Ref {
@@ -100,4 +103,52 @@ pub fn plain_fault(t: &[u8], r: usize, need: Need, from: usize, n: usize) -> u8
     ensures { λ x. ⌜ x ≡ refRule (region from n) need (referenceAt (now (t .entry)) r .at) (referenceAt (now (t .entry)) r .len) ⌝ }
 {
     ref_number(need, ref_at(t, r, from, n))
+}
+
+// 0 or 18 by the bytes of the heap from `start` on: text ends in its only zero byte.
+fn text_number(heap: &[u8], start: usize, len: usize) -> u8
+    requires { ⌜ start + len ≤ length (now heap) ⌝ }
+    ensures { λ r. ⌜ r ≡ pick (isText (part (now (heap .entry)) start len)) 0 18 ⌝ }
+{
+    let end = start + len;
+    if is_text(&heap[start..end]) {
+        return 0;
+    }
+    18
+}
+
+fn optional_text(t: &[u8], r: usize, heap: &[u8], from: usize) -> u8
+    requires { ⌜ (r + 6 ≤ length (now t)) × (from + length (now heap) < 8589934592) ⌝ }
+    ensures { λ x. ⌜ x ≡ objectRule Need.Optional true (now (heap .entry)) from (referenceAt (now (t .entry)) r) ⌝ }
+{
+    let x = ref_at(t, r, from, heap.len());
+    match x {
+        Ref::Absent => 0,
+        Ref::Wrong => 11,
+        Ref::Part { at, len } => text_number(heap, at - from, len),
+    }
+}
+
+fn required_text(t: &[u8], r: usize, heap: &[u8], from: usize) -> u8
+    requires { ⌜ (r + 6 ≤ length (now t)) × (from + length (now heap) < 8589934592) ⌝ }
+    ensures { λ x. ⌜ x ≡ objectRule Need.Required true (now (heap .entry)) from (referenceAt (now (t .entry)) r) ⌝ }
+{
+    let x = ref_at(t, r, from, heap.len());
+    match x {
+        Ref::Absent => 11,
+        Ref::Wrong => 11,
+        Ref::Part { at, len } => text_number(heap, at - from, len),
+    }
+}
+
+// The reference at `r` to a text, under a need: 11 by the reference, then 18 by the bytes.
+pub fn text_fault(t: &[u8], r: usize, need: Need, heap: &[u8], from: usize) -> u8
+    requires { ⌜ (r + 6 ≤ length (now t)) × (from + length (now heap) < 8589934592) ⌝ }
+    ensures { λ x. ⌜ x ≡ objectRule need true (now (heap .entry)) from (referenceAt (now (t .entry)) r) ⌝ }
+{
+    match need {
+        Need::Ignored => 0,
+        Need::Optional => optional_text(t, r, heap, from),
+        Need::Required => required_text(t, r, heap, from),
+    }
 }

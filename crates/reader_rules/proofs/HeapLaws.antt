@@ -1,7 +1,7 @@
 -- References by kind and offset: plain ones by their need, those to heap records by the record's own bytes, which are a part of the heap. Assumes nothing.
-use mathlib.Core.Path.{_≡_, refl, sym, ap, _∙_}
+use mathlib.Core.Path.{_≡_, refl, sym, ap, ap₂, _∙_}
 use mathlib.Core.Bool.{Bool, true, false, not, _&&_}
-use mathlib.Core.List.{List, []}
+use mathlib.Core.List.{List, [], _∷_}
 use Prim.Native.Nat.{ℕ, zero, suc, _+_, _-_, _/_, _%_, _≤_, _<_}
 use native.Mathlib.Omega.{arith}
 use lib.ListN.{length, getD, drop, length-take, length-drop}
@@ -13,17 +13,20 @@ use Rattle.table.specs.declared.Region.{Region}
 use Rattle.table.specs.declared.Need.{Need}
 use Rattle.table.specs.declared.Need.the-variants.{Ignored, Optional, Required}
 use Rattle.table.specs.Bytes.{pick, part, num}
-use Rattle.table.specs.Layout.{region, referenceAt, namedAt, image, isRight, offsets, Refs, Shape}
+use Rattle.table.specs.Layout.{region, referenceAt, namedAt, image, isRight, offsets, Content, anything, text, Env, Refs, none, plain, nest, Shape}
+use Rattle.table.specs.Objects.{under}
 use Rattle.table.specs.FixedLayouts.{layoutOf, header, control, host, hfi, ssns, security, discovery, info, extended, hfiExtended, whenIs}
-use Rattle.table.specs.Rules.{firstOf, nestRule, reaches, refRule, refsRule}
-use Rattle.table.specs.Reads.{needAt}
+use Rattle.table.specs.Rules.{firstOf, nestRule, reaches, refRule, refsRule, ruled}
+use Rattle.table.specs.Reads.{contentAt, needAt}
 use Rattle.laws.specs.Fields.{Bytes, imageIn, image-part, part-part, whole}
-use Rattle.laws.specs.RefWalk.{firstOver, ruleAt, plain-at, allPlain, ownRule, partOk, partRule, soundRule, reference-part, own-refs, plain-refs, nest-required, nest-optional}
+use Rattle.laws.specs.RefWalk.{firstOver, ruleAt, nestAt, plain-at, plainBy, allPlain, partOk, soundRule, reference-part, own-refs, plain-refs, nest-required, nest-optional}
 use Rattle.laws.specs.ListWalk.{envIn}
 pub use Rattle.reader_references.proofs.Laws.{Inside, reached}
 use Rattle.reader_rules.specs.Rules.{IsHeap, refFault}
-use Rattle.reader_references.specs.References.{partIn}
-use Rattle.reader_heap_records.specs.HeapRecords.{spot, identityBy, identityFault, infoFault, infoFaults, infoPart}
+use Rattle.reader_references.specs.References.{partIn, textRule, objectRule}
+use Rattle.layout_fields.specs.Texts.{isOfText}
+use Rattle.layout_fields.proofs.Laws.{no-text}
+use Rattle.reader_heap_records.specs.HeapRecords.{spot, objectIn, flatPart, identityBy, identityFault, infoFault, infoFaults, infoPart}
 use Rattle.layout_needs.specs.Needs.{ssnsNeed, plainNeed}
 use Rattle.layout_needs.proofs.Laws.{ssns-need, info-need}
 
@@ -44,6 +47,42 @@ module _ (t heap : List ℕ) (from : ℕ) (h : IsHeap t heap from) where
       ap (λ (x : List ℕ). part x (off - from) len) (h .isPart)
       ∙ part-part t from (length heap) (off - from) len (omega arith)
       ∙ ap (λ (m : ℕ). part t m len) a
+
+  -- what is asked of an object in the lent heap is what is asked of it in the table
+  pub object-is : (e : Env) (n : Need) (content : Content) (r : Region)
+      → objectRule n (isOfText content) heap from r ≡ plainBy (region from (length heap)) n content e r (part t (r .at) (r .len))
+  unfolding objectRule partIn
+  object-is e n anything r = ap (λ (m : ℕ). firstOf (refRule (region from (length heap)) n (r .at) (r .len)) m) (zero-under n (part t (r .at) (r .len)))
+    where
+      none-ruled : (b : List ℕ) → 0 ≡ ruled anything e b
+      none-ruled [] = refl
+      none-ruled (b ∷ bs) = refl
+
+      zero-under : (n : Need) (b : List ℕ) → under n 0 0 ≡ under n 0 (ruled anything e b)
+      zero-under Ignored b = refl
+      zero-under Optional b = none-ruled b
+      zero-under Required b = none-ruled b
+  object-is e n text r = go n (eqb (r .at) 0 && eqb (r .len) 0) (reaches (region from (length heap)) (r .at) (r .len)) refl refl
+    where
+      same-rule : (b : List ℕ) → textRule b ≡ ruled text e b
+      same-rule [] = refl
+      same-rule (b ∷ bs) = refl
+
+      there : reaches (region from (length heap)) (r .at) (r .len) ≡ true → textRule (part heap (r .at - from) (r .len)) ≡ ruled text e (part t (r .at) (r .len))
+      there z = ap textRule (object-part (r .at) (r .len) z) ∙ same-rule (part t (r .at) (r .len))
+
+      absent : (eqb (r .at) 0 && eqb (r .len) 0) ≡ true → 0 ≡ ruled text e (part t (r .at) (r .len))
+      absent z = let u = and-yes (eqb (r .at) 0) (eqb (r .len) 0) (rw z tt) in sym (ap (λ (l : ℕ). ruled text e (part t (r .at) l)) (eqb→eq (r .len) 0 (u .1)))
+
+      go : (n : Need) (c d : Bool) → (eqb (r .at) 0 && eqb (r .len) 0) ≡ c → reaches (region from (length heap)) (r .at) (r .len) ≡ d
+          → firstOf (refRule (region from (length heap)) n (r .at) (r .len)) (under n 0 (textRule (pick d (part heap (r .at - from) (r .len)) [])))
+          ≡ firstOf (refRule (region from (length heap)) n (r .at) (r .len)) (under n 0 (ruled text e (part t (r .at) (r .len))))
+      go Ignored c d x y = refl
+      go Optional c true x y = ap (λ (m : ℕ). firstOf (refRule (region from (length heap)) Optional (r .at) (r .len)) m) (there y)
+      go Optional true false x y = ap (λ (m : ℕ). firstOf (refRule (region from (length heap)) Optional (r .at) (r .len)) m) (absent x)
+      go Optional false false x y = rw (x, y) refl
+      go Required c true x y = ap (λ (m : ℕ). firstOf (refRule (region from (length heap)) Required (r .at) (r .len)) m) (there y)
+      go Required c false x y = rw y refl
 
 -- where counts do not matter
 spot-sound : (t : List ℕ) (pos : ℕ) (shape : Shape) (owner x : List ℕ) (inner : ℕ) → soundRule (envIn t pos) shape owner x inner ≡ soundRule (spot pos) shape owner x inner
@@ -117,6 +156,10 @@ module _ (t heap : List ℕ) (from pos : ℕ) (h : IsHeap t heap from) (shape : 
   pub nested-none : reaches inHeap off len ≡ false → 11 ≡ nested Required
   nested-none e = rw e
 
+over-each : {f g : ℕ → ℕ} → ((q : ℕ) → f q ≡ g q) → (qs : List ℕ) → firstOver f qs ≡ firstOver g qs
+over-each s [] = refl
+over-each s (q ∷ qs) = ap₂ firstOf (s q) (over-each s qs)
+
 -- the bytes that the reference at r names
 abbrev bytesOf : List ℕ → List ℕ → ℕ → ℕ → List ℕ
 bytesOf t heap from r = partIn heap from (referenceAt t r .at) (referenceAt t r .len)
@@ -130,19 +173,24 @@ module _ (t heap : List ℕ) (from pos : ℕ) (h : IsHeap t heap from) (shape : 
   size = referenceAt t r .len
 
   abbrev own : List ℕ → ℕ
-  own x = firstOver (ownRule (region from (length heap)) rs (image (shape .keep) x) x) (offsets rs)
+  own x = firstOver (objectIn heap from rs (image (shape .keep) x) x) (offsets rs)
 
   pub plain-inner : reaches (region from (length heap)) at size ≡ true → length (shape .keep) ≤ size
       → own (part heap (at - from) size) ≡ refsRule (region from (length heap)) (envIn t pos) t at (image (shape .keep) (drop at t)) rs
-  plain-inner e l = ap own (object-part t heap from h at size e) ∙ plain-refs (region from (length heap)) (envIn t pos) shape rs t k o at size l
+  plain-inner e l =
+      let x = part t at size in
+      let img = image (shape .keep) x in
+      ap own (object-part t heap from h at size e)
+      ∙ over-each (λ q. object-is t heap from h (envIn t pos) (needAt q rs img) (contentAt q rs) (referenceAt x q)) (offsets rs)
+      ∙ plain-refs (region from (length heap)) (envIn t pos) shape rs t k o at size l
 
 identity-optional : (t heap : List ℕ) (from pos : ℕ) (h : IsHeap t heap from) (owner : List ℕ) (r : ℕ)
     → let y = bytesOf t heap from r in
     firstOf (refRule (region from (length heap)) Optional (referenceAt t r .at) (referenceAt t r .len))
-    (pick (eqb (length y) 0) 0 (partRule (region from (length heap)) (spot pos) (hfiExtended .shape) (hfiExtended .refs) owner y))
+    (pick (eqb (length y) 0) 0 (flatPart heap from pos (hfiExtended .shape) (hfiExtended .refs) owner y))
     ≡ nestRule (region from (length heap)) Optional (hfiExtended .shape) (envIn t pos) owner t r
     (refsRule (region from (length heap)) (envIn t pos) t (referenceAt t r .at) (image (hfiExtended .shape .keep) (drop (referenceAt t r .at) t)) (hfiExtended .refs))
-unfolding partRule partIn hfiExtended
+unfolding flatPart partIn hfiExtended
 identity-optional t heap from pos h owner r =
     nested-optional t heap from pos h (hfiExtended .shape) (hfiExtended .refs) tt owner r _
     (λ e l. rw e (plain-inner t heap from pos h (hfiExtended .shape) (hfiExtended .refs) tt tt r e l))
@@ -155,12 +203,13 @@ at-identity : (heap : Region) (t : List ℕ) (a pos : ℕ) (img : List ℕ) (q :
 unfolding ruleAt info
 at-identity heap t a pos img q e = rw (eqb-true q 110 e) refl
 
-at-object : (heap : Region) (t : List ℕ) (a pos : ℕ) (img : List ℕ) (q : ℕ) → eqb q 110 ≡ false
-    → refRule heap (plainNeed 7 q) (referenceAt t (a + q) .at) (referenceAt t (a + q) .len) ≡ ruleAt heap (envIn t pos) t a img (info .refs) q
+at-object : (t heap : List ℕ) (from : ℕ) (h : IsHeap t heap from) (a pos : ℕ) (img : List ℕ) (q : ℕ) → eqb q 110 ≡ false
+    → objectRule (plainNeed 7 q) (isOfText (contentAt q (info .refs))) heap from (referenceAt t (a + q)) ≡ ruleAt (region from (length heap)) (envIn t pos) t a img (info .refs) q
 unfolding info
-at-object heap t a pos img q e =
-    ap (λ (n : Need). refRule heap n (referenceAt t (a + q) .at) (referenceAt t (a + q) .len)) (info-need img q e)
-    ∙ sym (plain-at heap (envIn t pos) t a img (info .refs) q (rw e tt))
+at-object t heap from h a pos img q e =
+    ap (λ (n : Need). objectRule n (isOfText (contentAt q (info .refs))) heap from (referenceAt t (a + q))) (info-need img q e)
+    ∙ object-is t heap from h (envIn t pos) (needAt q (info .refs) img) (contentAt q (info .refs)) (referenceAt t (a + q))
+    ∙ sym (plain-at (region from (length heap)) (envIn t pos) t a img (info .refs) q (rw e tt))
 
 -- ---- an info's references, by its own bytes
 
@@ -191,7 +240,7 @@ module _ (t heap : List ℕ) (from pos : ℕ) (h : IsHeap t heap from) (b : Byte
       go : (c : Bool)
           → pick c (firstOf (refRule (region from (length heap)) Optional (referenceAt t (a + 110) .at) (referenceAt t (a + 110) .len))
           (pick (eqb (length (bytesOf t heap from (a + 110))) 0) 0
-          (partRule (region from (length heap)) (spot pos) (hfiExtended .shape) (hfiExtended .refs) img (bytesOf t heap from (a + 110))))) 0
+          (flatPart heap from pos (hfiExtended .shape) (hfiExtended .refs) img (bytesOf t heap from (a + 110))))) 0
           ≡ nestRule (region from (length heap)) (pick c Optional Ignored) (hfiExtended .shape) (envIn t pos) img t (a + 110) inner
       go true = identity-optional t heap from pos h img (a + 110)
       go false = refl
@@ -202,12 +251,12 @@ module _ (t heap : List ℕ) (from pos : ℕ) (h : IsHeap t heap from) (b : Byte
   one q k = go (eqb q 110) refl
     where
       go : (c : Bool) → eqb q 110 ≡ c
-          → pick c (identityFault heap from pos x) (refRule (region from (length heap)) (plainNeed 7 q) (referenceAt x q .at) (referenceAt x q .len))
+          → pick c (identityFault heap from pos x) (objectRule (plainNeed 7 q) (isOfText (contentAt q (info .refs))) heap from (referenceAt x q))
           ≡ ruleAt (region from (length heap)) (envIn t pos) t a img (info .refs) q
       go true e = identity-nested ∙ at-identity (region from (length heap)) t a pos img q e
       go false e =
-          (λ i. refRule (region from (length heap)) (plainNeed 7 q) (reference-part t a len q (omega arith) i .at) (reference-part t a len q (omega arith) i .len))
-          ∙ at-object (region from (length heap)) t a pos img q e
+          (λ i. objectRule (plainNeed 7 q) (isOfText (contentAt q (info .refs))) heap from (reference-part t a len q (omega arith) i))
+          ∙ at-object t heap from h a pos img q e
 
   pub info-refs : infoFaults heap from pos x ≡ refsRule (region from (length heap)) (envIn t pos) t a img (info .refs)
   unfolding infoFaults info
@@ -244,9 +293,9 @@ module _ (t heap : List ℕ) (from a pos : ℕ) (h : IsHeap t heap from) where
   extended-no f e = rw f (nested-none t heap from pos h (extended .shape) (extended .refs) tt (imageIn ssns t a) (a + 60) 0 e)
 
   pub extended-yes : eqb (flags / 16 % 2) 0 ≡ false → reaches (region from (length heap)) (referenceAt t (a + 60) .at) (referenceAt t (a + 60) .len) ≡ true
-      → partRule (region from (length heap)) (spot pos) (extended .shape) (extended .refs) [] (part heap (referenceAt t (a + 60) .at - from) (referenceAt t (a + 60) .len))
+      → flatPart heap from pos (extended .shape) (extended .refs) [] (part heap (referenceAt t (a + 60) .at - from) (referenceAt t (a + 60) .len))
       ≡ refFault 4 (region from (length heap)) t a pos 60
-  unfolding refFault layoutOf ruleAt ssns extended partRule soundRule
+  unfolding refFault layoutOf ruleAt ssns extended flatPart soundRule
   extended-yes f e =
       rw f
       (nested-yes t heap from pos h (extended .shape) (extended .refs) tt (imageIn ssns t a) (a + 60) _
@@ -258,42 +307,68 @@ pub hfi-other : (heap : Region) (t : List ℕ) (a pos q : ℕ) → eqb q 16 ≡ 
 unfolding refFault layoutOf ruleAt hfi
 hfi-other heap t a pos q e = rw e
 
-pub ssns-plain : (heap : Region) (t : List ℕ) (a pos q : ℕ) → eqb q 60 ≡ false
-    → refRule heap (ssnsNeed (num (imageIn ssns t a) 3 2) q) (referenceAt t (a + q) .at) (referenceAt t (a + q) .len) ≡ refFault 4 heap t a pos q
-unfolding refFault layoutOf ssns
-ssns-plain heap t a pos q e =
-    ap (λ (n : Need). refRule heap n (referenceAt t (a + q) .at) (referenceAt t (a + q) .len)) (ssns-need (imageIn ssns t a) q)
-    ∙ sym (plain-at heap (envIn t pos) t a (imageIn ssns t a) (ssns .refs) q (rw e tt))
+-- one to an object, by its need and by what its object holds
+module _ (t heap : List ℕ) (from a pos : ℕ) (h : IsHeap t heap from) (q : ℕ) where
+  abbrev asked : Need → Bool → ℕ
+  asked n isText = objectRule n isText heap from (referenceAt t (a + q))
 
-pub security-plain : (heap : Region) (t : List ℕ) (a pos q : ℕ) → refRule heap (needAt q (security .refs) (imageIn security t a)) (referenceAt t (a + q) .at)
-    (referenceAt t (a + q) .len) ≡ refFault 5 heap t a pos q
-unfolding refFault layoutOf security
-security-plain heap t a pos q = sym (plain-at heap (envIn t pos) t a (imageIn security t a) (security .refs) q tt)
+  module _ (k : ℕ) where
+    abbrev refs : Refs
+    refs = layoutOf k .refs
 
-header-plain : (heap : Region) (t : List ℕ) (a pos q : ℕ) → refRule heap (plainNeed 0 q) (referenceAt t (a + q) .at) (referenceAt t (a + q) .len) ≡ refFault 0 heap t a pos q
-unfolding refFault layoutOf plainNeed header
-header-plain heap t a pos q = sym (plain-at heap (envIn t pos) t a (imageIn header t a) (header .refs) q tt)
+    plain-is : T (not (nestAt q refs)) → asked (needAt q refs (imageIn (layoutOf k) t a)) (isOfText (contentAt q refs)) ≡ refFault k (region from (length heap)) t a pos q
+    unfolding refFault
+    plain-is n =
+        object-is t heap from h (envIn t pos) (needAt q refs (imageIn (layoutOf k) t a)) (contentAt q refs) (referenceAt t (a + q))
+        ∙ sym (plain-at (region from (length heap)) (envIn t pos) t a (imageIn (layoutOf k) t a) refs q n)
 
-control-plain : (heap : Region) (t : List ℕ) (a pos q : ℕ) → refRule heap (plainNeed 1 q) (referenceAt t (a + q) .at) (referenceAt t (a + q) .len) ≡ refFault 1 heap t a pos q
-unfolding refFault layoutOf plainNeed control ruleAt
-control-plain heap t a pos q = refl
+    -- where the need is known by another name
+    plain-by : (n : Need) → n ≡ needAt q refs (imageIn (layoutOf k) t a) → T (not (nestAt q refs)) → asked n (isOfText (contentAt q refs)) ≡ refFault k (region from (length heap)) t a pos q
+    plain-by n e m = ap (λ (x : Need). asked x (isOfText (contentAt q refs))) e ∙ plain-is m
 
-host-plain : (heap : Region) (t : List ℕ) (a pos q : ℕ) → refRule heap (plainNeed 2 q) (referenceAt t (a + q) .at) (referenceAt t (a + q) .len) ≡ refFault 2 heap t a pos q
-unfolding refFault layoutOf plainNeed host
-host-plain heap t a pos q = sym (plain-at heap (envIn t pos) t a (imageIn host t a) (host .refs) q tt)
+  pub ssns-plain : eqb q 60 ≡ false → asked (ssnsNeed (num (imageIn ssns t a) 3 2) q) (isOfText (contentAt q (layoutOf 4 .refs))) ≡ refFault 4 (region from (length heap)) t a pos q
+  unfolding layoutOf ssns
+  ssns-plain e = plain-by 4 (ssnsNeed (num (imageIn ssns t a) 3 2) q) (ssns-need (imageIn ssns t a) q) (rw e tt)
 
-discovery-plain : (heap : Region) (t : List ℕ) (a pos q : ℕ) → refRule heap (plainNeed 6 q) (referenceAt t (a + q) .at) (referenceAt t (a + q) .len) ≡ refFault 6 heap t a pos q
-unfolding refFault layoutOf plainNeed discovery
-discovery-plain heap t a pos q = sym (plain-at heap (envIn t pos) t a (imageIn discovery t a) (discovery .refs) q tt)
+  pub security-plain : asked (needAt q (security .refs) (imageIn security t a)) false ≡ refFault 5 (region from (length heap)) t a pos q
+  unfolding layoutOf security
+  security-plain = ap (asked (needAt q (security .refs) (imageIn security t a))) (no-text (security .refs) tt q) ∙ plain-is 5 tt
 
--- the kinds that are left
-pub plain-left : (heap : Region) (t : List ℕ) (a pos q k : ℕ) → k ≤ 6 → (k ≡ 3 → ⊥) → (k ≡ 4 → ⊥) → (k ≡ 5 → ⊥)
-    → refRule heap (plainNeed k q) (referenceAt t (a + q) .at) (referenceAt t (a + q) .len) ≡ refFault k heap t a pos q
-plain-left heap t a pos q zero l x y z = header-plain heap t a pos q
-plain-left heap t a pos q (suc zero) l x y z = control-plain heap t a pos q
-plain-left heap t a pos q (suc (suc zero)) l x y z = host-plain heap t a pos q
-plain-left heap t a pos q (suc (suc (suc zero))) l x y z = absurd (x refl)
-plain-left heap t a pos q (suc (suc (suc (suc zero)))) l x y z = absurd (y refl)
-plain-left heap t a pos q (suc (suc (suc (suc (suc zero))))) l x y z = absurd (z refl)
-plain-left heap t a pos q (suc (suc (suc (suc (suc (suc zero)))))) l x y z = discovery-plain heap t a pos q
-plain-left heap t a pos q (suc (suc (suc (suc (suc (suc (suc k))))))) l x y z = absurd (omega arith)
+  -- kinds all of whose objects are text: what is not theirs is ignored
+  abbrev allText : Refs → Bool
+  allText none = true
+  allText (plain p need anything rest) = false
+  allText (plain p need text rest) = allText rest
+  allText (nest p need shape own rest) = false
+
+  all-text : (rs : Refs) → T (allText rs) → (img : List ℕ) → asked (needAt q rs img) true ≡ asked (needAt q rs img) (isOfText (contentAt q rs))
+  unfolding objectRule
+  all-text none c img = refl
+  all-text (plain p need anything rest) c img = absurd c
+  all-text (plain p need text rest) c img = go (eqb q p) (all-text rest c img) where
+    go : (b : Bool) → asked (needAt q rest img) true ≡ asked (needAt q rest img) (isOfText (contentAt q rest))
+        → asked (pick b (need img) (needAt q rest img)) true ≡ asked (pick b (need img) (needAt q rest img)) (isOfText (pick b text (contentAt q rest)))
+    go true e = refl
+    go false e = e
+  all-text (nest p need shape own rest) c img = absurd c
+
+  pub host-texts : asked (plainNeed 2 q) true ≡ refFault 2 (region from (length heap)) t a pos q
+  unfolding layoutOf plainNeed host
+  host-texts = all-text (host .refs) tt (imageIn host t a) ∙ plain-by 2 (plainNeed 2 q) refl tt
+
+  pub discovery-texts : asked (plainNeed 6 q) true ≡ refFault 6 (region from (length heap)) t a pos q
+  unfolding layoutOf plainNeed discovery
+  discovery-texts = all-text (discovery .refs) tt (imageIn discovery t a) ∙ plain-by 6 (plainNeed 6 q) refl tt
+
+  -- the kinds that are left name no text
+  pub plain-left : (k : ℕ) → k ≤ 6 → (k ≡ 2 → ⊥) → (k ≡ 3 → ⊥) → (k ≡ 4 → ⊥) → (k ≡ 5 → ⊥) → (k ≡ 6 → ⊥)
+      → asked (plainNeed k q) false ≡ refFault k (region from (length heap)) t a pos q
+  unfolding layoutOf plainNeed header control
+  plain-left zero l u x y z w = ap (asked (plainNeed 0 q)) (no-text (header .refs) tt q) ∙ plain-by 0 (plainNeed 0 q) refl tt
+  plain-left (suc zero) l u x y z w = ap (asked (plainNeed 1 q)) (no-text (control .refs) tt q) ∙ plain-by 1 (plainNeed 1 q) refl tt
+  plain-left (suc (suc zero)) l u x y z w = absurd (u refl)
+  plain-left (suc (suc (suc zero))) l u x y z w = absurd (x refl)
+  plain-left (suc (suc (suc (suc zero)))) l u x y z w = absurd (y refl)
+  plain-left (suc (suc (suc (suc (suc zero))))) l u x y z w = absurd (z refl)
+  plain-left (suc (suc (suc (suc (suc (suc zero)))))) l u x y z w = absurd (w refl)
+  plain-left (suc (suc (suc (suc (suc (suc (suc k))))))) l u x y z w = absurd (omega arith)

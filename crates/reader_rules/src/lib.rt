@@ -2,13 +2,17 @@
 // as a part of the table, a heap record as a part of the heap.
 pub mod own_fields; // a record's own fields, by kind
 
+use layout_fields::texts::holds_text;
 use layout_flags::ssns_flags;
 use layout_needs::plain_need;
 use layout_needs::security_need;
 use layout_needs::ssns_need;
 use reader_references::part_at;
 use reader_references::plain_fault;
+use reader_references::text_fault;
+use table::Discovery;
 use table::Hfi;
+use table::Host;
 use table::Security;
 use table::Ssns;
 ghost use mathlib.Core.Path.{_≡_};
@@ -41,7 +45,7 @@ fn extended_ref(t: &[u8], a: usize, position: usize, heap: &[u8], from: usize) -
     if x.len() == 0 {
         return 11;
     }
-    reader_heap_records::extended_fault(x, position, from, heap.len())
+    reader_heap_records::extended_fault(x, position, heap, from)
 }
 
 fn hfi_ref(t: &[u8], a: usize, position: usize, off: usize, heap: &[u8], from: usize) -> u8
@@ -61,16 +65,14 @@ fn ssns_ref(t: &[u8], a: usize, position: usize, off: usize, heap: &[u8], from: 
     if off == 60 {
         return extended_ref(t, a, position, heap, from);
     }
-    plain_fault(
-        t,
-        a + off,
-        ssns_need(ssns_flags(t, a), off),
-        from,
-        heap.len(),
-    )
+    let need = ssns_need(ssns_flags(t, a), off);
+    if holds_text(Ssns::ID, off) {
+        return text_fault(t, a + off, need, heap, from);
+    }
+    plain_fault(t, a + off, need, from, heap.len())
 }
 
-// The reference at a field offset of the record at `a`, with its heap record and that one's own reference: 0, 11 or 12.
+// The reference at a field offset of the record at `a`, with its heap record and that one's own reference: 0, 11, 12 or 18.
 pub fn ref_fault(
     t: &[u8],
     kind: u8,
@@ -87,6 +89,9 @@ pub fn ref_fault(
         Hfi::ID => hfi_ref(t, a, position, off, heap, from),
         Ssns::ID => ssns_ref(t, a, position, off, heap, from),
         Security::ID => plain_fault(t, a + off, security_need(t, a, off), from, heap.len()),
+        // All that a host or a discovery controller names is text.
+        Host::ID => text_fault(t, a + off, plain_need(Host::ID, off), heap, from),
+        Discovery::ID => text_fault(t, a + off, plain_need(Discovery::ID, off), heap, from),
         _ => plain_fault(t, a + off, plain_need(kind, off), from, heap.len()),
     }
 }

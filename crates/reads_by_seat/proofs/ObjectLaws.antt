@@ -13,13 +13,13 @@ use Rattle.table.specs.declared.Need.{Need}
 use Rattle.table.specs.declared.Need.the-variants.{Ignored, Optional, Required}
 use Rattle.table.specs.Bytes.{pick, part}
 use Rattle.table.specs.Layout.{Layout, Refs, none, plain, nest, baseOf, image, referenceAt}
-use Rattle.table.specs.FixedLayouts.{layoutOf, header, control, host, hfi, ssns, security, discovery, info, extended, noKind}
+use Rattle.table.specs.FixedLayouts.{layoutOf, header, control, host, hfi, ssns, discovery, info, extended, noKind}
 use Rattle.table.specs.Objects.{under}
 use Rattle.table.specs.Rules.{done}
-use Rattle.table.specs.Reads.{seat, hasPlain, needAt, noPlace, refPlace, placeAt}
+use Rattle.table.specs.Reads.{seat, hasPlain, needAt, noPlace, refPlace, wholeAt}
 use Rattle.laws.specs.Fields.{imageIn}
 use Rattle.layout_images.proofs.Laws.{by-kind, other-layout}
-use Rattle.reads_seats.proofs.OwnLaws.{placeAt-own}
+use Rattle.reads_seats.proofs.OwnLaws.{wholeAt-own}
 
 -- ---- the length of an object, and where it stands, by its reference in the record's own bytes
 
@@ -28,7 +28,7 @@ module _ (x : List ℕ) (l : Layout) (p : ℕ) (h : hasPlain p (l .refs) ≡ tru
   need = needAt p (l .refs) (image (l .shape .keep) x)
 
   abbrev here : Place
-  here = placeAt x p (seat l 0 true)
+  here = wholeAt x p (seat l 0 true)
 
   abbrev named : Bool → Place
   named c = pick c (noPlace done) (record { answer = done; present = true; at = referenceAt x p .at; len = referenceAt x p .len })
@@ -56,10 +56,10 @@ module _ (x : List ℕ) (l : Layout) (p : ℕ) (h : hasPlain p (l .refs) ≡ tru
     go Required z = there (eqb (referenceAt x p .len) 0) z
 
 -- where an object of the used record of kind k at a starts
-pub own-start : (t : List ℕ) (k a p : ℕ) → hasPlain p (layoutOf k .refs) ≡ true → (placeAt t p (seat (layoutOf k) a true) .len ≡ 0 → ⊥)
-    → referenceAt (part t a (baseOf (layoutOf k))) p .at ≡ placeAt t p (seat (layoutOf k) a true) .at
+pub own-start : (t : List ℕ) (k a p : ℕ) → hasPlain p (layoutOf k .refs) ≡ true → (wholeAt t p (seat (layoutOf k) a true) .len ≡ 0 → ⊥)
+    → referenceAt (part t a (baseOf (layoutOf k))) p .at ≡ wholeAt t p (seat (layoutOf k) a true) .at
 own-start t k a p h z =
-    let e = placeAt-own k t a p true in
+    let e = wholeAt-own k t a p true in
     sym (place-start (part t a (baseOf (layoutOf k))) (layoutOf k) p h (λ y. z (sym (ap (λ (q : Place). q .len) e) ∙ y))) ∙ ap (λ (q : Place). q .at) e
 
 -- references to objects that are never ignored
@@ -106,7 +106,7 @@ never-ignored k q img n m h = go (needAt q (layoutOf k .refs) img) (heeded-count
 
 -- c says whether the reference at p counts
 pub counted-len : (x : List ℕ) (k p : ℕ) → hasPlain p (layoutOf k .refs) ≡ true → (c : Bool) → c ≡ under (needAt p (layoutOf k .refs) (imageIn (layoutOf k) x 0)) false true
-    → placeAt x p (seat (layoutOf k) 0 true) .len ≡ pick c (referenceAt x p .len) 0
+    → wholeAt x p (seat (layoutOf k) 0 true) .len ≡ pick c (referenceAt x p .len) 0
 unfolding imageIn
 counted-len x k p h c f =
     place-len x (layoutOf k) p h

@@ -4,7 +4,7 @@ use mathlib.Core.List.{List}
 use Prim.Native.Nat.{ℕ}
 use Rattle.table.specs.Bytes.{part}
 use Rattle.table.specs.FixedLayouts.{layoutOf}
-use Rattle.table.specs.Reads.{seat, placeAt}
+use Rattle.table.specs.Reads.{seat, wholeAt}
 
 abbrev pub driverOf : List ℕ → List ℕ
-driverOf t = part t (placeAt t 44 (seat (layoutOf 0) 0 true) .at) (placeAt t 44 (seat (layoutOf 0) 0 true) .len)
+driverOf t = part t (wholeAt t 44 (seat (layoutOf 0) 0 true) .at) (wholeAt t 44 (seat (layoutOf 0) 0 true) .len)

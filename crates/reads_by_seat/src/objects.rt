@@ -13,7 +13,7 @@ ghost use Rattle.table.specs.Bytes.{part};
 ghost use Rattle.table.specs.Layout.{baseOf};
 ghost use Rattle.table.specs.FixedLayouts.{layoutOf};
 ghost use Rattle.table.specs.Objects.{under};
-ghost use Rattle.table.specs.Reads.{seat, placeAt, hasPlain, needAt};
+ghost use Rattle.table.specs.Reads.{seat, wholeAt, hasPlain, needAt};
 ghost use Rattle.laws.specs.Fields.{imageIn};
 ghost use Rattle.reader.specs.Accepted.{Accepted};
 ghost use Rattle.reads_seats.specs.Seats.{Seated};
@@ -43,7 +43,7 @@ fn counts(bytes: &[u8], kind: u8, offset: usize) -> bool
 // The length of the object that a reference of the record with these bytes names.
 fn named_len(bytes: &[u8], kind: u8, offset: usize) -> usize
     requires { ⌜ (baseOf (layoutOf kind) ≤ length (now bytes)) × (hasPlain offset (layoutOf kind .refs) ≡ true) ⌝ }
-    ensures { λ r. ⌜ (r ≡ placeAt (now (bytes .entry)) offset (seat (layoutOf kind) 0 true) .len) × (r ≤ 65535) ⌝ }
+    ensures { λ r. ⌜ (r ≡ wholeAt (now (bytes .entry)) offset (seat (layoutOf kind) 0 true) .len) × (r ≤ 65535) ⌝ }
 {
     if counts(bytes, kind, offset) {
         return bytes_wire::reference_at(bytes, offset).len;
@@ -54,7 +54,7 @@ fn named_len(bytes: &[u8], kind: u8, offset: usize) -> usize
 // The same of the record at a place. All that is known of it here is that it lies in the table.
 pub fn object_len(t: &[u8], kind: u8, at: usize, offset: usize) -> usize
     requires { ⌜ (at + baseOf (layoutOf kind) ≤ length (now t)) × (hasPlain offset (layoutOf kind .refs) ≡ true) ⌝ }
-    ensures { λ r. ⌜ (r ≡ placeAt (now (t .entry)) offset (seat (layoutOf kind) at true) .len) × (r ≤ 65535) ⌝ }
+    ensures { λ r. ⌜ (r ≡ wholeAt (now (t .entry)) offset (seat (layoutOf kind) at true) .len) × (r ≤ 65535) ⌝ }
 {
     named_len(part_of(t, at, layout_kinds::base_size(kind)), kind, offset)
 }
@@ -62,8 +62,8 @@ pub fn object_len(t: &[u8], kind: u8, at: usize, offset: usize) -> usize
 // An object of `len` bytes, which is its length and not 0: the caller's own bytes, exactly that part of the heap.
 pub fn object_bytes(t: &[u8], kind: u8, at: usize, offset: usize, len: usize) -> &[u8]
     requires { ⌜ Accepted (now t) × Seated (now t) (layoutOf kind) at true × (hasPlain offset (layoutOf kind .refs) ≡ true) ⌝ }
-    requires { ⌜ (len ≡ placeAt (now t) offset (seat (layoutOf kind) at true) .len) × (0 < len) ⌝ }
-    ensures { λ r. ⌜ now r ≡ part (now (t .entry)) (placeAt (now (t .entry)) offset (seat (layoutOf kind) at true) .at) (placeAt (now (t .entry)) offset (seat (layoutOf kind) at true) .len) ⌝ }
+    requires { ⌜ (len ≡ wholeAt (now t) offset (seat (layoutOf kind) at true) .len) × (0 < len) ⌝ }
+    ensures { λ r. ⌜ now r ≡ part (now (t .entry)) (wholeAt (now (t .entry)) offset (seat (layoutOf kind) at true) .at) (wholeAt (now (t .entry)) offset (seat (layoutOf kind) at true) .len) ⌝ }
 {
     let named = bytes_wire::reference_at(record_at(t, kind, at), offset);
     heap_part(t, named.at, len)
@@ -72,7 +72,7 @@ pub fn object_bytes(t: &[u8], kind: u8, at: usize, offset: usize, len: usize) ->
 // The object itself: the caller's own bytes, exactly that part; none where it is absent.
 pub fn object_part(t: &[u8], kind: u8, at: usize, offset: usize) -> &[u8]
     requires { ⌜ Accepted (now t) × Seated (now t) (layoutOf kind) at true × (hasPlain offset (layoutOf kind .refs) ≡ true) ⌝ }
-    ensures { λ r. ⌜ now r ≡ part (now (t .entry)) (placeAt (now (t .entry)) offset (seat (layoutOf kind) at true) .at) (placeAt (now (t .entry)) offset (seat (layoutOf kind) at true) .len) ⌝ }
+    ensures { λ r. ⌜ now r ≡ part (now (t .entry)) (wholeAt (now (t .entry)) offset (seat (layoutOf kind) at true) .at) (wholeAt (now (t .entry)) offset (seat (layoutOf kind) at true) .len) ⌝ }
 {
     let len = object_len(t, kind, at, offset);
     if len == 0 {

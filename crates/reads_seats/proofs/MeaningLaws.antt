@@ -13,13 +13,14 @@ use Rattle.table.specs.declared.Need.{Need}
 use Rattle.table.specs.declared.Need.the-variants.{Ignored, Optional, Required}
 use Rattle.table.specs.Bytes.{pick, part, num, padded}
 use Rattle.table.specs.Layout.{Keep, low, Shape, Refs, none, plain, nest, Slots, bytes, gone, rec, Layout, baseOf, image, isValid, Entry, used}
-use Rattle.table.specs.FixedLayouts.{header, control, host, hfi, ssns, security, discovery, info, extended, hfiExtended, whenIs, whenSet}
+use Rattle.table.specs.FixedLayouts.{header, control, host, hfi, ssns, security, discovery, info, extended, hfiExtended, layoutOf, whenIs, whenSet}
 use Rattle.table.specs.Objects.{under, readSlots, readEntry, readList, readBody}
 use Rattle.table.specs.Rules.{done}
 use Rattle.table.specs.Meaning.{meaning}
-use Rattle.table.specs.Reads.{Seat, nowhere, seat, seatOf, listSeat, heapSeat, needAt, hasPlain, noPlace, refPlace, placeAt, imageAt}
+use Rattle.table.specs.Reads.{Seat, nowhere, seat, seatOf, listSeat, heapSeat, needAt, contentAt, hasPlain, noPlace, refPlace, wholeAt, imageAt, readPlace, readObject}
 use Rattle.laws.specs.Fields.{Bytes, imageIn, whole}
 use Rattle.laws.specs.ListWalk.{flag-is}
+use Rattle.laws.specs.TextReads.{again, read-again}
 use Rattle.reader.specs.Accepted.{Accepted}
 use Rattle.reader.proofs.AcceptedLaws.{laid, host-passes}
 use Rattle.reader_lists.proofs.Laws.{next-start}
@@ -46,7 +47,7 @@ module _ (t : List ℕ) (l : Layout) (a : ℕ) where
   img = image (l .shape .keep) (drop a t)
 
   pub place-is : (p : ℕ) (need : Need) → hasPlain p (l .refs) ≡ true → needAt p (l .refs) img ≡ need
-      → part t (placeAt t p (seat l a true) .at) (placeAt t p (seat l a true) .len) ≡ under need [] (part t (num t (a + p) 4) (num t (a + p + 4) 2))
+      → part t (wholeAt t p (seat l a true) .at) (wholeAt t p (seat l a true) .len) ≡ under need [] (part t (num t (a + p) 4) (num t (a + p + 4) 2))
   place-is p need h e = rw (h, e) (go need) where
     there : part t (refPlace t (a + p) .at) (refPlace t (a + p) .len) ≡ part t (num t (a + p) 4) (num t (a + p + 4) 2)
     there = by (eqb (num t (a + p + 4) 2) 0) refl where
@@ -66,7 +67,7 @@ module _ (t : List ℕ) (l : Layout) (a : ℕ) where
   object-is : (k n : ℕ) → seatOf t k n ≡ seat l a true → (p : ℕ) (need : Need) → hasPlain p (l .refs) ≡ true → needAt p (l .refs) img ≡ need
       → objectIn t k n p ≡ under need [] (part t (num t (a + p) 4) (num t (a + p + 4) 2))
   unfolding objectIn
-  object-is k n s p need h e = ap (λ (w : Seat). part t (placeAt t p w .at) (placeAt t p w .len)) s ∙ place-is p need h e
+  object-is k n s p need h e = ap (λ (w : Seat). part t (wholeAt t p w .at) (wholeAt t p w .len)) s ∙ place-is p need h e
 
 -- ---- heap records
 
@@ -311,3 +312,8 @@ module _ (t : List ℕ) (b : Bytes t) (ok : Accepted t) where
   pub told-all : told t ≡ meaning t
   unfolding told meaning readBody
   told-all = rw (oem-told, header-told, host-told, hfis-told, ssnss-told, securities-told, discoveries-told) refl
+
+  -- in it each object is what the object call reads, ended again where that is a text
+  pub object-again : (k n q : ℕ) → objectIn t k n q ≡ again (contentAt q (layoutOf k .refs)) (readPlace t k n q .present) (readObject t k n q)
+  unfolding objectIn
+  object-again k n q = read-again t b (ok .good) k n q

@@ -19,7 +19,7 @@ use Rattle.table.specs.FixedLayouts.{layoutOf, header, control, host, hfi, ssns
 use Rattle.table.specs.Objects.{under}
 use Rattle.table.specs.Rules.{answer, done, refRule, plainRule, refsRule}
 use Rattle.table.specs.Numbers.{heapIn, check}
-use Rattle.table.specs.Reads.{Seat, nowhere, seat, needAt, hasPlain, noPlace, refPlace, placeAt, shown}
+use Rattle.table.specs.Reads.{Seat, nowhere, seat, needAt, hasPlain, noPlace, refPlace, wholeAt, shown}
 use Rattle.laws.specs.Sound.{first-of}
 use Rattle.laws.specs.Fields.{Bytes, imageIn, two-bytes}
 use Rattle.laws.specs.ListWalk.{by-layout}
@@ -139,7 +139,7 @@ need-placed t ok r n z = go n z where
   go Optional y = there Optional (λ f. let w : _≡_ {A = ℕ} 1 0 = ap (λ (x : Need). under x 0 1) f in omega arith) y
   go Required y = there Required (λ f. let w : _≡_ {A = ℕ} 1 0 = ap (λ (x : Need). under x 0 1) f in omega arith) y
 
-seat-placed : (t : List ℕ) (ok : Accepted t) (q k : ℕ) (s : Seat) → Good t k s → Placed t (placeAt t q s)
+seat-placed : (t : List ℕ) (ok : Accepted t) (q k : ℕ) (s : Seat) → Good t k s → Placed t (wholeAt t q s)
 unfolding imageIn
 seat-placed t ok q k nowhere g = nowhere-placed t (answer 16 0 0)
 seat-placed t ok q k (seat l a on) g = go (hasPlain q (l .refs)) refl on (g .1 .passes)
@@ -155,18 +155,18 @@ seat-placed t ok q k (seat l a on) g = go (hasPlain q (l .refs)) refl on (g .1 .
         need-placed t ok (a + q) (needAt q (l .refs) (imageIn l t a))
         (plain-passes (heapIn t) (g .1 .around) t a (imageIn l t a) (baseOf l) q (l .refs) inOrder (p refl) e)
 
-pub seat-room : (t : List ℕ) (ok : Accepted t) (q k : ℕ) (s : Seat) → Good t k s → placeAt t q s .at + placeAt t q s .len ≤ length t
+pub seat-room : (t : List ℕ) (ok : Accepted t) (q k : ℕ) (s : Seat) → Good t k s → wholeAt t q s .at + wholeAt t q s .len ≤ length t
 seat-room t ok q k s g = seat-placed t ok q k s g .0
 
 -- an object that is there lies in the heap
-pub seat-heap : (t : List ℕ) (ok : Accepted t) (q k : ℕ) (s : Seat) → Good t k s → 0 < placeAt t q s .len → InHeap t (placeAt t q s .at) (placeAt t q s .len)
+pub seat-heap : (t : List ℕ) (ok : Accepted t) (q k : ℕ) (s : Seat) → Good t k s → 0 < wholeAt t q s .len → InHeap t (wholeAt t q s .at) (wholeAt t q s .len)
 seat-heap t ok q k s g = seat-placed t ok q k s g .1
 
 -- one that is not there starts at 0
 abbrev Starts : Place → Type 0
 Starts p = pick {X = ℕ} (eqb (p .len) 0) 0 (p .at) ≡ p .at
 
-pub absent-start : (t : List ℕ) (q : ℕ) (s : Seat) → pick (eqb (placeAt t q s .len) 0) 0 (placeAt t q s .at) ≡ placeAt t q s .at
+pub absent-start : (t : List ℕ) (q : ℕ) (s : Seat) → pick (eqb (wholeAt t q s .len) 0) 0 (wholeAt t q s .at) ≡ wholeAt t q s .at
 absent-start t q nowhere = refl
 absent-start t q (seat l a on) = go (hasPlain q (l .refs)) on (needAt q (l .refs) (shown t l a on)) (named (eqb (referenceAt t (a + q) .len) 0) refl) where
   named : (c : Bool) → eqb (referenceAt t (a + q) .len) 0 ≡ c → Starts (refPlace t (a + q))
@@ -206,7 +206,7 @@ under-fits Required x y p q = q
 abbrev nonePlace : PlaceFits (noPlace done)
 nonePlace = (lit< tt, lit< tt, lit< tt)
 
-pub seat-place : (t : List ℕ) → Bytes t → (q : ℕ) (s : Seat) → PlaceFits (placeAt t q s)
+pub seat-place : (t : List ℕ) → Bytes t → (q : ℕ) (s : Seat) → PlaceFits (wholeAt t q s)
 seat-place t b q nowhere = nonePlace
 seat-place t b q (seat l a on) =
     one-fits (hasPlain q (l .refs)) _ _

@@ -14,7 +14,7 @@ use Rattle.table.specs.Layout.{baseOf, region, referenceAt}
 use Rattle.table.specs.FixedLayouts.{layoutOf, hfi, ssns, info}
 use Rattle.table.specs.Objects.{under}
 use Rattle.table.specs.Rules.{answer, done}
-use Rattle.table.specs.Reads.{seat, shown, imageAt, widthAt, refusedField, fieldAt, hasPlain, needAt, noPlace, refPlace, placeAt}
+use Rattle.table.specs.Reads.{seat, shown, imageAt, widthAt, refusedField, fieldAt, hasPlain, needAt, noPlace, refPlace, wholeAt}
 use Rattle.laws.specs.Fields.{imageIn, num-part}
 use Rattle.layout_images.proofs.Laws.{by-kind, image-own, part-long}
 use Rattle.reads_seats.specs.declared.seats.Seat.{Seat}
@@ -52,8 +52,8 @@ module _ (k : ℕ) (t : List ℕ) (a : ℕ) where
       let w = widthAt q (layoutOf k .shape .fields) in
       ap (λ (b : List ℕ). pick (eqb w 0) (refusedField (answer 16 0 0)) (record { answer = done; used = on; len = w; bytes = padded 16 (part b q w) })) (shown-own on)
 
-  pub placeAt-own : (q : ℕ) (on : Bool) → placeAt own q (seat (layoutOf k) 0 on) ≡ placeAt t q (seat (layoutOf k) a on)
-  placeAt-own q on = go (hasPlain q (layoutOf k .refs)) refl where
+  pub wholeAt-own : (q : ℕ) (on : Bool) → wholeAt own q (seat (layoutOf k) 0 on) ≡ wholeAt t q (seat (layoutOf k) a on)
+  wholeAt-own q on = go (hasPlain q (layoutOf k .refs)) refl where
     go : (c : Bool) → hasPlain q (layoutOf k .refs) ≡ c
         → pick c (pick on (under (needAt q (layoutOf k .refs) (shown own (layoutOf k) 0 on)) (noPlace done) (refPlace own (0 + q))) (noPlace done)) (noPlace (answer 16 0 0))
         ≡ pick c (pick on (under (needAt q (layoutOf k .refs) (shown t (layoutOf k) a on)) (noPlace done) (refPlace t (a + q))) (noPlace done)) (noPlace (answer 16 0 0))

@@ -12,7 +12,7 @@ use Rattle.table.specs.Bytes.{pick, part, num}
 use Rattle.table.specs.Layout.{Shape, Layout, Refs, none, plain, nest, Slots, nil, bytes, gone, rec, image, referenceAt}
 use Rattle.table.specs.FixedLayouts.{layoutOf, header, control, host, hfi, ssns, security, discovery, info, extended, hfiExtended, noKind, required, whenSet, whenIs}
 use Rattle.table.specs.Objects.{under, readSlots}
-use Rattle.table.specs.Reads.{seat, hasPlain, needAt, placeAt}
+use Rattle.table.specs.Reads.{seat, hasPlain, needAt, wholeAt}
 use Rattle.laws.specs.Fields.{imageIn}
 use Rattle.layout_images.proofs.Laws.{by-kind, other-layout}
 use Rattle.reads_seats.specs.declared.seats.Seat.{Seat}
@@ -22,7 +22,7 @@ use Rattle.reads_seats.proofs.MeaningLaws.{place-is}
 
 -- the object that the reference at p of the used record of kind k at a names
 abbrev pub objectAt : List ℕ → ℕ → ℕ → ℕ → List ℕ
-objectAt t k a p = part t (placeAt t p (seat (layoutOf k) a true) .at) (placeAt t p (seat (layoutOf k) a true) .len)
+objectAt t k a p = part t (wholeAt t p (seat (layoutOf k) a true) .at) (wholeAt t p (seat (layoutOf k) a true) .len)
 
 -- the heap record at a seat, or none, before the slots x
 abbrev pub heldSlot : {p : ℕ} {need : List ℕ → Need} {shape : Shape} {own rest : Refs} → List ℕ → Seat → Slots rest → Slots (nest p need shape own rest)

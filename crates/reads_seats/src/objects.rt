@@ -13,7 +13,7 @@ ghost use Rattle.table.specs.Layout.{baseOf};
 ghost use Rattle.table.specs.FixedLayouts.{layoutOf};
 ghost use Rattle.table.specs.Objects.{under};
 ghost use Rattle.table.specs.Rules as answers;
-ghost use Rattle.table.specs.Reads.{seat, hasPlain, needAt, noPlace, refPlace, placeAt};
+ghost use Rattle.table.specs.Reads.{seat, hasPlain, needAt, noPlace, refPlace, wholeAt};
 ghost use Rattle.laws.specs.Fields.{imageIn};
 
 // None, with the answer that says why.
@@ -75,7 +75,7 @@ fn object_need(bytes: &[u8], kind: u8, offset: usize) -> Need
 // Where the object of that reference stands. An unused record has none.
 pub fn object_of(bytes: &[u8], kind: u8, used: bool, offset: usize) -> Place
     requires { ⌜ (baseOf (layoutOf kind) ≤ length (now bytes)) × (hasPlain offset (layoutOf kind .refs) ≡ true) ⌝ }
-    ensures { λ r. ⌜ r ≡ placeAt (now (bytes .entry)) offset (seat (layoutOf kind) 0 used) ⌝ }
+    ensures { λ r. ⌜ r ≡ wholeAt (now (bytes .entry)) offset (seat (layoutOf kind) 0 used) ⌝ }
 {
     if used {
         return named_place(bytes, offset, object_need(bytes, kind, offset));

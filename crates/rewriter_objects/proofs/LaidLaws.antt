@@ -12,7 +12,7 @@ use Rattle.table.specs.Bytes.{splice, part, Edit, apply}
 use Rattle.table.specs.Layout.{baseOf}
 use Rattle.table.specs.FixedLayouts.{layoutOf}
 use Rattle.table.specs.Objects.{sizeOf, stores, patched, heapOf}
-use Rattle.table.specs.Reads.{seat, hasPlain, placeAt}
+use Rattle.table.specs.Reads.{seat, hasPlain, wholeAt}
 use Rattle.laws.specs.ByteLaws.{length-splice}
 use Rattle.laws.specs.Fields.{imageIn, length-imageIn}
 use Rattle.laws.specs.ListWalk.{refs-within}
@@ -241,7 +241,7 @@ module _ (t : List ℕ) (ok : Accepted t) (k a : ℕ) (s : Seated t (layoutOf k)
     pub object-laid : (xs : List ℕ) → xs ≡ objectAt t k a p → (h : ℕ) → xs ≡ bytesAt t k a h p
     object-laid xs q h = q ∙ sym (plain-bytes t ok k a s h p e)
 
-    module _ (len : ℕ) (q : len ≡ placeAt t p (seat (layoutOf k) a true) .len) where
+    module _ (len : ℕ) (q : len ≡ wholeAt t p (seat (layoutOf k) a true) .len) where
       pub object-size : len ≡ partAt t k a p .span
       object-size = q ∙ sym (ap (λ (x : Part). x .span) (plain-part t ok k a s p e))
 
@@ -249,7 +249,7 @@ module _ (t : List ℕ) (ok : Accepted t) (k a : ℕ) (s : Seated t (layoutOf k)
       object-len = q ∙ sym (ap (λ (x : Part). x .len) (plain-part t ok k a s p e))
 
       pub object-none : len ≡ 0 → (h : ℕ) → bytesAt t k a h p ≡ []
-      object-none z h = plain-bytes t ok k a s h p e ∙ ap (part t (placeAt t p (seat (layoutOf k) a true) .at)) (sym q ∙ z)
+      object-none z h = plain-bytes t ok k a s h p e ∙ ap (part t (wholeAt t p (seat (layoutOf k) a true) .at)) (sym q ∙ z)
 
   -- ---- a heap record with its objects behind it
 

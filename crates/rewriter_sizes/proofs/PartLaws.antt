@@ -16,7 +16,7 @@ use Rattle.table.specs.Layout.{Shape, Layout, Refs, none, plain, nest, Slots, b
 use Rattle.table.specs.FixedLayouts.{layoutOf, header, control, host, hfi, ssns, security, discovery, info, extended, hfiExtended, noKind}
 use Rattle.table.specs.Objects.{sizeOf, sizeEntry, sizeList, sizeBody, spanBody, stores, heapOf, ref6}
 use Rattle.table.specs.Meaning.{Meaning, meaning, heapLen}
-use Rattle.table.specs.Reads.{seat, hasPlain, placeAt, seatOf}
+use Rattle.table.specs.Reads.{seat, hasPlain, wholeAt, seatOf}
 use Rattle.laws.specs.Fields.{Bytes, imageIn}
 use Rattle.laws.specs.ListWalk.{base-small}
 use Rattle.layout_images.proofs.Laws.{by-kind, part-long, other-layout}
@@ -67,20 +67,20 @@ module _ (t : List ℕ) (ok : Accepted t) (k a : ℕ) (s : Seated t (layoutOf k)
       × ((x : Slots rest) → Laid t (innerKind k) (heapRecord t k a) p need shape own rest x (heldSlot t (heapRecord t k a) x))
       × Fits rest
 
-  pub object-long : (p : ℕ) → length (objectAt t k a p) ≡ placeAt t p (seat (layoutOf k) a true) .len
+  pub object-long : (p : ℕ) → length (objectAt t k a p) ≡ wholeAt t p (seat (layoutOf k) a true) .len
   object-long p = part-long t _ _ (seat-room t ok p k (seat (layoutOf k) a true) (refl, s))
 
   -- the part of a reference to an object, and to a heap record
   abbrev heaped : Part
   heaped = recordPart t (innerKind k) (heapRecord t k a)
 
-  pub plain-part : (p : ℕ) → hasPlain p (layoutOf k .refs) ≡ true → partAt t k a p ≡ objectPart (placeAt t p (seat (layoutOf k) a true))
+  pub plain-part : (p : ℕ) → hasPlain p (layoutOf k .refs) ≡ true → partAt t k a p ≡ objectPart (wholeAt t p (seat (layoutOf k) a true))
   unfolding partAt
-  plain-part p h = ap (λ (c : Bool). pick c (objectPart (placeAt t p (seat (layoutOf k) a true))) heaped) h
+  plain-part p h = ap (λ (c : Bool). pick c (objectPart (wholeAt t p (seat (layoutOf k) a true))) heaped) h
 
   pub nest-part : (p : ℕ) → hasPlain p (layoutOf k .refs) ≡ false → partAt t k a p ≡ heaped
   unfolding partAt
-  nest-part p h = ap (λ (c : Bool). pick c (objectPart (placeAt t p (seat (layoutOf k) a true))) heaped) h
+  nest-part p h = ap (λ (c : Bool). pick c (objectPart (wholeAt t p (seat (layoutOf k) a true))) heaped) h
 
   pub plain-bytes : (h p : ℕ) → hasPlain p (layoutOf k .refs) ≡ true → bytesAt t k a h p ≡ objectAt t k a p
   unfolding bytesAt

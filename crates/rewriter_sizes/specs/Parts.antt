@@ -7,7 +7,7 @@ use Rattle.table.specs.Bytes.{pick, part, Edit, edit}
 use Rattle.table.specs.Layout.{Layout, Slots, Entry, baseOf, offsets}
 use Rattle.table.specs.FixedLayouts.{layoutOf}
 use Rattle.table.specs.Objects.{readSlots, sizeOf, patched, heapOf}
-use Rattle.table.specs.Reads.{seat, hasPlain, placeAt}
+use Rattle.table.specs.Reads.{seat, hasPlain, wholeAt}
 use Rattle.laws.specs.Fields.{imageIn}
 use Rattle.layout_kinds.specs.References.{objectRefs, heldRefs}
 use Rattle.bytes_writer.specs.Stores.{refNum}
@@ -56,7 +56,7 @@ recordPart t k (At b on) = record { at = b; len = baseOf (layoutOf k); span = ba
 -- the reference at p of the record of kind k at a
 unfoldable pub partAt : List ℕ → ℕ → ℕ → ℕ → Part
 partAt t k a p =
-    pick (hasPlain p (layoutOf k .refs)) (objectPart (placeAt t p (seat (layoutOf k) a true))) (recordPart t (innerKind k) (heapRecord t k a))
+    pick (hasPlain p (layoutOf k .refs)) (objectPart (wholeAt t p (seat (layoutOf k) a true))) (recordPart t (innerKind k) (heapRecord t k a))
 
 -- the bytes of a heap record of kind k that is laid at h, its own objects behind it
 unfoldable pub recordBytes : List ℕ → ℕ → ℕ → Seat → List ℕ

@@ -1,12 +1,14 @@
 // Cells of an accepted table: the field or the object of a column, by position.
 use reads::fields::field_in;
 use reads::objects::object_in;
+use reads::objects::place_in;
 use show_cells::Column;
 use show_cells::Form;
 use show_cells::values::pad;
 use show_cells::values::print_absent;
 use show_cells::values::print_address;
 use show_cells::values::print_digits;
+use show_cells::values::print_empty;
 use show_cells::values::print_flag;
 use show_cells::values::print_interfaces;
 use show_cells::values::print_plain;
@@ -72,10 +74,22 @@ fn print_autoconfigured(f: Field, json: bool, width: usize) {
     print_flag(value_of(f) / 8 % 2 == 1, json, width);
 }
 
-// An object of bytes, or none.
-fn print_object(x: &[u8], json: bool, width: usize) {
-    if x.len() == 0 {
+// Whether an object is present: an empty text is, and its part is empty too.
+fn is_present(t: &[u8], kind: u8, n: usize, off: usize) -> bool
+    requires { ⌜ Accepted (now t) ⌝ }
+{
+    let p = place_in(t, kind, n, off);
+    p.present
+}
+
+// An object of bytes or a text, or none.
+fn print_object(x: &[u8], present: bool, json: bool, width: usize) {
+    if !present {
         print_absent(json, width);
+        return;
+    }
+    if x.len() == 0 {
+        print_empty(json, width);
         return;
     }
     print_string(x, json, width);
@@ -116,7 +130,12 @@ pub fn print_cell(t: &[u8], n: usize, c: Column, json: bool)
             json,
             width,
         ),
-        Form::Object => print_object(object_in(t, kind, n, off), json, width),
+        Form::Object => print_object(
+            object_in(t, kind, n, off),
+            is_present(t, kind, n, off),
+            json,
+            width,
+        ),
         Form::AddressObject => print_address(object_in(t, kind, n, off), json, width),
         Form::DigitsObject => print_digits_object(object_in(t, kind, n, off), json, width),
         Form::Interfaces => print_interfaces(

@@ -141,6 +141,15 @@ pub fn print_absent(json: bool, width: usize) {
     pad(0, width);
 }
 
+// What stands for a text that is present and empty: for people too it must not look like one that is absent.
+pub fn print_empty(json: bool, width: usize) {
+    print_bytes(b"\"\"");
+    if json {
+        return;
+    }
+    pad(2, width);
+}
+
 pub fn print_flag(set: bool, json: bool, width: usize) {
     if json {
         if set {

@@ -68,6 +68,10 @@ k1 =
 abbrev with : List Edit → List ℕ
 with es = summed (apply k1 es)
 
+-- K7: an empty text, the second heap byte alone, which is zero
+abbrev k7 : List ℕ
+k7 = with (edit 146 (0xA1 ∷ []) ∷ edit 150 (1 ∷ []) ∷ [])
+
 -- the form of K7: one heap byte, which is zero
 abbrev k7Form : List ℕ
 k7Form = summed (take 161 (apply k1 (edit 4 (0xA1 ∷ []) ∷ edit 40 (1 ∷ []) ∷ edit 150 (1 ∷ []) ∷ edit 160 (0 ∷ []) ∷ [])))
@@ -76,27 +80,27 @@ k7Form = summed (take 161 (apply k1 (edit 4 (0xA1 ∷ []) ∷ edit 40 (1 ∷ [])
 abbrev k12Like : ℕ → ℕ → List ℕ
 k12Like flags index =
     summed
-    (sheet 534
-    (edit 0 (0x4E ∷ 0x42 ∷ 0x46 ∷ 0x54 ∷ 0x16 ∷ 0x02 ∷ 0 ∷ 0 ∷ 1 ∷ [])
-    ∷ edit 36 (0x80 ∷ 0x01 ∷ 0 ∷ 0 ∷ 0x96 ∷ [])
+    (sheet 536
+    (edit 0 (0x4E ∷ 0x42 ∷ 0x46 ∷ 0x54 ∷ 0x18 ∷ 0x02 ∷ 0 ∷ 0 ∷ 1 ∷ [])
+    ∷ edit 36 (0x80 ∷ 0x01 ∷ 0 ∷ 0 ∷ 0x98 ∷ [])
     ∷ edit 64 (1 ∷ 1 ∷ 0 ∷ 0 ∷ 0x40 ∷ 0 ∷ 1 ∷ 0 ∷ 0x80 ∷ 0 ∷ 0 ∷ 0 ∷ 0x20 ∷ 0 ∷ 1 ∷ 0 ∷ [])
     ∷ edit 80 (0xA0 ∷ 0 ∷ 0 ∷ 0 ∷ 0x20 ∷ 0 ∷ 1 ∷ 1 ∷ [])
     ∷ edit 88 (0xC0 ∷ 0 ∷ 0 ∷ 0 ∷ 0x80 ∷ 0 ∷ 1 ∷ 1 ∷ [])
     ∷ edit 96 (0x40 ∷ 0x01 ∷ 0 ∷ 0 ∷ 0x40 ∷ 0 ∷ 1 ∷ 1 ∷ [])
     ∷ edit 110 (1 ∷ [])
     ∷ edit 128 (2 ∷ 1 ∷ [])
-    ∷ edit 146 (0x80 ∷ 0x01 ∷ 0 ∷ 0 ∷ 1 ∷ [])
+    ∷ edit 146 (0x80 ∷ 0x01 ∷ 0 ∷ 0 ∷ 2 ∷ [])
     ∷ edit 160 (3 ∷ 1 ∷ 1 ∷ 3 ∷ [])
-    ∷ edit 176 (0x81 ∷ 0x01 ∷ 0 ∷ 0 ∷ 0x80 ∷ [])
+    ∷ edit 176 (0x82 ∷ 0x01 ∷ 0 ∷ 0 ∷ 0x80 ∷ [])
     ∷ edit 192 (4 ∷ 1 ∷ 0 ∷ flags ∷ 0 ∷ 3 ∷ [])
-    ∷ edit 202 (0x01 ∷ 0x02 ∷ 0 ∷ 0 ∷ 0x10 ∷ [])
-    ∷ edit 208 (0x11 ∷ 0x02 ∷ 0 ∷ 0 ∷ 4 ∷ [])
+    ∷ edit 202 (0x02 ∷ 0x02 ∷ 0 ∷ 0 ∷ 0x10 ∷ [])
+    ∷ edit 208 (0x12 ∷ 0x02 ∷ 0 ∷ 0 ∷ 4 ∷ [])
     ∷ edit 237 (index ∷ 1 ∷ [])
-    ∷ edit 246 (0x15 ∷ 0x02 ∷ 0 ∷ 0 ∷ 1 ∷ [])
+    ∷ edit 246 (0x16 ∷ 0x02 ∷ 0 ∷ 0 ∷ 2 ∷ [])
     ∷ edit 384 (0x6E ∷ [])
-    ∷ edit 385 (7 ∷ 1 ∷ 3 ∷ 1 ∷ 1 ∷ 0 ∷ 1 ∷ [])
-    ∷ edit 523 (0xFF ∷ 0xFF ∷ 192 ∷ 168 ∷ 0 ∷ 1 ∷ [])
-    ∷ edit 529 (0x34 ∷ 0x34 ∷ 0x32 ∷ 0x30 ∷ 0x73 ∷ [])
+    ∷ edit 386 (7 ∷ 1 ∷ 3 ∷ 1 ∷ 1 ∷ 0 ∷ 1 ∷ [])
+    ∷ edit 524 (0xFF ∷ 0xFF ∷ 192 ∷ 168 ∷ 0 ∷ 1 ∷ [])
+    ∷ edit 530 (0x34 ∷ 0x34 ∷ 0x32 ∷ 0x30 ∷ 0x73 ∷ [])
     ∷ []))
 
 -- every kind of record, in the order of the one form: HFI 1 is unused, HFI 2 has info with an object; one SSNS record with a secondary list and extended info with
@@ -104,33 +108,33 @@ k12Like flags index =
 abbrev full : List ℕ
 full =
     summed
-    (sheet 611
-    (edit 0 (0x4E ∷ 0x42 ∷ 0x46 ∷ 0x54 ∷ 0x63 ∷ 0x02 ∷ 0 ∷ 0 ∷ 1 ∷ [])
+    (sheet 616
+    (edit 0 (0x4E ∷ 0x42 ∷ 0x46 ∷ 0x54 ∷ 0x68 ∷ 0x02 ∷ 0 ∷ 0 ∷ 1 ∷ [])
     ∷ edit 10 (0x41 ∷ 0x42 ∷ [])
     ∷ edit 35 (7 ∷ [])
-    ∷ edit 36 (0xC0 ∷ 0x01 ∷ 0 ∷ 0 ∷ 0xA3 ∷ 0 ∷ 0 ∷ 0 ∷ 0xC0 ∷ 0x01 ∷ 0 ∷ 0 ∷ 2 ∷ [])
+    ∷ edit 36 (0xC0 ∷ 0x01 ∷ 0 ∷ 0 ∷ 0xA8 ∷ 0 ∷ 0 ∷ 0 ∷ 0xC0 ∷ 0x01 ∷ 0 ∷ 0 ∷ 2 ∷ [])
     ∷ edit 64 (1 ∷ 1 ∷ 0 ∷ 0 ∷ 0x40 ∷ 0 ∷ 1 ∷ 0 ∷ 0x80 ∷ 0 ∷ 0 ∷ 0 ∷ 0x20 ∷ 0 ∷ 1 ∷ 0 ∷ [])
     ∷ edit 80 (0xA0 ∷ 0 ∷ 0 ∷ 0 ∷ 0x20 ∷ 0 ∷ 1 ∷ 2 ∷ [])
     ∷ edit 88 (0xE0 ∷ 0 ∷ 0 ∷ 0 ∷ 0x80 ∷ 0 ∷ 1 ∷ 1 ∷ [])
     ∷ edit 96 (0x60 ∷ 0x01 ∷ 0 ∷ 0 ∷ 0x40 ∷ 0 ∷ 1 ∷ 1 ∷ [])
     ∷ edit 104 (0xA0 ∷ 0x01 ∷ 0 ∷ 0 ∷ 0x20 ∷ 0 ∷ 1 ∷ 1 ∷ [])
     ∷ edit 128 (2 ∷ 0x17 ∷ 9 ∷ [])
-    ∷ edit 146 (0xC2 ∷ 0x01 ∷ 0 ∷ 0 ∷ 1 ∷ [])
+    ∷ edit 146 (0xC2 ∷ 0x01 ∷ 0 ∷ 0 ∷ 2 ∷ [])
     ∷ edit 192 (3 ∷ 2 ∷ 1 ∷ 3 ∷ [])
-    ∷ edit 208 (0xC3 ∷ 0x01 ∷ 0 ∷ 0 ∷ 0x80 ∷ [])
+    ∷ edit 208 (0xC4 ∷ 0x01 ∷ 0 ∷ 0 ∷ 0x80 ∷ [])
     ∷ edit 224 (4 ∷ 1 ∷ 0 ∷ 0x15 ∷ 1 ∷ 3 ∷ 7 ∷ 0 ∷ 1 ∷ [])
-    ∷ edit 234 (0x44 ∷ 0x02 ∷ 0 ∷ 0 ∷ 3 ∷ 0 ∷ 0x47 ∷ 0x02 ∷ 0 ∷ 0 ∷ 1 ∷ [])
-    ∷ edit 269 (1 ∷ 2 ∷ 0 ∷ 0x48 ∷ 0x02 ∷ 0 ∷ 0 ∷ 1 ∷ 0 ∷ 0x49 ∷ 0x02 ∷ 0 ∷ 0 ∷ 1 ∷ 0 ∷ 0x4A ∷ 0x02 ∷ 0 ∷ 0 ∷ 18 ∷ [])
-    ∷ edit 352 (5 ∷ 1 ∷ 0x8B ∷ 0x0A ∷ 1 ∷ 0 ∷ 0x5D ∷ 0x02 ∷ 0 ∷ 0 ∷ 1 ∷ 0 ∷ 0x5E ∷ 0x02 ∷ 0 ∷ 0 ∷ 1 ∷ 0 ∷ 0x5F ∷ 0x02 ∷ 0 ∷ 0 ∷ 1 ∷ [])
-    ∷ edit 382 (0x60 ∷ 0x02 ∷ 0 ∷ 0 ∷ 1 ∷ 0 ∷ 0x61 ∷ 0x02 ∷ 0 ∷ 0 ∷ 1 ∷ [])
-    ∷ edit 416 (6 ∷ 1 ∷ 1 ∷ 2 ∷ 1 ∷ 0 ∷ 0x62 ∷ 0x02 ∷ 0 ∷ 0 ∷ 1 ∷ [])
+    ∷ edit 234 (0x46 ∷ 0x02 ∷ 0 ∷ 0 ∷ 3 ∷ 0 ∷ 0x49 ∷ 0x02 ∷ 0 ∷ 0 ∷ 1 ∷ [])
+    ∷ edit 269 (1 ∷ 2 ∷ 0 ∷ 0x4A ∷ 0x02 ∷ 0 ∷ 0 ∷ 1 ∷ 0 ∷ 0x4B ∷ 0x02 ∷ 0 ∷ 0 ∷ 2 ∷ 0 ∷ 0x4D ∷ 0x02 ∷ 0 ∷ 0 ∷ 18 ∷ [])
+    ∷ edit 352 (5 ∷ 1 ∷ 0x8B ∷ 0x0A ∷ 1 ∷ 0 ∷ 0x61 ∷ 0x02 ∷ 0 ∷ 0 ∷ 1 ∷ 0 ∷ 0x62 ∷ 0x02 ∷ 0 ∷ 0 ∷ 1 ∷ 0 ∷ 0x63 ∷ 0x02 ∷ 0 ∷ 0 ∷ 1 ∷ [])
+    ∷ edit 382 (0x64 ∷ 0x02 ∷ 0 ∷ 0 ∷ 1 ∷ 0 ∷ 0x65 ∷ 0x02 ∷ 0 ∷ 0 ∷ 1 ∷ [])
+    ∷ edit 416 (6 ∷ 1 ∷ 1 ∷ 2 ∷ 1 ∷ 0 ∷ 0x66 ∷ 0x02 ∷ 0 ∷ 0 ∷ 2 ∷ [])
     ∷ edit 448 (0x64 ∷ 0x73 ∷ 0x6E ∷ [])
-    ∷ edit 451 (7 ∷ 1 ∷ 3 ∷ 1 ∷ 2 ∷ 0 ∷ 5 ∷ [])
-    ∷ edit 539 (0xFE ∷ 0x80 ∷ [])
-    ∷ edit 555 (0x43 ∷ 0x02 ∷ 0 ∷ 0 ∷ 1 ∷ [])
-    ∷ edit 579 (0x68 ∷ 10 ∷ 0 ∷ 1 ∷ 0x50 ∷ 2 ∷ 0x71 ∷ [])
-    ∷ edit 586 (9 ∷ 1 ∷ 1 ∷ 0 ∷ 3 ∷ 0 ∷ 0 ∷ 0 ∷ 5 ∷ 0 ∷ 6 ∷ 0 ∷ 0x5C ∷ 0x02 ∷ 0 ∷ 0 ∷ 1 ∷ [])
-    ∷ edit 604 (0x70 ∷ 1 ∷ 2 ∷ 3 ∷ 4 ∷ 5 ∷ 6 ∷ [])
+    ∷ edit 452 (7 ∷ 1 ∷ 3 ∷ 1 ∷ 2 ∷ 0 ∷ 5 ∷ [])
+    ∷ edit 540 (0xFE ∷ 0x80 ∷ [])
+    ∷ edit 556 (0x44 ∷ 0x02 ∷ 0 ∷ 0 ∷ 2 ∷ [])
+    ∷ edit 580 (0x68 ∷ 0 ∷ 10 ∷ 0 ∷ 1 ∷ 0x50 ∷ 2 ∷ 0x71 ∷ [])
+    ∷ edit 589 (9 ∷ 1 ∷ 1 ∷ 0 ∷ 3 ∷ 0 ∷ 0 ∷ 0 ∷ 5 ∷ 0 ∷ 6 ∷ 0 ∷ 0x5F ∷ 0x02 ∷ 0 ∷ 0 ∷ 2 ∷ [])
+    ∷ edit 607 (0x70 ∷ 0 ∷ 1 ∷ 2 ∷ 3 ∷ 4 ∷ 5 ∷ 6 ∷ [])
     ∷ []))
 
 abbrev fullWith : List Edit → List ℕ
@@ -152,9 +156,9 @@ noise =
     ∷ edit 355 (0xFA ∷ 0xFF ∷ 0xFF ∷ [])
     ∷ edit 376 (0xFF ∷ 0xFF ∷ 0xFF ∷ 0xFF ∷ 0 ∷ 0 ∷ [])
     ∷ edit 417 (0xFF ∷ [])
-    ∷ edit 457 (0xFD ∷ [])
-    ∷ edit 504 (0xFF ∷ [])
-    ∷ edit 590 (0xFF ∷ 0xFF ∷ 0xFF ∷ 0xFF ∷ [])
+    ∷ edit 458 (0xFD ∷ [])
+    ∷ edit 505 (0xFF ∷ [])
+    ∷ edit 593 (0xFF ∷ 0xFF ∷ 0xFF ∷ 0xFF ∷ [])
     ∷ []
 
 -- the same said with HFI records of 40 bytes, behind the heap
@@ -162,20 +166,20 @@ abbrev longRecords : List ℕ
 longRecords =
     summed
     (apply (full ++ replicate 80 0)
-    (edit 4 (0xB3 ∷ 0x02 ∷ [])
-    ∷ edit 80 (0x63 ∷ 0x02 ∷ 0 ∷ 0 ∷ 40 ∷ [])
-    ∷ edit 651 (3 ∷ 2 ∷ 1 ∷ 3 ∷ [])
-    ∷ edit 667 (0xC3 ∷ 0x01 ∷ 0 ∷ 0 ∷ 0x80 ∷ [])
-    ∷ edit 683 (0xFF ∷ [])
+    (edit 4 (0xB8 ∷ 0x02 ∷ [])
+    ∷ edit 80 (0x68 ∷ 0x02 ∷ 0 ∷ 0 ∷ 40 ∷ [])
+    ∷ edit 656 (3 ∷ 2 ∷ 1 ∷ 3 ∷ [])
+    ∷ edit 672 (0xC4 ∷ 0x01 ∷ 0 ∷ 0 ∷ 0x80 ∷ [])
+    ∷ edit 688 (0xFF ∷ [])
     ∷ []))
 
 -- one HFI whose info has version 2 and IP origin 3, with a host name; its extended info has a client identifier, IAID and DUID; in the order of the one form
 abbrev identity : List ℕ
 identity =
     summed
-    (sheet 345
-    (edit 0 (0x4E ∷ 0x42 ∷ 0x46 ∷ 0x54 ∷ 0x59 ∷ 0x01 ∷ 0 ∷ 0 ∷ 1 ∷ [])
-    ∷ edit 36 (0xC0 ∷ 0 ∷ 0 ∷ 0 ∷ 0x99 ∷ [])
+    (sheet 347
+    (edit 0 (0x4E ∷ 0x42 ∷ 0x46 ∷ 0x54 ∷ 0x5B ∷ 0x01 ∷ 0 ∷ 0 ∷ 1 ∷ [])
+    ∷ edit 36 (0xC0 ∷ 0 ∷ 0 ∷ 0 ∷ 0x9B ∷ [])
     ∷ edit 50 (1 ∷ [])
     ∷ edit 64 (1 ∷ 1 ∷ 0 ∷ 0 ∷ 0x40 ∷ 0 ∷ 1 ∷ 0 ∷ 0x80 ∷ 0 ∷ 0 ∷ 0 ∷ 0x20 ∷ 0 ∷ 1 ∷ 0 ∷ [])
     ∷ edit 80 (0xA0 ∷ 0 ∷ 0 ∷ 0 ∷ 0x20 ∷ 0 ∷ 1 ∷ 1 ∷ [])
@@ -183,17 +187,17 @@ identity =
     ∷ edit 102 (1 ∷ [])
     ∷ edit 110 (1 ∷ [])
     ∷ edit 128 (2 ∷ 1 ∷ [])
-    ∷ edit 146 (0xC0 ∷ 0 ∷ 0 ∷ 0 ∷ 1 ∷ [])
+    ∷ edit 146 (0xC0 ∷ 0 ∷ 0 ∷ 0 ∷ 2 ∷ [])
     ∷ edit 160 (3 ∷ 1 ∷ 1 ∷ 3 ∷ [])
-    ∷ edit 176 (0xC1 ∷ 0 ∷ 0 ∷ 0 ∷ 0x80 ∷ [])
+    ∷ edit 176 (0xC2 ∷ 0 ∷ 0 ∷ 0 ∷ 0x80 ∷ [])
     ∷ edit 192 (0x6E ∷ [])
-    ∷ edit 193 (7 ∷ 1 ∷ 3 ∷ 2 ∷ 1 ∷ 0 ∷ 1 ∷ [])
-    ∷ edit 212 (3 ∷ 0xFE ∷ [])
-    ∷ edit 297 (0x41 ∷ 0x01 ∷ 0 ∷ 0 ∷ 1 ∷ 0 ∷ 0x42 ∷ 0x01 ∷ 0 ∷ 0 ∷ 20 ∷ [])
-    ∷ edit 321 (0x68 ∷ [])
-    ∷ edit 322 (10 ∷ 1 ∷ 1 ∷ 0 ∷ 3 ∷ [])
-    ∷ edit 330 (0x56 ∷ 0x01 ∷ 0 ∷ 0 ∷ 2 ∷ 0 ∷ 0x58 ∷ 0x01 ∷ 0 ∷ 0 ∷ 1 ∷ [])
-    ∷ edit 342 (0x69 ∷ 0x61 ∷ 0x64 ∷ [])
+    ∷ edit 194 (7 ∷ 1 ∷ 3 ∷ 2 ∷ 1 ∷ 0 ∷ 1 ∷ [])
+    ∷ edit 213 (3 ∷ 0xFE ∷ [])
+    ∷ edit 298 (0x42 ∷ 0x01 ∷ 0 ∷ 0 ∷ 2 ∷ 0 ∷ 0x44 ∷ 0x01 ∷ 0 ∷ 0 ∷ 20 ∷ [])
+    ∷ edit 322 (0x68 ∷ [])
+    ∷ edit 324 (10 ∷ 1 ∷ 1 ∷ 0 ∷ 3 ∷ [])
+    ∷ edit 332 (0x58 ∷ 0x01 ∷ 0 ∷ 0 ∷ 2 ∷ 0 ∷ 0x5A ∷ 0x01 ∷ 0 ∷ 0 ∷ 1 ∷ [])
+    ∷ edit 344 (0x69 ∷ 0x61 ∷ 0x64 ∷ [])
     ∷ []))
 
 abbrev identityWith : List Edit → List ℕ
@@ -209,29 +213,29 @@ identityCut n es = summed (take n (apply identity es))
 abbrev identities : List Case
 identities =
     taken identity identity
-    ∷ taken (identityWith (edit 199 (0xF1 ∷ []) ∷ edit 309 (replicate 12 0xFF) ∷ edit 326 (replicate 4 0xFF) ∷ edit 50 (0xFF ∷ 0xFF ∷ []) ∷ [])) identity
-    ∷ taken (identityWith (edit 196 (1 ∷ []) ∷ edit 199 (0x0D ∷ []) ∷ edit 303 (replicate 6 0xFF) ∷ []))
-    (identityCut 322 (edit 4 (0x42 ∷ []) ∷ edit 40 (0x82 ∷ []) ∷ edit 50 (0 ∷ []) ∷ edit 196 (1 ∷ []) ∷ edit 199 (5 ∷ []) ∷ edit 303 (replicate 6 0) ∷ []))
-    ∷ taken (identityWith (edit 303 (replicate 6 0) ∷ [])) (identityCut 322 (edit 4 (0x42 ∷ []) ∷ edit 40 (0x82 ∷ []) ∷ edit 303 (replicate 6 0) ∷ []))
-    ∷ taken (identityWith (edit 199 (9 ∷ []) ∷ edit 212 (0 ∷ []) ∷ edit 326 (1 ∷ []) ∷ []))
-    (identityCut 342 (edit 4 (0x56 ∷ []) ∷ edit 40 (0x96 ∷ []) ∷ edit 199 (9 ∷ []) ∷ edit 212 (0 ∷ []) ∷ edit 326 (1 ∷ []) ∷ edit 330 (replicate 12 0) ∷ []))
-    ∷ taken (identityWith (edit 326 (1 ∷ []) ∷ edit 330 (replicate 12 0xFF) ∷ []))
-    (identityCut 342 (edit 4 (0x56 ∷ []) ∷ edit 40 (0x96 ∷ []) ∷ edit 326 (1 ∷ []) ∷ edit 330 (replicate 12 0) ∷ []))
-    ∷ refused (identityWith (edit 196 (0 ∷ []) ∷ [])) 12 3 1
-    ∷ refused (identityWith (edit 196 (3 ∷ []) ∷ [])) 12 3 1
-    ∷ refused (identityWith (edit 199 (9 ∷ []) ∷ [])) 12 3 1
-    ∷ refused (identityWith (edit 199 (13 ∷ []) ∷ edit 212 (0 ∷ []) ∷ edit 326 (1 ∷ []) ∷ [])) 12 3 1
-    ∷ refused (identityWith (edit 212 (4 ∷ []) ∷ [])) 12 3 1
-    ∷ refused (identityWith (edit 307 (19 ∷ []) ∷ [])) 12 3 1
+    ∷ taken (identityWith (edit 200 (0xF1 ∷ []) ∷ edit 310 (replicate 12 0xFF) ∷ edit 328 (replicate 4 0xFF) ∷ edit 50 (0xFF ∷ 0xFF ∷ []) ∷ [])) identity
+    ∷ taken (identityWith (edit 197 (1 ∷ []) ∷ edit 200 (0x0D ∷ []) ∷ edit 304 (replicate 6 0xFF) ∷ []))
+    (identityCut 324 (edit 4 (0x44 ∷ []) ∷ edit 40 (0x84 ∷ []) ∷ edit 50 (0 ∷ []) ∷ edit 197 (1 ∷ []) ∷ edit 200 (5 ∷ []) ∷ edit 304 (replicate 6 0) ∷ []))
+    ∷ taken (identityWith (edit 304 (replicate 6 0) ∷ [])) (identityCut 324 (edit 4 (0x44 ∷ []) ∷ edit 40 (0x84 ∷ []) ∷ edit 304 (replicate 6 0) ∷ []))
+    ∷ taken (identityWith (edit 200 (9 ∷ []) ∷ edit 213 (0 ∷ []) ∷ edit 328 (1 ∷ []) ∷ []))
+    (identityCut 344 (edit 4 (0x58 ∷ []) ∷ edit 40 (0x98 ∷ []) ∷ edit 200 (9 ∷ []) ∷ edit 213 (0 ∷ []) ∷ edit 328 (1 ∷ []) ∷ edit 332 (replicate 12 0) ∷ []))
+    ∷ taken (identityWith (edit 328 (1 ∷ []) ∷ edit 332 (replicate 12 0xFF) ∷ []))
+    (identityCut 344 (edit 4 (0x58 ∷ []) ∷ edit 40 (0x98 ∷ []) ∷ edit 328 (1 ∷ []) ∷ edit 332 (replicate 12 0) ∷ []))
+    ∷ refused (identityWith (edit 197 (0 ∷ []) ∷ [])) 12 3 1
+    ∷ refused (identityWith (edit 197 (3 ∷ []) ∷ [])) 12 3 1
+    ∷ refused (identityWith (edit 200 (9 ∷ []) ∷ [])) 12 3 1
+    ∷ refused (identityWith (edit 200 (13 ∷ []) ∷ edit 213 (0 ∷ []) ∷ edit 328 (1 ∷ []) ∷ [])) 12 3 1
+    ∷ refused (identityWith (edit 213 (4 ∷ []) ∷ [])) 12 3 1
+    ∷ refused (identityWith (edit 308 (19 ∷ []) ∷ [])) 12 3 1
+    ∷ refused (identityWith (edit 328 (2 ∷ []) ∷ [])) 12 3 1
+    ∷ refused (identityWith (edit 324 (9 ∷ []) ∷ [])) 12 3 1
+    ∷ refused (identityWith (edit 325 (2 ∷ []) ∷ [])) 12 3 1
     ∷ refused (identityWith (edit 326 (2 ∷ []) ∷ [])) 12 3 1
-    ∷ refused (identityWith (edit 322 (9 ∷ []) ∷ [])) 12 3 1
-    ∷ refused (identityWith (edit 323 (2 ∷ []) ∷ [])) 12 3 1
-    ∷ refused (identityWith (edit 324 (2 ∷ []) ∷ [])) 12 3 1
-    ∷ refused (identityWith (edit 330 (replicate 6 0) ∷ [])) 11 3 1
-    ∷ refused (identityWith (edit 336 (replicate 6 0) ∷ [])) 11 3 1
-    ∷ refused (identityWith (edit 307 (0 ∷ []) ∷ [])) 11 3 1
-    ∷ refused (identityWith (edit 301 (0 ∷ []) ∷ edit 322 (9 ∷ []) ∷ [])) 11 3 1
-    ∷ refused (identityWith (edit 322 (9 ∷ []) ∷ edit 330 (replicate 6 0) ∷ [])) 12 3 1
+    ∷ refused (identityWith (edit 332 (replicate 6 0) ∷ [])) 11 3 1
+    ∷ refused (identityWith (edit 338 (replicate 6 0) ∷ [])) 11 3 1
+    ∷ refused (identityWith (edit 308 (0 ∷ []) ∷ [])) 11 3 1
+    ∷ refused (identityWith (edit 302 (0 ∷ []) ∷ edit 324 (9 ∷ []) ∷ [])) 11 3 1
+    ∷ refused (identityWith (edit 324 (9 ∷ []) ∷ edit 332 (replicate 6 0) ∷ [])) 12 3 1
     ∷ []
 
 -- In order: all kinds, the same with noise, the same with longer records; a checksum 128 off; a wrong sum before a wrong header major, and that before a wrong
@@ -254,9 +258,9 @@ further =
     ∷ refused (with (edit 129 (0x19 ∷ []) ∷ edit 150 (0 ∷ []) ∷ [])) 10 2 0
     ∷ refused (fullWith (edit 354 (0xEB ∷ []) ∷ [])) 10 5 1
     ∷ refused (fullWith (edit 270 (1 ∷ []) ∷ edit 282 (0 ∷ []) ∷ [])) 11 4 1
-    ∷ refused (fullWith (edit 452 (2 ∷ []) ∷ edit 559 (0 ∷ []) ∷ [])) 12 3 2
+    ∷ refused (fullWith (edit 453 (2 ∷ []) ∷ edit 560 (0 ∷ []) ∷ [])) 12 3 2
     ∷ refused (fullWith (edit 288 (17 ∷ []) ∷ [])) 12 4 1
-    ∷ refused (fullWith (edit 584 (1 ∷ []) ∷ [])) 13 4 1
+    ∷ refused (fullWith (edit 586 (1 ∷ []) ∷ [])) 13 4 1
     ∷ refused (fullWith (edit 419 (0 ∷ []) ∷ [])) 13 6 1
     ∷ []
 
@@ -270,6 +274,29 @@ minors =
     ∷ refused (with (edit 65 (2 ∷ []) ∷ edit 66 (1 ∷ []) ∷ [])) 7 1 0
     ∷ further
 
+-- In order: no zero byte; two at the end, none but two; in an info a zero byte first, one inside; of a discovery record a wrong text before half a reference, and
+-- that before a wrong text; a wrong info before its wrong host name; a wrong NQN before a wrong extended info; a wrong root path before a secondary list; an empty
+-- root path; a text that two references share; zero bytes in driver signature, address and keypath, which are no text
+abbrev texts : List Case
+texts =
+    refused (with (edit 150 (1 ∷ []) ∷ [])) 18 2 0
+    ∷ refused (with (edit 160 (0 ∷ []) ∷ [])) 18 2 0
+    ∷ refused (fullWith (edit 580 (0 ∷ 0x68 ∷ []) ∷ [])) 18 3 2
+    ∷ refused (fullWith (edit 560 (4 ∷ []) ∷ [])) 18 3 2
+    ∷ refused (fullWith (edit 614 (0 ∷ []) ∷ edit 432 (1 ∷ []) ∷ [])) 18 6 1
+    ∷ refused (fullWith (edit 426 (0 ∷ []) ∷ edit 428 (0x65 ∷ 2 ∷ 0 ∷ 0 ∷ 1 ∷ []) ∷ [])) 11 6 1
+    ∷ refused (fullWith (edit 428 (0x65 ∷ 2 ∷ 0 ∷ 0 ∷ 1 ∷ []) ∷ [])) 18 6 1
+    ∷ refused (fullWith (edit 453 (2 ∷ []) ∷ edit 581 (1 ∷ []) ∷ [])) 12 3 2
+    ∷ refused (fullWith (edit 588 (1 ∷ []) ∷ edit 288 (17 ∷ []) ∷ [])) 18 4 1
+    ∷ refused (fullWith (edit 607 (0 ∷ []) ∷ edit 586 (1 ∷ []) ∷ [])) 18 4 1
+    ∷ taken (fullWith (edit 607 (0 ∷ []) ∷ edit 605 (1 ∷ []) ∷ []))
+    (summed
+    (take 607 (apply full (edit 4 (0x67 ∷ []) ∷ edit 40 (0xA7 ∷ []) ∷ edit 358 (0x60 ∷ []) ∷ edit 364 (0x61 ∷ []) ∷ edit 370 (0x62 ∷ []) ∷ edit 382 (0x63 ∷ []) ∷ edit 388 (0x64 ∷ []) ∷ edit 422 (0x65 ∷ []) ∷ edit 605 (1 ∷ []) ∷ []))
+    ++ (0 ∷ 1 ∷ 2 ∷ 3 ∷ 4 ∷ 5 ∷ 6 ∷ 0 ∷ [])))
+    ∷ taken (fullWith (edit 422 (0xC2 ∷ 1 ∷ []) ∷ [])) (fullWith (edit 614 (0x6E ∷ []) ∷ []))
+    ∷ taken (fullWith (edit 449 (0 ∷ []) ∷ edit 583 (0 ∷ []) ∷ edit 613 (0 ∷ []) ∷ [])) (fullWith (edit 449 (0 ∷ []) ∷ edit 583 (0 ∷ []) ∷ edit 613 (0 ∷ []) ∷ []))
+    ∷ []
+
 -- K1 to K10 in order, then K12 and K13, what K12 becomes with flag 2 clear, and further ones
 abbrev pub samples : List Case
 samples =
@@ -279,7 +306,7 @@ samples =
     ∷ refused (take 159 k1) 1 0 0
     ∷ refused (with (edit 150 (0 ∷ []) ∷ [])) 11 2 0
     ∷ refused (with (edit 146 (0xA1 ∷ []) ∷ [])) 11 2 0
-    ∷ taken (with (edit 146 (0xA1 ∷ []) ∷ edit 150 (1 ∷ []) ∷ [])) k7Form
+    ∷ taken k7 k7Form
     ∷ refused (with (edit 36 (0xF0 ∷ 0xFF ∷ 0xFF ∷ 0xFF ∷ 0x20 ∷ []) ∷ [])) 8 1 0
     ∷ taken (with (edit 152 (5 ∷ []) ∷ [])) k1
     ∷ refused (with (edit 36 (159 ∷ []) ∷ [])) 8 1 0
@@ -297,11 +324,17 @@ pub samples-fine : T (allFine samples)
 unfolding fine
 samples-fine = tt
 
--- of K1 its host's flags and name; its host has position 0 alone, and it has no HFI
+-- text ends in its only zero byte
+pub texts-fine : T (allFine texts)
+unfolding fine
+texts-fine = tt
+
+-- of K1 its host's flags and name, without the byte that ends it; of K7 a name that is there and empty; a host has position 0 alone, and K1 has no HFI
 abbrev pub readSamples : List ReadCase
 readSamples =
     found k1 2 0 (field 1) true 0 (1 ∷ [])
-    ∷ found k1 2 0 (object 18) true 160 (0x6E ∷ 0 ∷ [])
+    ∷ found k1 2 0 (object 18) true 160 (0x6E ∷ [])
+    ∷ found k7 2 0 (object 18) true 161 []
     ∷ denied k1 2 1 (object 18) 16 0 0
     ∷ denied k1 3 0 whole 16 0 0
     ∷ []
@@ -334,7 +367,9 @@ abbrev pub buildSamples : List BuildCase
 buildSamples =
     let oem : List ℕ = replicate 26 0 in
     stepped empty (replicate 162 7) (beginning oem (0 ∷ 0 ∷ 0 ∷ 0 ∷ []) []) (state 2 0 0 0 0 0 160 0) opened
-    ∷ stepped (state 2 0 0 0 0 0 160 0) opened (aHost (replicate 32 0) (0x6E ∷ 0 ∷ [])) (state 7 0 0 0 0 0 162 0) unfinished
+    ∷ stepped (state 2 0 0 0 0 0 160 0) opened (aHost (replicate 32 0) (0x6E ∷ [])) (state 7 0 0 0 0 0 162 0) unfinished
+    ∷ halted (state 2 0 0 0 0 0 160 0) opened (aHost (replicate 32 0) (0x6E ∷ 0 ∷ [])) 18 2 0
+    ∷ halted (state 2 0 0 0 0 0 160 0) opened (aHost (replicate 32 0) []) 11 2 0
     ∷ stepped (state 7 0 0 0 0 0 162 0) unfinished finishing (state 8 0 0 0 0 0 162 0) k1
     ∷ halted (state 8 0 0 0 0 0 162 0) k1 finishing 15 0 0
     ∷ []

@@ -11,7 +11,7 @@ use Rattle.table.specs.declared.Answer.{Answer}
 use Rattle.table.specs.declared.State.{State}
 use Rattle.table.specs.declared.Step.{Step}
 use Rattle.table.specs.Bytes.{pick, le, checksum, splice, edit, apply}
-use Rattle.table.specs.Layout.{image, Shape, Env, env, pairsRight, Refs, Slots, nil, bytes, gone, rec, Layout, baseOf, unused, used, Body, stop, more}
+use Rattle.table.specs.Layout.{image, Shape, Env, env, pairsRight, Content, anything, text, Refs, Slots, nil, bytes, gone, rec, Layout, baseOf, unused, used, Body, stop, more}
 use Rattle.table.specs.FixedLayouts.{header, hfi, ssns, security, discovery, listKinds}
 use Rattle.table.specs.Objects.{under, sizeOf, heapOf, patched}
 use Rattle.table.specs.Rules.{first, firstOf, ruled, Test, test, firstFail}
@@ -140,10 +140,16 @@ toldImage s n x =
     let y = apply x (s .fixed ++ (edit (s .index .at) (le (s .index .len) n) ∷ [])) in
     image (s .keep) (splice y (s .flags .at) ((getD y (s .flags .at) 0 / 2 * 2 + 1) ∷ []))
 
--- what is ignored is dropped
+-- an object as it is kept: text is told without its terminator; empty text is absent
+abbrev pub ended : Content → List ℕ → List ℕ
+ended anything b = b
+ended text [] = []
+ended text (b ∷ bs) = (b ∷ bs) ++ (0 ∷ [])
+
+-- what is ignored is dropped; text is ended
 unfoldable pub toldSlots : {rs : Refs} → ℕ → List ℕ → Slots rs → Slots rs
 toldSlots n img nil = nil
-toldSlots n img (bytes {need = need} b ss) = bytes (under (need img) [] b) (toldSlots n img ss)
+toldSlots n img (bytes {need = need} {content = content} b ss) = bytes (under (need img) [] (ended content b)) (toldSlots n img ss)
 toldSlots n img (gone ss) = gone (toldSlots n img ss)
 toldSlots n img (rec {need = need} {shape = shape} x own ss) =
     let y = toldImage shape n x in
@@ -167,7 +173,7 @@ mayHave n = fitsNeed n (0 ∷ [])
 abbrev pub isShort : List ℕ → Bool
 isShort b = leb (length b) 65535
 
--- the told objects by field in the reader's order: 0, 11 or an object's further number
+-- the told objects, text ended, by field in the reader's order: 0, 11 or an object's further number
 unfoldable pub slotsRule : {rs : Refs} → Env → List ℕ → Slots rs → ℕ
 slotsRule e img nil = 0
 slotsRule e img (bytes {need = need} {content = content} b ss) =

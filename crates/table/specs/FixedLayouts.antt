@@ -8,7 +8,7 @@ use lib.Dec.{eqb}
 use Rattle.table.specs.declared.Need.{Need}
 use Rattle.table.specs.declared.Need.the-variants.{Ignored, Optional, Required}
 use Rattle.table.specs.Bytes.{pick, bits, every, edit}
-use Rattle.table.specs.Layout.{region, field, flags, flagsIf, onlyIf, reference, frame, reserved, at, nowhere, shaped, asking, anything, Refs, none, plain, nest, Slots, slotAt, recAt, Layout}
+use Rattle.table.specs.Layout.{region, field, flags, flagsIf, onlyIf, reference, frame, reserved, at, nowhere, shaped, asking, anything, text, Refs, none, plain, nest, Slots, slotAt, recAt, Layout}
 
 -- ---- when a reference counts
 
@@ -139,7 +139,7 @@ host = record {
     flags = region 1 1;
     pairs = 3 ∷ [];
   });
-  refs = plain 18 required anything none;
+  refs = plain 18 required text none;
   names = noNames;
   newer = notNewer;
 }
@@ -212,7 +212,7 @@ info = record {
     flags = region 6 1;
     pairs = [];
   }));
-  refs = plain 104 optional anything (nest 110 (whenIs 3 2) (hfiExtended .shape) (hfiExtended .refs) none);
+  refs = plain 104 optional text (nest 110 (whenIs 3 2) (hfiExtended .shape) (hfiExtended .refs) none);
   names = noNames;
   newer = notNewer;
 }
@@ -235,7 +235,7 @@ extended = record {
     flags = region 4 4;
     pairs = [];
   });
-  refs = plain 12 optional anything none;
+  refs = plain 12 optional text none;
   names = noNames;
   newer = notNewer;
 }
@@ -301,7 +301,7 @@ ssns = record {
       plain 10 required anything
       (plain 16 required anything
       (plain 48 optional anything
-      (plain 54 required anything (nest 60 (whenSet 3 2 4 4) (extended .shape) (extended .refs) none))));
+      (plain 54 required text (nest 60 (whenSet 3 2 4 4) (extended .shape) (extended .refs) none))));
   names = λ used img ss.
       zeroOr (used 6) (getD img 8 0)
       && ((eqb (bits 3 2 2 2 img) 0 || used 5 (getD img 45 0))
@@ -363,7 +363,7 @@ discovery = record {
     flags = region 1 1;
     pairs = [];
   });
-  refs = plain 6 optional anything (plain 12 optional anything none);
+  refs = plain 6 optional text (plain 12 optional text none);
   names = λ used img ss. used 3 (getD img 3 0) && zeroOr (used 5) (getD img 4 0);
   newer = notNewer;
 }

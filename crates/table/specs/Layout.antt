@@ -1,5 +1,5 @@
 -- Rules 2 (docs/RULES.md), what a layout is: the lines of its figure, which bits of each byte count, where fields and references stand. Definitions only.
-use mathlib.Core.Bool.{Bool, true, not, _&&_}
+use mathlib.Core.Bool.{Bool, true, false, not, _&&_}
 use mathlib.Core.List.{List, [], _∷_, _++_}
 use Prim.Native.Nat.{ℕ, zero, suc, _+_, _-_, _*_, _/_, _%_, _^_}
 use Prim.Native.String.{String}
@@ -177,13 +177,21 @@ pairsRight s img = every (λ lo. not (eqb (bits (s .flags .at) (s .flags .len) (
 unfoldable pub isRight : Shape → Env → List ℕ → Bool
 isRight s e img = fixedRight (s .fixed) img && (eqb (num img (s .index .at) (s .index .len)) (e .position) && pairsRight s img)
 
--- What an object's bytes are: today anything
+-- What a present object holds: any bytes, or text
 pub data Content : Type 0 where
   anything : Content
+  text : Content
+
+-- exactly one zero byte, the last
+abbrev pub isText : List ℕ → Bool
+isText [] = false
+isText (b ∷ []) = eqb b 0
+isText (b ∷ c ∷ cs) = not (eqb b 0) && isText (c ∷ cs)
 
 -- what a content asks of the bytes of a present object: 0, or the number returned
 abbrev pub ruleOf : Content → Env → List ℕ → ℕ
 ruleOf anything e b = 0
+ruleOf text e b = pick (isText b) 0 18
 
 -- The references of a record kind, by ascending offset: to an object of plain bytes, or to a heap record with references of its own. `need img` says whether
 -- the reference counts, by the record's image

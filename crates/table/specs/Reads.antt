@@ -12,7 +12,7 @@ use Rattle.table.specs.declared.Image.{Image}
 use Rattle.table.specs.declared.Field.{Field}
 use Rattle.table.specs.declared.Place.{Place}
 use Rattle.table.specs.Bytes.{pick, part, num, padded}
-use Rattle.table.specs.Layout.{image, referenceAt, isValid, Refs, none, plain, nest, Layout, baseOf}
+use Rattle.table.specs.Layout.{image, referenceAt, isValid, Content, anything, text, Refs, none, plain, nest, Layout, baseOf}
 use Rattle.table.specs.FixedLayouts.{header, control, host, hfi, ssns, security, discovery, info, extended, hfiExtended}
 use Rattle.table.specs.Objects.{under}
 use Rattle.table.specs.Rules.{answer, done}
@@ -34,6 +34,12 @@ abbrev pub needAt : ℕ → Refs → List ℕ → Need
 needAt q none img = Ignored
 needAt q (plain p need content rest) img = pick (eqb q p) (need img) (needAt q rest img)
 needAt q (nest p need shape own rest) img = pick (eqb q p) (need img) (needAt q rest img)
+
+-- what the object at the plain reference q holds
+abbrev pub contentAt : ℕ → Refs → Content
+contentAt q none = anything
+contentAt q (plain p need content rest) = pick (eqb q p) content (contentAt q rest)
+contentAt q (nest p need shape own rest) = contentAt q rest
 
 -- the heap record of kind l that the owner's reference at q names
 abbrev pub heapSeat : Layout → ℕ → List ℕ → Seat → Seat
@@ -108,11 +114,21 @@ refPlace t r =
     let x = referenceAt t r in
     pick (eqb (x .len) 0) (noPlace done) (record { answer = done; present = true; at = x .at; len = x .len })
 
-abbrev pub placeAt : List ℕ → ℕ → Seat → Place
-placeAt t q nowhere = noPlace (answer 16 0 0)
-placeAt t q (seat l a on) =
+-- the whole object at a seat's reference q, with its terminator if it is text
+abbrev pub wholeAt : List ℕ → ℕ → Seat → Place
+wholeAt t q nowhere = noPlace (answer 16 0 0)
+wholeAt t q (seat l a on) =
     let here = under (needAt q (l .refs) (shown t l a on)) (noPlace done) (refPlace t (a + q)) in
     pick (hasPlain q (l .refs)) (pick on here (noPlace done)) (noPlace (answer 16 0 0))
+
+-- what is handed back of it: text without its terminator; `present` tells an empty text from an absent one
+abbrev pub handed : Content → Place → Place
+handed anything x = x
+handed text x = record { answer = x .answer; present = x .present; at = x .at; len = x .len - 1 }
+
+abbrev pub placeAt : List ℕ → ℕ → Seat → Place
+placeAt t q nowhere = noPlace (answer 16 0 0)
+placeAt t q (seat l a on) = handed (contentAt q (l .refs)) (wholeAt t q (seat l a on))
 
 unfoldable pub readPlace : List ℕ → ℕ → ℕ → ℕ → Place
 readPlace t k n q = pick (eqb (check t .number) 0) (placeAt t q (seatOf t k n)) (noPlace (check t))

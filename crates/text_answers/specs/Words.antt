@@ -28,7 +28,8 @@ meaningOf n =
     (cond (eqb n 15) "a builder call out of turn or an impossible state"
     (cond (eqb n 16) "no such kind, position or field"
     (cond (eqb n 17) "the output would pass 65536 bytes"
-    "a fault with no name")))))))))))))))))
+    (cond (eqb n 18) "a text does not end in its only zero byte"
+    "a fault with no name"))))))))))))))))))
 
 unfoldable pub kindOf : ℕ → String
 kindOf k =

@@ -59,6 +59,7 @@ fn with_meaning(t: Text, number: u8) -> Text
         15 => with_bytes(t, b"a builder call out of turn or an impossible state"),
         16 => with_bytes(t, b"no such kind, position or field"),
         17 => with_limit(t, b"the output would pass ", b" bytes"),
+        18 => with_bytes(t, b"a text does not end in its only zero byte"),
         _ => with_bytes(t, b"a fault with no name"),
     }
 }

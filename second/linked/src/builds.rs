@@ -187,6 +187,7 @@ fn shown(call: &Call, kept: &Kept) -> String {
 #[cfg(test)]
 mod tests {
     use super::*;
+    use second::answer::number::TEXT;
     use std::collections::BTreeSet;
 
     /// The second program itself, as the library.
@@ -198,7 +199,7 @@ mod tests {
     fn runs_meet_every_number_that_a_call_can_give() {
         let line =
             compare(1000, 4, |call, state, buffer| Ok(by_itself(call, state, buffer))).expect("it agrees with itself");
-        for number in [0, 2, 6, 7, 8, 9, 10, 11, 12, 13, 14, 15, 17] {
+        for number in [0, 2, 6, 7, 8, 9, 10, 11, 12, 13, 14, 15, 17, 18] {
             assert!(line.contains(&format!(" {number}: ")), "{number} is missing: {line}");
         }
     }
@@ -236,10 +237,34 @@ mod tests {
             Ok(outcome)
         })
         .expect("it agrees with itself");
-        assert_eq!(met.refusals, BTreeSet::from([0, 11, 12, 14, 15, 17]));
+        assert_eq!(met.refusals, BTreeSet::from([0, 11, 12, 14, 15, 17, 18]));
         assert!(met.told_by.len() > 100 && met.told_by.contains(&0));
         assert!(met.minors_before.len() > 40 && met.minors_before.is_superset(&BTreeSet::from([0, 1, 2, u32::MAX])));
         assert!(met.raised > 100 && met.kept > 100);
+    }
+
+    /// Whether any of the objects that a call is told is text.
+    fn has_text(call: &Call) -> bool {
+        matches!(call, Call::Host(..) | Call::Hfi { .. } | Call::Ssns(..) | Call::Discovery(..))
+    }
+
+    #[test]
+    fn every_call_with_text_meets_its_number_and_those_around_it() {
+        let mut met: BTreeSet<(&str, u8)> = BTreeSet::new();
+        compare(1000, 7, |call, state, buffer| {
+            let outcome = by_itself(call, state, buffer);
+            let number = outcome.answer.number;
+            assert!(number != TEXT || has_text(call) || matches!(call, Call::Finish));
+            met.insert((name(call), number));
+            Ok(outcome)
+        })
+        .expect("it agrees with itself");
+        for call in ["host", "hfi", "ssns", "discovery"] {
+            for number in [0, 11, 14, 15, 17, TEXT] {
+                assert!(met.contains(&(call, number)), "{call} {number}");
+            }
+        }
+        assert!(met.contains(&("finish", TEXT)));
     }
 
     #[test]

@@ -56,8 +56,17 @@ pub fn field(lent: &[u8], kind: u8, position: u16, offset: u32) -> Field {
     }
 }
 
-/// What it answers to a read of an object, and where that stands in the lent bytes.
-pub fn object(lent: &[u8], kind: u8, position: u16, offset: u32) -> (Answer, Range<usize>) {
+/// What a read of an object gives: where it stands in the lent bytes, text without the byte that ends it.
+#[derive(Debug, PartialEq, Eq)]
+pub struct Object {
+    pub answer: Answer,
+    /// Bits 48 to 63 of what the library gives: 1 where the object is present, and no other bit is ever set.
+    pub present: u16,
+    pub place: Range<usize>,
+}
+
+/// What it answers to a read of an object.
+pub fn object(lent: &[u8], kind: u8, position: u16, offset: u32) -> Object {
     // SAFETY: as above; the functions only read.
     let (packed, start) = unsafe {
         (
@@ -65,7 +74,8 @@ pub fn object(lent: &[u8], kind: u8, position: u16, offset: u32) -> (Answer, Ran
             nbft_object_start(lent.as_ptr(), lent.len(), kind, position, offset) as usize,
         )
     };
-    (unpack(packed as u32), start..start + (packed >> 32) as usize)
+    let length = usize::from((packed >> 32) as u16);
+    Object { answer: unpack(packed as u32), present: (packed >> 48) as u16, place: start..start + length }
 }
 
 /// What it answers to a rewrite, and the length of the form that it then left in the output.

@@ -12,7 +12,7 @@ use second::record::Record;
 use second::samples::machine;
 use second::subsystem::Subsystem;
 use second::wire::{bit, put_reference, u16_at, u32_at};
-use second::{form, form_length, Entry, Meaning};
+use second::{form, form_length, Entry, Meaning, Text};
 
 /// A form of the greatest length, or some bytes shorter or longer.
 pub fn near_the_limit(random: &mut Random) -> Vec<u8> {
@@ -22,25 +22,31 @@ pub fn near_the_limit(random: &mut Random) -> Vec<u8> {
 }
 
 /// A good table whose form has this length: the driver signature, and other
-/// objects instead of the meaning's, are parts of one long object.
+/// objects instead of the meaning's, are parts of one long object. That is a
+/// text, so that texts can be its ends.
 pub fn of_length(random: &mut Random, mut meaning: Meaning<'static>, length: usize) -> Vec<u8> {
     let subsystems = meaning.subsystems.iter().filter_map(Entry::used).count();
     let longest = length.div_ceil(2 + 3 * subsystems) + random.below(200);
-    meaning.driver_signature = Some(random.bytes(longest).into());
+    let words: Vec<u8> = (1..longest).map(|_| 1 + random.below(255) as u8).collect();
+    meaning.driver_signature = Some(Text::of(words).ended().to_vec().into());
     let mut table = lay_out_freely(random, &meaning, Style::SEPARATE);
     let object = u32_at(&table, DRIVER_SIGNATURE_AT);
-    let mut places = references_to_any_bytes(&table);
+    let mut places = references_never_ignored(&table);
     random.shuffle(&mut places);
-    for place in &places {
-        put_reference(&mut table, *place, object, 1);
+    let last = object + longest as u32 - 1;
+    for (place, _) in &places {
+        put_reference(&mut table, *place, last, 1);
     }
     put_checksum(&mut table);
     let mut left = length - form_length(&second::meaning(&table));
-    for (later, place) in places.iter().enumerate().rev() {
+    for (later, (place, holds)) in places.iter().enumerate().rev() {
         // As many bytes that the later ones can still take the rest.
         let least = left.saturating_sub(later * (longest - 1));
         let more = least + random.below(left.min(longest - 1) - least + 1);
-        let offset = object + random.below(longest - more) as u32;
+        let offset = match holds {
+            Holds::Text => last - more as u32,
+            Holds::AnyBytes => object + random.below(longest - more) as u32,
+        };
         put_reference(&mut table, *place, offset, 1 + more as u16);
         left -= more;
     }
@@ -49,16 +55,26 @@ pub fn of_length(random: &mut Random, mut meaning: Meaning<'static>, length: usi
     table
 }
 
-/// Where the references stand whose objects are never ignored and may be any bytes.
-fn references_to_any_bytes(table: &[u8]) -> Vec<usize> {
+/// What the object of a reference may be.
+#[derive(Clone, Copy)]
+enum Holds {
+    AnyBytes,
+    Text,
+}
+
+/// Where the references stand whose objects are never ignored, but for lists of indexes.
+fn references_never_ignored(table: &[u8]) -> Vec<(usize, Holds)> {
+    use Holds::{AnyBytes, Text};
     let frame = Frame::read(table).expect("only a good table has its regions");
     let list = frame.subsystems;
     let start = |position: u8| list.offset as usize + usize::from(position - 1) * usize::from(list.record_length);
     let used = (1..=list.count).filter(|position| frame.names_valid::<Subsystem>(*position));
-    let mut places = vec![DRIVER_SIGNATURE_AT, frame.host.start as usize + 18];
-    places.extend(used.flat_map(|position| [10, 16, 54].map(|field| start(position) + field)));
+    let mut places = vec![(DRIVER_SIGNATURE_AT, AnyBytes), (frame.host.start as usize + 18, Text)];
+    let fields = [(10, AnyBytes), (16, AnyBytes), (54, Text)];
+    places.extend(used.flat_map(|position| fields.map(|(field, holds)| (start(position) + field, holds))));
     let interfaces = (1..=frame.interfaces.count).filter(|position| frame.names_valid::<Interface>(*position));
-    places.extend(interfaces.filter_map(|position| client(&frame, position)).flat_map(|at| [at + 8, at + 14]));
+    let clients = interfaces.filter_map(|position| client(&frame, position));
+    places.extend(clients.flat_map(|at| [(at + 8, AnyBytes), (at + 14, AnyBytes)]));
     places
 }
 

@@ -36,8 +36,8 @@ fn record_with_pairs(call: &mut Call) -> Option<(&mut [u8], &'static [(usize, us
 }
 
 /// The same call with one thing told in another way: a two-bit field wrong, what an info says of its version or its
-/// address, an object empty, too long for its length field or as long as that can say, or all bytes of the records
-/// noise.
+/// address, an object empty, with a zero byte, too long for its length field or as long as that can say, or all bytes
+/// of the records noise. Now and then that is so of several objects, so that their order shows.
 pub fn spoiled(random: &mut Random, call: &Call) -> Call {
     let mut call = call.clone();
     let kind = random.below(6);
@@ -55,13 +55,25 @@ pub fn spoiled(random: &mut Random, call: &Call) -> Call {
             return call;
         }
     }
-    let length = *random.pick(&[0, 0, 0, 1, 65_535, 65_536, 70_000]);
     let mut objects = objects(&mut call);
     if !objects.is_empty() {
-        let which = random.below(objects.len());
-        objects[which].resize(length, 1);
+        let times = if random.one_in(3) { objects.len() } else { 1 };
+        for _ in 0..times {
+            let which = random.below(objects.len());
+            spoil_object(random, objects[which]);
+        }
     }
     call
+}
+
+fn spoil_object(random: &mut Random, object: &mut Vec<u8>) {
+    if random.flag() {
+        let length = *random.pick(&[0, 0, 0, 1, 65_534, 65_535, 65_536, 70_000]);
+        object.resize(length, 1);
+    } else {
+        let place = random.below(object.len() + 1);
+        object.insert(place, 0);
+    }
 }
 
 /// One of the places that the rules of an info and its extended info are about: version, flags, IP origin, whether the
@@ -137,10 +149,11 @@ pub fn call_of_noise(random: &mut Random, turn: u16) -> Call {
     }
 }
 
-/// Now and then empty; its bytes are small, so that a list of indexes may name records that are there.
+/// Now and then empty; its bytes are small, so that a list of indexes may name records that are there. Zero is rare, so
+/// that most may be text.
 fn any_object(random: &mut Random) -> Vec<u8> {
     let length = random.below(8).saturating_sub(1);
-    (0..length).map(|_| 1 + random.below(3) as u8).collect()
+    (0..length).map(|_| if random.one_in(40) { 0 } else { 1 + random.below(3) as u8 }).collect()
 }
 
 /// A state that differs from this one, most often in one field alone.

@@ -3,12 +3,11 @@
 use crate::cases::each;
 use crate::guard::Guarded;
 use crate::tally::Tally;
-use crate::{hex, tables};
+use crate::{hex, tables, Object};
 use second::random::Random;
 use second::read::Reading;
-use second::{Answer, Field};
+use second::Field;
 use std::fmt::Debug;
-use std::ops::Range;
 
 /// All kinds, and numbers that are none.
 const KINDS: [u8; 13] = [0, 1, 2, 3, 4, 5, 6, 7, 8, 9, 10, 11, 255];
@@ -64,7 +63,7 @@ fn of_record(reading: &Reading, lent: &[u8], (kind, position): (u8, u16), tally:
         let at = (kind, position, offset);
         let (field, object) = (field_of(reading, at), object_of(reading, at));
         tally.add("field", field.answer);
-        tally.add("object", object.0);
+        tally.add("object", object.answer);
         same(at, field, crate::field(lent, kind, position, offset))?;
         same(at, object, crate::object(lent, kind, position, offset))?;
     }
@@ -86,9 +85,9 @@ fn field_of(reading: &Reading, (kind, position, offset): At) -> Field {
     field
 }
 
-fn object_of(reading: &Reading, (kind, position, offset): At) -> (Answer, Range<usize>) {
+fn object_of(reading: &Reading, (kind, position, offset): At) -> Object {
     let (answer, place) = reading.object(kind, position, offset);
-    (answer, place.unwrap_or(0..0))
+    Object { answer, present: place.is_some().into(), place: place.unwrap_or(0..0) }
 }
 
 fn same<T: PartialEq + Debug>((kind, position, offset): At, expected: T, given: T) -> Result<(), String> {

@@ -1,7 +1,8 @@
 //! An endless row of tables to compare: good ones in many layouts, damaged
-//! ones, ones with a few bytes or the version of an info changed, cut ones,
-//! and plain noise.
+//! ones, ones with a wrong text, with a few bytes or the version of an info
+//! changed, cut ones, and plain noise.
 
+use second::answer::number::TEXT;
 use second::damage::put_checksum_within_length;
 use second::faults::damages;
 use second::form::form;
@@ -16,13 +17,14 @@ use second::wire::u32_at;
 /// The next table. The same seed gives the same tables.
 pub fn next(random: &mut Random) -> Vec<u8> {
     let table = good(random);
-    match random.below(9) {
+    match random.below(10) {
         0 | 1 => table,
         2 => with_tail(random, table),
         3 => damaged(random),
         4 | 5 => changed(random, table),
         6 => cut(random, table),
         7 => other_version(random, table),
+        8 => wrong_text(random),
         _ if random.one_in(50) => too_long(random, table),
         _ => noise(random),
     }
@@ -40,6 +42,21 @@ fn damaged(random: &mut Random) -> Vec<u8> {
     let good = form(&random_meaning(random));
     let all = damages(&good);
     random.pick(&all).apply(&good).table
+}
+
+/// A text that is wrong, in a layout in which no two objects share bytes. Now and then a few bytes more are changed, so
+/// that another fault comes before it or behind it.
+fn wrong_text(random: &mut Random) -> Vec<u8> {
+    let meaning = random_meaning(random);
+    let good = lay_out_freely(random, &meaning, Style::SEPARATE);
+    let mut all = damages(&good);
+    all.retain(|damage| damage.answer.number == TEXT);
+    let table = random.pick(&all).apply(&good).table;
+    if random.one_in(4) {
+        changed(random, table)
+    } else {
+        table
+    }
 }
 
 /// One to four bytes changed, most of them in the header, the control record
@@ -130,6 +147,28 @@ mod tests {
         assert!(is_met(&client));
         for number in [11, 12] {
             assert!(is_met(&|table| check(table) == Answer::at(number, 3, 1)));
+        }
+    }
+
+    /// Every reference to text, with a position that many tables have.
+    const TEXTS: [(u8, u16, u32); 6] = [(2, 0, 18), (4, 1, 54), (6, 1, 6), (6, 1, 12), (7, 1, 104), (9, 1, 12)];
+
+    #[test]
+    fn texts_come_empty_and_absent_and_wrong() {
+        let mut random = Random::seeded(9);
+        let tables: Vec<Vec<u8>> = (0..9000).map(|_| next(&mut random)).collect();
+        let is_met = |has: &dyn Fn(&[u8]) -> bool| tables.iter().filter(|table| has(table)).count() >= 10;
+        for (kind, position, offset) in TEXTS {
+            let words = |table: &[u8]| {
+                let (answer, place) = Reading::of(table).object(kind, position, offset);
+                answer.is_done().then_some(place.map(|place| place.len()))
+            };
+            assert!(is_met(&|table| words(table) == Some(Some(0))), "{kind} {offset}");
+            assert!(is_met(&|table| words(table) > Some(Some(0))), "{kind} {offset}");
+            assert!([2, 4].contains(&kind) || is_met(&|table| words(table) == Some(None)), "{kind} {offset}");
+        }
+        for kind in [2, 3, 4, 6] {
+            assert!(is_met(&|table| check(table) == Answer::at(TEXT, kind, u16::from(kind != 2))), "{kind}");
         }
     }
 }

@@ -5,14 +5,14 @@ use crate::cases::noisy;
 use crate::cases::source::{answer, argument, file, list, Family, Group, Shelf};
 use crate::discovery::Discovery;
 use crate::form::form;
-use crate::goods::{bare_identity, goods};
+use crate::goods::{bare_identity, goods, with_empty_texts};
 use crate::host::Host;
 use crate::identity::Identity;
 use crate::interface::{Info, Interface};
 use crate::meaning::{Entry, Meaning};
 use crate::read::{Reading, LONGEST_RECORD};
 use crate::record::Record;
-use crate::samples::{host_only, known, small, smallest};
+use crate::samples::{host_only, known, small, smallest, unended};
 use crate::security::Security;
 use crate::subsystem::{Extended, Subsystem};
 
@@ -296,8 +296,6 @@ fn identities() -> [Inquiry; 4] {
     let bare = noisy(&bare_identity(1));
     let of_info = |offsets| fields(Info::ID, 1, offsets);
     let nowhere = || three_ways(&[(Identity::ID, 1)]);
-    let mut goods = goods().into_iter();
-    let in_version_1 = goods.find(|good| good.name == "identity-ignored-in-version-1");
     [
         Inquiry {
             title: "an info of version 2 and its extended info, among noise",
@@ -311,7 +309,7 @@ fn identities() -> [Inquiry; 4] {
         },
         Inquiry {
             title: "no extended info in version 1, though one stands there",
-            table: in_version_1.expect("it is among the good tables").table,
+            table: good("identity-ignored-in-version-1"),
             questions: [of_info(&[3, 6, 110]), nowhere()].concat(),
         },
         Inquiry {
@@ -319,6 +317,67 @@ fn identities() -> [Inquiry; 4] {
             table: noisy(&small(Info::ID, 1)),
             questions: [of_info(&[3, 6, 19]), nowhere()].concat(),
         },
+    ]
+}
+
+/// A good table by its name.
+fn good(name: &str) -> Vec<u8> {
+    let mut goods = goods().into_iter();
+    let sample = goods.find(|good| good.name == name);
+    sample.expect("it is among the good tables").table
+}
+
+/// Every object that may be text, of records at position 1.
+fn all_texts() -> Vec<Question> {
+    let references = [
+        (Host::ID, 0, &[18][..]),
+        (Subsystem::ID, 1, &[54]),
+        (Discovery::ID, 1, &[6, 12]),
+        (Info::ID, 1, &[104]),
+        (Extended::ID, 1, &[12]),
+    ];
+    let ask = |&(kind, position, offsets): &(u8, u16, &[u32])| objects(kind, position, offsets);
+    references.iter().flat_map(ask).collect()
+}
+
+/// Texts that are there and empty, that are absent, and that share bytes.
+fn texts() -> Vec<Inquiry> {
+    let empty = |kind| noisy(&with_empty_texts(kind));
+    let seventh = known().into_iter().find(|known| known.name == "known-7");
+    let mut signed = objects(0, 0, &[44]);
+    signed.extend(objects(Host::ID, 0, &[18]));
+    let inquiry = |title, table, questions| Inquiry {
+        title,
+        table,
+        questions,
+    };
+    vec![
+        inquiry(
+            "empty texts, among noise",
+            empty(Subsystem::ID),
+            all_texts(),
+        ),
+        inquiry(
+            "an empty host name of an interface",
+            empty(Identity::ID),
+            all_texts(),
+        ),
+        inquiry("absent texts", form(&small(Subsystem::ID, 1)), all_texts()),
+        inquiry(
+            "K7",
+            seventh.expect("it is among the known samples").table,
+            objects(Host::ID, 0, &[18]),
+        ),
+        inquiry(
+            "a text that ends as another does",
+            good("discovery-name-ends-its-address"),
+            objects(Discovery::ID, 1, &[6, 12]),
+        ),
+        inquiry(
+            "a text within an object that is none",
+            good("host-name-within-signature"),
+            signed,
+        ),
     ]
 }
 
@@ -333,6 +392,7 @@ fn refused() -> Vec<Inquiry> {
     let mut tables = known();
     tables.retain(|sample| numbers.contains(&sample.answer.number));
     tables.dedup_by_key(|sample| sample.answer);
+    tables.push(unended());
     let inquiry = |table| Inquiry {
         title: "a refused table",
         table,
@@ -355,6 +415,7 @@ pub fn text() -> String {
     inquiries.extend(ignored());
     inquiries.extend(scattered());
     inquiries.extend(identities());
+    inquiries.extend(texts());
     inquiries.extend(refused());
     let mut shelf = Shelf::default();
     let groups: Vec<Group> = inquiries.iter().map(|i| i.group(&mut shelf)).collect();

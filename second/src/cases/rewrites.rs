@@ -3,10 +3,11 @@
 use crate::cases::source::{answer, file, Family, Group, Shelf};
 use crate::cases::{dirty, noisy};
 use crate::form::rewrite;
+use crate::goods::with_empty_texts;
 use crate::identity::Identity;
 use crate::meaning::meaning;
 use crate::record::Record;
-use crate::samples::{host_only, known, small};
+use crate::samples::{host_only, known, small, unended};
 use crate::security::Security;
 use crate::subsystem::Subsystem;
 use crate::{form_length, Answer};
@@ -38,13 +39,15 @@ fn case(shelf: &mut Shelf, table: &[u8], room: usize) -> String {
 /// Good tables in outputs of just their form's length, less and more; and
 /// refused ones.
 fn groups(shelf: &mut Shelf) -> [Group; 2] {
-    let (good, refused): (Vec<_>, Vec<_>) = known().into_iter().partition(|s| s.answer.is_done());
+    let samples = known().into_iter().chain([unended()]);
+    let (good, refused): (Vec<_>, Vec<_>) = samples.partition(|s| s.answer.is_done());
     let mut tables: Vec<Vec<u8>> = good.into_iter().map(|sample| sample.table).collect();
     tables.push(noisy(&host_only()));
     tables.push(noisy(&small(Security::ID, 1)));
     tables.push(noisy(&small(Security::ID, 2)));
     tables.push(noisy(&small(Subsystem::ID, 1)));
     tables.push(noisy(&small(Identity::ID, 1)));
+    tables.push(noisy(&with_empty_texts(Subsystem::ID)));
     let mut cases = Vec::new();
     for table in &tables {
         let length = form_length(&meaning(table));

@@ -62,6 +62,11 @@ fn ssns(flags: [u8; 2], objects: [&[u8]; 5]) -> Call {
     Call::Ssns(Box::new(record), [0xB5; 18], objects.map(<[u8]>::to_vec))
 }
 
+/// A subsystem's objects with this NQN and root path.
+const fn named<'a>(nqn: &'a [u8], root_path: &'a [u8]) -> [&'a [u8]; 5] {
+    [b"a", b"b", &[1], nqn, root_path]
+}
+
 /// A security record told as noise but for flags and secret type.
 fn security(flags: [u8; 3], objects: [&[u8]; 6]) -> Call {
     let mut record = [0x6B; 64];
@@ -79,7 +84,7 @@ fn begin(counts: [u8; 4], signature: &[u8]) -> Call {
 
 /// Host name, IAID and DUID.
 const CLIENT: [&[u8]; 3] = [b"h", b"ia", b"du"];
-const NAMES: [&[u8]; 5] = [b"a", b"b", &[1], b"n", b"r"];
+const NAMES: [&[u8]; 5] = named(b"n", b"r");
 const LISTS: [&[u8]; 6] = [b"1", b"22", b"333", b"4444", b"55555", b"/k"];
 
 fn one_of_each() -> [Call; 8] {
@@ -232,22 +237,94 @@ fn missing_objects() -> Vec<Step> {
     steps
 }
 
+/// Texts with a zero byte in them: the only byte, the first, the last and
+/// one inside; each where there is no room, either.
+fn zeros_in_texts() -> Vec<Step> {
+    let one = [1; 4];
+    let mut steps = Vec::new();
+    for text in [&b"\0"[..], b"\0a", b"a\0", b"a\0b", b"\0\0"] {
+        let told = [
+            (at(2, 0, [255; 4], 65_536), host(0, text)),
+            (at(3, 1, one, 65_536), hfi(0, text)),
+            (at(4, 1, one, 416), ssns([0, 0], named(text, b""))),
+            (at(4, 1, one, 65_536), ssns([0x10, 0], named(b"n", text))),
+            (at(6, 1, one, 65_536), discovery(text, b"d")),
+            (at(6, 1, one, 416), discovery(b"", text)),
+        ];
+        steps.extend(told.map(|(state, call)| step(state, 200, call)));
+    }
+    steps
+}
+
+/// What is wrong with several objects of a call, of which the first field's
+/// counts: one that is missing, and one with a zero byte.
+fn mixed_faults() -> Vec<Step> {
+    let one = [1; 4];
+    let zero = &b"a\0"[..];
+    let told = [
+        (3, client([zero, b"", b"du"])),
+        (3, client([zero, b"ia", b""])),
+        (3, interface([2, 0x04, 2], [1, 2], [zero, b"ia", b"du"])),
+        (4, ssns([0x10, 0], [b"", b"b", &[1], zero, zero])),
+        (4, ssns([0x10, 0], [b"a", b"", &[1], zero, b"r"])),
+        (4, ssns([0x10, 0], [zero, zero, &[0], b"", zero])),
+        (4, ssns([0x80, 1], [b"a", b"b", &[1], zero, b"r"])),
+        (6, discovery(zero, zero)),
+    ];
+    let mut steps: Vec<Step> = told
+        .map(|(turn, call)| step(at(turn, 1, one, 65_536), 0, call))
+        .into();
+    // A root path that does not count, and plain objects with zero bytes.
+    steps.push(step(
+        at(4, 1, one, 416),
+        430,
+        ssns([0, 0], [zero, zero, &[0], b"n", zero]),
+    ));
+    steps.push(step(at(3, 1, one, 416), 580, client([b"h", zero, b"\0\0"])));
+    steps
+}
+
+/// K11's host names of 96 and 95 bytes: the one passes 65,536 bytes, the
+/// other alone is too long for the buffer.
+fn full_lists() -> Vec<Step> {
+    let host_turn = at(2, 0, [255; 4], 65_440);
+    let names = [&[b'n'; 96][..], &[b'n'; 95], b""];
+    names.map(|name| step(host_turn, 200, host(0, name))).into()
+}
+
+/// Texts, and a plain object, of about the greatest length that a reference
+/// can say.
+fn longest_texts() -> Vec<Step> {
+    let [fits, too_long] = [65_534, 65_535].map(|length| vec![b'n'; length]);
+    let one = [1; 4];
+    let told = [
+        (at(2, 0, one, 416), host(0, &fits)),
+        (at(2, 0, one, 416), host(0, &too_long)),
+        (at(6, 1, one, 416), discovery(&too_long, b"a\0")),
+        (at(6, 1, one, 416), discovery(b"a\0", &too_long)),
+        (at(6, 1, one, 416), discovery(&fits, b"a\0")),
+        (State::EMPTY, begin(one, &too_long)),
+    ];
+    told.map(|(state, call)| step(state, 0, call)).into()
+}
+
 /// Just past 65,536 bytes, and just not: then the buffer is too short.
 fn too_long() -> Vec<Step> {
     let one = [1; 4];
     let told = [
-        (at(2, 0, [0; 4], 65_530), host(0, b"1234567")),
         (at(2, 0, [0; 4], 65_530), host(0, b"123456")),
-        (at(3, 1, one, 65_408), hfi(0, b"h")),
+        (at(2, 0, [0; 4], 65_530), host(0, b"12345")),
+        (at(3, 1, one, 65_407), hfi(0, b"h")),
         (at(3, 1, one, 65_408), hfi(0, b"")),
-        (at(3, 1, one, 65_384), client(CLIENT)),
         (at(3, 1, one, 65_383), client(CLIENT)),
-        (at(4, 1, one, 65_514), ssns([0x10, 0], NAMES)),
-        (at(4, 1, one, 65_513), ssns([0x10, 0], NAMES)),
-        (at(4, 1, one, 65_532), ssns([0, 0], NAMES)),
+        (at(3, 1, one, 65_382), client(CLIENT)),
+        (at(4, 1, one, 65_512), ssns([0x10, 0], NAMES)),
+        (at(4, 1, one, 65_511), ssns([0x10, 0], NAMES)),
+        (at(4, 1, one, 65_531), ssns([0, 0], NAMES)),
         (at(5, 1, one, 65_536), security([0x80, 0, 0], LISTS)),
         (at(5, 1, one, 65_536), security([0, 0, 0], LISTS)),
-        (at(6, 1, one, 65_535), discovery(b"u", b"d")),
+        (at(6, 1, one, 65_533), discovery(b"u", b"d")),
+        (at(6, 1, one, 65_532), discovery(b"u", b"d")),
         (at(6, 1, one, 65_536), discovery(b"", b"")),
         (at(6, 1, one, 65_536), Call::Leave),
         (at(READY, 0, one, 65_536), Call::Finish),
@@ -335,7 +412,7 @@ fn index_faults() -> Vec<Step> {
 }
 
 /// Bytes of the smallest table to change before it is finished.
-const SMALLEST_EDITS: [(usize, u8); 21] = [
+const SMALLEST_EDITS: [(usize, u8); 24] = [
     (0, 0),
     (4, 0xFF),
     (8, 2),
@@ -356,31 +433,37 @@ const SMALLEST_EDITS: [(usize, u8); 21] = [
     (129, 0x19),
     (146, 161),
     (150, 0),
+    (150, 1),
     (152, 5),
+    (160, 0),
+    (161, 1),
 ];
 
-/// Likewise of a table with one interface, whose info stands at 200.
-const INTERFACE_EDITS: [(usize, u8); 7] = [
+/// Likewise of a table with one interface, whose info stands at 201 and its
+/// host name behind that.
+const INTERFACE_EDITS: [(usize, u8); 9] = [
     (161, 2),
     (162, 0),
     (180, 127),
     (181, 1),
-    (200, 3),
-    (206, 6),
-    (308, 0),
+    (201, 3),
+    (207, 6),
+    (309, 0),
+    (309, 4),
+    (330, 0),
 ];
 
 /// Likewise of a table with one interface whose identity stands behind that
-/// and its host name, at 332.
+/// and its host name, at 334.
 const IDENTITY_EDITS: [(usize, u8); 8] = [
     (50, 7),
-    (203, 1),
-    (203, 3),
-    (219, 1),
-    (314, 19),
-    (332, 9),
-    (336, 1),
-    (350, 0),
+    (204, 1),
+    (204, 3),
+    (220, 1),
+    (315, 19),
+    (334, 9),
+    (338, 1),
+    (352, 0),
 ];
 
 /// Finish with a buffer or a state that no run leaves.
@@ -422,6 +505,10 @@ pub fn single_steps() -> Vec<(&'static str, Vec<Step>)> {
         ("two-bit fields of 3", wrong_records()),
         ("heap records that break their rules", wrong_heap_records()),
         ("required objects that are empty", missing_objects()),
+        ("texts with a zero byte", zeros_in_texts()),
+        ("several objects told wrong", mixed_faults()),
+        ("all lists full", full_lists()),
+        ("texts of the greatest length", longest_texts()),
         ("about 65,536 bytes", too_long()),
         ("one byte too few lent", too_short()),
         ("what is dropped", dropped()),

@@ -107,10 +107,13 @@ pub fn answer(answer: Answer) -> String {
     format!("{number} {kind} {position}")
 }
 
-/// A list of a few bytes, as an argument.
+/// A list of a few bytes, or of one byte over and over, as an argument.
 pub fn list(bytes: &[u8]) -> String {
     if bytes.is_empty() {
         return "[]".to_string();
+    }
+    if is_repetition(bytes) {
+        return format!("(replicate {} {})", bytes.len(), bytes[0]);
     }
     let bytes: String = bytes.iter().map(|byte| format!("{byte} ∷ ")).collect();
     format!("({bytes}[])")
@@ -120,12 +123,9 @@ pub fn list(bytes: &[u8]) -> String {
 pub fn sheet(bytes: &[u8]) -> String {
     let mut edits = String::new();
     for (start, run) in runs(bytes, |_| true) {
-        let put = match run[0] {
-            0 if is_repetition(run) => continue,
-            byte if is_repetition(run) => format!("(replicate {} {byte})", run.len()),
-            _ => list(run),
-        };
-        let _ = write!(edits, "edit {start} {put} ∷ ");
+        if run[0] != 0 || !is_repetition(run) {
+            let _ = write!(edits, "edit {start} {} ∷ ", list(run));
+        }
     }
     if edits.is_empty() {
         format!("sheet {} []", bytes.len())

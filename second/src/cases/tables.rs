@@ -23,7 +23,7 @@ pub fn sampled() -> Vec<Vector> {
         vector.table.len() <= LONGEST_TABLE && form_length <= LONGEST_TABLE
     };
     // The place among vectors of the same number says which ones to keep.
-    let mut seen = [0; 18];
+    let mut seen = [0; number::LAST as usize + 1];
     let kept = |vector: &Vector| {
         let named = |name| vector.name.starts_with(name);
         let every = match vector.answer.number {
@@ -31,7 +31,7 @@ pub fn sampled() -> Vec<Vector> {
             _ if named("random") || named("pair") => 8,
             number::REGION => 8,
             number::REFERENCE => 5,
-            number::RECORD | number::HEAP_RECORD | number::INDEX => 2,
+            number::RECORD | number::HEAP_RECORD | number::INDEX | number::TEXT => 2,
             _ => 1,
         };
         let count = &mut seen[usize::from(vector.answer.number)];

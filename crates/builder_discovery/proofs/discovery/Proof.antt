@@ -1,6 +1,7 @@
 use mathlib.Core.Path.{_≡_, refl, ap, ap₂, _∙_}
 use lib.Dec.{lit≤}
 use Rattle.table.specs.declared.Need.the-variants.{Optional}
+use Rattle.table.specs.Layout.{text}
 use Rattle.table.specs.FixedLayouts.{layoutOf, discovery}
 use Rattle.table.specs.Rules.{firstFail, firstOf}
 use Rattle.table.specs.Builder.{Outcome}
@@ -8,7 +9,7 @@ use Rattle.laws.specs.Fields.{imageIn}
 use Rattle.builder_record.specs.Steps.{judgeTests}
 use Rattle.builder_record.proofs.LayLaws.{step-is}
 use Prim.Native.Nat.{ℕ}
-use Rattle.builder_told.specs.Faults.{objectFault}
+use Rattle.laws.specs.TextLaws.{toldFault}
 use Rattle.builder_discovery.proofs.Laws.{discovery-refused, discovery-passed, discovery-done}
 use borrow.Author.Needs.{needs}
 use Rattle.builder_discovery.proofs.discovery.Statement.{statement}
@@ -20,14 +21,14 @@ judged-is : (c : tie.After-judged) →
     let start = at5 .before .before .before .before .before .before in
     c .judged .result
     ≡ firstFail (judgeTests (layoutOf 6) (start .args .state) (imageIn (layoutOf 6) (at5 .mark-32 .result) 0) 0
-    (firstOf (objectFault Optional (start .args .address .now)) (objectFault Optional (start .args .nqn .now))))
+    (firstOf (toldFault Optional text (start .args .address .now)) (toldFault Optional text (start .args .nqn .now))))
 judged-is c =
     let at4 = c .before .before .before .before in
     c .judged .ensures
     ∙ ap (λ (f : ℕ). firstFail (judgeTests (layoutOf 6)
     (at4 .before .before .before .before .before .before .before .args .state)
     (imageIn (layoutOf 6) (at4 .before .mark-32 .result) 0) 0 f)) (c .before .before .first-of .ensures
-    ∙ ap₂ (λ (x y : ℕ). firstOf x y) (at4 .fits2 .ensures) (c .before .before .before .fits3 .ensures))
+    ∙ ap₂ (λ (x y : ℕ). firstOf x y) (at4 .fits-text .ensures) (c .before .before .before .fits-text2 .ensures))
 
 cast-mark-32 : tie.Need-cast-mark-32
 cast-mark-32 c = search needs
@@ -36,11 +37,11 @@ mark-32-requires : tie.Need-mark-32-requires
 unfolding layoutOf discovery
 mark-32-requires c κs = (refl, refl)
 
-fits-requires : tie.Need-fits-requires
-fits-requires c κs = search needs
+fits-text-requires : tie.Need-fits-text-requires
+fits-text-requires c κs = search needs
 
-fits-requires-2 : tie.Need-fits-requires-2
-fits-requires-2 c κs = search needs
+fits-text-requires-2 : tie.Need-fits-text-requires-2
+fits-text-requires-2 c κs = search needs
 
 first-of-requires : tie.Need-first-of-requires
 first-of-requires c κs = search needs
@@ -105,8 +106,8 @@ discovery-spec =
     (tie.spec
     cast-mark-32
     mark-32-requires
-    fits-requires
-    fits-requires-2
+    fits-text-requires
+    fits-text-requires-2
     first-of-requires
     slice-aggregate-judged
     judged-requires

@@ -1,12 +1,14 @@
 use mathlib.Core.Bool.{false}
-use mathlib.Core.Path.{_≡_, refl}
+use mathlib.Core.Path.{_≡_, refl, ap, ap₂, _∙_}
 use mathlib.Core.List.{[], _∷_, _++_}
-use Prim.Native.Nat.{_+_, _-_, _≤_}
+use Prim.Native.Nat.{ℕ, _+_, _-_, _≤_}
 use native.Mathlib.Omega.{arith}
 use lib.ListN.{length, take, drop}
 use lib.Dec.{lit≤}
+use Rattle.table.specs.Layout.{text}
+use Rattle.table.specs.Objects.{sizeOf}
 use Rattle.table.specs.FixedLayouts.{layoutOf, discovery}
-use Rattle.table.specs.Builder.{recordsEnd}
+use Rattle.table.specs.Builder.{ended, recordsEnd}
 use Rattle.builder_record.specs.Calls.{discoveryTold}
 use Rattle.bytes_writer.proofs.StoreLaws.{concat, chain-laid}
 use Rattle.builder_writers.specs.Written.{recordWith}
@@ -19,26 +21,40 @@ use Rattle.builder_discovery.proofs.lay_discovery.Statement.{statement}
 use Rattle.builder_discovery.proofs.lay_discovery.Tie as tie
 
 -- where there is room
-roomy-here : (c : tie.After-place-of) → let a = c .before .before .before .before .before .before .before .before .args in (recordsEnd (a .state) ≤ a .state .used) × (a .state .used + (length
-    (a .address .now) + length (a .nqn .now)) ≤ 65536) × (a .state .used + (length (a .address .now) + length (a .nqn .now)) ≤ length (a .out .now))
+roomy-here : (c : tie.After-place-of) →
+    let e₂ = c .before .before .before .before in
+    let e₁ = e₂ .before in
+    let a = e₁ .before .before .before .before .before .args in
+    let n = e₁ .ended-len .result + e₂ .ended-len2 .result in
+    (recordsEnd (a .state) ≤ a .state .used) × (a .state .used + n ≤ 65536) × (a .state .used + n ≤ length (a .out .now))
 roomy-here c =
     let at3 = c .before .before .before in
-    let s = at3 .before .before .before .before .before in
-    let a = s .args in
-    roomy (a .state) 6 (length (a .address .now) + length (a .nqn .now)) (length (a .out .now))
+    let e₂ = at3 .before in
+    let e₁ = e₂ .before in
+    let s = e₁ .before .before .before .before .before in
+    roomy (s .args .state) 6 (e₁ .ended-len .result + e₂ .ended-len2 .result) (length (s .args .out .now))
     (at3 .room-fault .result) (s .pre .0) (at3 .room-fault .ensures) (c .before .if1 .left)
 
-inside : (c : tie.After-place-of) →
-    let start = c .before .before .before .before .before .before .before .before in
-    c .place-of .result + 32 ≤ length (start .args .out .now)
+inside : (c : tie.After-place-of) → c .place-of .result + 32 ≤ length (c .before .before .before .before .before .before .before .before .before .before .args .out .now)
 unfolding layoutOf discovery
 inside c = omega (arith, roomy-here c, c .place-of .ensures .1)
 
+ended-len-requires : tie.Need-ended-len-requires
+ended-len-requires c κs = search needs
+
+ended-len-requires-2 : tie.Need-ended-len-requires-2
+ended-len-requires-2 c κs = search needs
+
 add-written : tie.Need-add-written
-add-written c = search needs
+add-written c =
+    let s = c .before .before .before .before .before .before in
+    omega (arith, s .pre, c .before .ended-len .ensures, c .ended-len2 .ensures)
 
 add-room-fault : tie.Need-add-room-fault
-add-room-fault c = let s = c .before .before .before .before in let v = used-bounds (s .args .state) 6 (s .pre .0) in omega (arith, v, s .pre)
+add-room-fault c =
+    let s = c .before .before .before .before .before .before in
+    let v = used-bounds (s .args .state) 6 (s .pre .0) in
+    omega (arith, v, s .pre, c .before .ended-len .ensures, c .ended-len2 .ensures)
 
 room-fault-requires : tie.Need-room-fault-requires
 room-fault-requires c κs = search needs
@@ -46,17 +62,25 @@ room-fault-requires c κs = search needs
 refused-requires : tie.Need-refused-requires
 refused-requires c κs = search needs
 
+-- how many bytes are written
+size-is : (c : tie.After-ended-len2) →
+    let a = c .before .before .before .before .before .before .args in
+    c .before .ended-len .result + c .ended-len2 .result ≡ sizeOf (discoveryTold (ended text (a .address .now)) (ended text (a .nqn .now)))
+size-is c =
+    let a = c .before .before .before .before .before .before .args in
+    ap₂ (λ (m n : ℕ). m + n) (c .before .ended-len .ensures) (c .ended-len2 .ensures) ∙ discovery-size (ended text (a .address .now)) (ended text (a .nqn .now))
+
 returns : tie.Need-returns
 returns c =
     let at3 = c .before .before .before in
-    let a = at3 .before .before .before .before .before .args in
-    laid-refused discovery (a .state) (a .out .now) (a .marked .now) (discoveryTold (a .address .now) (a .nqn .now))
-    (length (a .address .now) + length (a .nqn .now)) (at3 .room-fault .result) (c .refused .result)
-    (discovery-size (a .address .now) (a .nqn .now)) (at3 .room-fault .ensures) (c .refused .ensures .0)
-    (c .before .if1 .taken) (c .refused .ensures .1)
+    let e₂ = at3 .before in
+    let a = e₂ .before .before .before .before .before .before .args in
+    laid-refused discovery (a .state) (a .out .now) (a .marked .now) (discoveryTold (ended text (a .address .now)) (ended text (a .nqn .now)))
+    (e₂ .before .ended-len .result + e₂ .ended-len2 .result) (at3 .room-fault .result) (c .refused .result) (size-is e₂) (at3 .room-fault .ensures)
+    (c .refused .ensures .0) (c .before .if1 .taken) (c .refused .ensures .1)
 
 place-of-requires : tie.Need-place-of-requires
-place-of-requires c κs = let s = c .before .before .before .before .before .before .before in (lit≤ tt, lit≤ tt, s .pre .0)
+place-of-requires c κs = let s = c .before .before .before .before .before .before .before .before .before in (lit≤ tt, lit≤ tt, s .pre .0)
 
 add-end : tie.Need-add-end
 unfolding layoutOf discovery
@@ -74,31 +98,35 @@ part-write-discovery-end c = omega (arith, inside c)
 write-discovery-requires : tie.Need-write-discovery-requires
 unfolding discovery
 write-discovery-requires c κs =
-    let s = c .before .before .before .before .before .before .before .before .before in
-    ((part-size (s .args .out .now) (c .before .place-of .result) 32 (inside (c .before)), s .pre .1, omega (arith, roomy-here (c .before))), s .pre .2, s .pre .3)
+    let e₂ = c .before .before .before .before .before in
+    let s = e₂ .before .before .before .before .before .before in (
+      (part-size (s .args .out .now) (c .before .place-of .result) 32 (inside (c .before)), s .pre .1, omega (arith, roomy-here (c .before))),
+      omega (arith, s .pre .2, e₂ .before .ended-len .ensures),
+      omega (arith, s .pre .3, e₂ .ended-len2 .ensures),
+    )
 
-copy-into-requires : tie.Need-copy-into-requires
-copy-into-requires c κs = omega (arith, roomy-here (c .before .before .before .before .before), c .before .before .out .given .1)
+lay-text-requires : tie.Need-lay-text-requires
+lay-text-requires c κs =
+    let at5 = c .before .before .before .before .before in
+    omega (arith, roomy-here at5, at5 .before .before .before .before .before .ended-len .ensures, c .before .before .out .given .1)
 
-add-copy-into : tie.Need-add-copy-into
-add-copy-into c =
-    let at9 = c .before .before .before .before .before .before .before .before .before in
-    omega (arith, roomy-here at9)
+add-lay-text : tie.Need-add-lay-text
+add-lay-text c = omega (arith, roomy-here (c .before .before .before .before .before .before .before .before .before))
 
-copy-into-requires-2 : tie.Need-copy-into-requires-2
-copy-into-requires-2 c κs =
+lay-text-requires-2 : tie.Need-lay-text-requires-2
+lay-text-requires-2 c κs =
     let at6 = c .before .before .before .before .before .before in
+    let place = at6 .before .before .before in
     omega (
       arith,
-      roomy-here (at6 .before .before .before),
+      roomy-here place,
+      place .before .before .before .before .ended-len2 .ensures,
       at6 .out .given .1,
-      c .before .before .before .copy-into .kept .0,
+      c .before .before .before .lay-text .kept .0,
     )
 
 stepped-requires : tie.Need-stepped-requires
-stepped-requires c κs =
-    let at12 = c .before .before .before .before .before .before .before .before .before .before .before .before in
-    in-limit _ (roomy-here at12 .1)
+stepped-requires c κs = in-limit _ (roomy-here (c .before .before .before .before .before .before .before .before .before .before .before .before) .1)
 
 same-length : tie.Need-same-length
 same-length c = search needs
@@ -111,35 +139,40 @@ returns-2 c =
     let at11 = at7 .before .before .before .before in
     let at13 = at11 .before .before in
     let at16 = at13 .before .before .before in
-    let s = at16 .before .before .before .before .before in
-    let a = s .args in
+    let e₂ = at16 .before in
+    let e₁ = e₂ .before in
+    let a = e₁ .before .before .before .before .before .args in
     let w = at11 .write-discovery in
     let t = at13 .place-of in
-    let y = part-stored (a .out .now) (t .result) 32 (w .last .0) (recordWith discovery (a .marked .now)
-    (a .state .used) (length (a .address .now) ∷ length (a .nqn .now) ∷ [])
-    (length (a .address .now) ∷ length (a .nqn .now) ∷ [])) (inside at13) (w .kept .0) (w .ensures) in
+    let n₁ = e₁ .ended-len .result in
+    let n₂ = e₂ .ended-len2 .result in
+    let address = ended text (a .address .now) in
+    let nqn = ended text (a .nqn .now) in
+    let y = part-stored (a .out .now) (t .result) 32 (w .last .0)
+    (recordWith discovery (a .marked .now) (a .state .used) (n₁ ∷ n₂ ∷ []) (n₁ ∷ n₂ ∷ [])) (inside at13) (w .kept .0) (w .ensures) in
+    let r = ap₂ (λ (m n : ℕ). recordWith discovery (a .marked .now) (a .state .used) (m ∷ n ∷ []) (m ∷ n ∷ [])) (e₁ .ended-len .ensures) (e₂ .ended-len2 .ensures)
+    ∙ discovery-record (a .marked .now) (a .state .used) address nqn in
     let v : length (take (t .result) (a .out .now)
     ++ (w .last .0 ++ drop (t .result + 32 - t .result) (drop (t .result) (a .out .now)))) ≡ length (a .out .now) =
     at7 .before .before .before .out .given .1 in
-    laid-done discovery (a .state) (a .out .now) (a .marked .now) (discoveryTold (a .address .now) (a .nqn .now))
-    (length (a .address .now) + length (a .nqn .now)) (at16 .room-fault .result) (c .stepped .result)
-    (discovery-size (a .address .now) (a .nqn .now)) (at16 .room-fault .ensures) (c .stepped .ensures .0)
-    (at13 .before .if1 .left) false (discovery-free .1 _) (c .stepped .ensures .1) (t .result) _ _ _ (concat (a .address .now ∷ a .nqn .now ∷ []))
-    (t .ensures .0) (discovery-record (a .marked .now) (a .state .used) (a .address .now) (a .nqn .now)) y
-    (discovery-heap (a .state .used) (a .address .now) (a .nqn .now)) ((chain-laid (a .address .now ∷ a .nqn .now ∷ [])
-    _ (a .state .used) (at3 .copy-into2 .last .0)
-    (omega (arith, two-long (a .address .now) (a .nqn .now), roomy-here at13, v)) (
-      at7 .copy-into .last .0,
+    laid-done discovery (a .state) (a .out .now) (a .marked .now) (discoveryTold address nqn) (n₁ + n₂) (at16 .room-fault .result) (c .stepped .result)
+    (size-is e₂) (at16 .room-fault .ensures) (c .stepped .ensures .0) (at13 .before .if1 .left) false (discovery-free .1 _)
+    (c .stepped .ensures .1) (t .result) _ _ _ (concat (address ∷ nqn ∷ [])) (t .ensures .0) r y
+    (discovery-heap (a .state .used) address nqn) ((chain-laid (address ∷ nqn ∷ []) _ (a .state .used) (at3 .lay-text2 .last .0)
+    (omega (arith, two-long address nqn, roomy-here at13, e₁ .ended-len .ensures, e₂ .ended-len2 .ensures, v)) (
+      at7 .lay-text .last .0,
       a .state .used,
-      at7 .copy-into .ensures,
+      at7 .lay-text .ensures,
       refl,
-      (at3 .copy-into2 .last .0, a .state .used + length (a .address .now), at3 .copy-into2 .ensures, refl, refl),
+      (at3 .lay-text2 .last .0, a .state .used + n₁, at3 .lay-text2 .ensures, ap (λ (m : ℕ). a .state .used + m) (e₁ .ended-len .ensures), refl),
     )))
 
 pub lay-discovery-spec : {M : Type 1} → statement M
 lay-discovery-spec =
     tie.close
     (tie.spec
+    ended-len-requires
+    ended-len-requires-2
     add-written
     add-room-fault
     room-fault-requires
@@ -151,9 +184,9 @@ lay-discovery-spec =
     part-write-discovery-start
     part-write-discovery-end
     write-discovery-requires
-    copy-into-requires
-    add-copy-into
-    copy-into-requires-2
+    lay-text-requires
+    add-lay-text
+    lay-text-requires-2
     stepped-requires
     same-length
     returns-2)

@@ -7,17 +7,6 @@ use Rattle.builder_hfi.proofs.Laws.{hfi-refused, hfi-passed, hfi-done}
 use borrow.Author.Needs.{needs}
 use Rattle.builder_hfi.proofs.hfi.Statement.{statement}
 use Rattle.builder_hfi.proofs.hfi.Tie as tie
-use Rattle.builder_hfi.proofs.hfi.Reads as reads
-use Rattle.builder_hfi.proofs.hfi.Lts as lts
-use Rattle.builder_hfi.proofs.is_there.Reads as is-there-reads
-use Rattle.builder_hfi.proofs.lay_hfi.Reads as lay-hfi-reads
-use Rattle.builder_hfi.proofs.object_fault.Reads as object-fault-reads
-use Rattle.builder_hfi.proofs.own_fault.Reads as own-fault-reads
-use Rattle.builder_record.proofs.judging.judged.Reads as judged-reads
-use Rattle.builder_record.proofs.judging.refused.Reads as refused-reads
-use Rattle.builder_told.proofs.marks.mark_128.Reads as mark-128-reads
-use Rattle.builder_told.proofs.marks.mark_20.Reads as mark-20-reads
-use Rattle.builder_told.proofs.marks.mark_32.Reads as mark-32-reads
 
 cast-mark-32 : tie.Need-cast-mark-32
 cast-mark-32 c = search needs

@@ -7,9 +7,6 @@ use Rattle.builder_hfi.proofs.Laws.{origin-is, no-identifier, from-dhcp
 use borrow.Author.Needs.{needs}
 use Rattle.builder_hfi.proofs.identity_fault.Statement.{statement}
 use Rattle.builder_hfi.proofs.identity_fault.Tie as tie
-use Rattle.builder_hfi.proofs.identity_fault.Reads as reads
-use Rattle.builder_hfi.proofs.identity_fault.Lts as lts
-use Rattle.layout_flags.proofs.identity_flags.Reads as identity-flags-reads
 
 identity-flags-requires : tie.Need-identity-flags-requires
 identity-flags-requires c κs = search needs

@@ -3,9 +3,6 @@ use Rattle.builder_hfi.proofs.Laws.{identity-size-is}
 use borrow.Author.Needs.{needs}
 use Rattle.builder_hfi.proofs.identity_size.Statement.{statement}
 use Rattle.builder_hfi.proofs.identity_size.Tie as tie
-use Rattle.builder_hfi.proofs.identity_size.Reads as reads
-use Rattle.builder_hfi.proofs.identity_size.Lts as lts
-use Rattle.builder_hfi.proofs.own_size.Reads as own-size-reads
 
 own-size-requires : tie.Need-own-size-requires
 own-size-requires c κs = search needs

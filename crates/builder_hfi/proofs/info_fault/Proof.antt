@@ -7,8 +7,6 @@ use Rattle.builder_hfi.proofs.Laws.{infoTests, info-fault-is}
 use borrow.Author.Needs.{needs}
 use Rattle.builder_hfi.proofs.info_fault.Statement.{statement}
 use Rattle.builder_hfi.proofs.info_fault.Tie as tie
-use Rattle.builder_hfi.proofs.info_fault.Reads as reads
-use Rattle.builder_hfi.proofs.info_fault.Lts as lts
 
 shared-slice-read-if1 : tie.Need-shared-slice-read-if1
 shared-slice-read-if1 c = search needs

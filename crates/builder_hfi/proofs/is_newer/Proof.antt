@@ -4,8 +4,6 @@ use Rattle.builder_hfi.proofs.Laws.{version-is}
 use borrow.Author.Needs.{needs}
 use Rattle.builder_hfi.proofs.is_newer.Statement.{statement}
 use Rattle.builder_hfi.proofs.is_newer.Tie as tie
-use Rattle.builder_hfi.proofs.is_newer.Reads as reads
-use Rattle.builder_hfi.proofs.is_newer.Lts as lts
 
 shared-slice-read-result : tie.Need-shared-slice-read-result
 shared-slice-read-result c = search needs

@@ -1,9 +1,6 @@
 use borrow.Author.Needs.{needs}
 use Rattle.builder_hfi.proofs.is_there.Statement.{statement}
 use Rattle.builder_hfi.proofs.is_there.Tie as tie
-use Rattle.builder_hfi.proofs.is_there.Reads as reads
-use Rattle.builder_hfi.proofs.is_there.Lts as lts
-use Rattle.builder_hfi.proofs.is_newer.Reads as is-newer-reads
 
 is-newer-requires : tie.Need-is-newer-requires
 is-newer-requires c κs = search needs

@@ -12,10 +12,6 @@ use Rattle.builder_hfi.proofs.Laws.{three-long, identity-none, identity
 use borrow.Author.Needs.{needs}
 use Rattle.builder_hfi.proofs.lay_identity.Statement.{statement}
 use Rattle.builder_hfi.proofs.lay_identity.Tie as tie
-use Rattle.builder_hfi.proofs.lay_identity.Reads as reads
-use Rattle.builder_hfi.proofs.lay_identity.Lts as lts
-use Rattle.builder_writers.proofs.write_hfi_extended.Reads as write-hfi-extended-reads
-use Rattle.bytes_writer.proofs.stores.copy_into.Reads as copy-into-reads
 
 add-end : tie.Need-add-end
 add-end c = search needs

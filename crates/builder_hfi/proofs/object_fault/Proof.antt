@@ -1,16 +1,12 @@
 use mathlib.Core.Path.{ap, ap₂, _∙_}
 use Prim.Native.Nat.{ℕ}
 use Rattle.table.specs.declared.Need.{Need}
+use Rattle.table.specs.Layout.{anything}
 use Rattle.table.specs.Rules.{firstOf}
-use Rattle.builder_told.specs.Faults.{objectFault}
+use Rattle.laws.specs.TextLaws.{toldFault}
 use borrow.Author.Needs.{needs}
 use Rattle.builder_hfi.proofs.object_fault.Statement.{statement}
 use Rattle.builder_hfi.proofs.object_fault.Tie as tie
-use Rattle.builder_hfi.proofs.object_fault.Reads as reads
-use Rattle.builder_hfi.proofs.object_fault.Lts as lts
-use Rattle.builder_hfi.proofs.own_need.Reads as own-need-reads
-use Rattle.builder_told.proofs.objects.first_of.Reads as first-of-reads
-use Rattle.builder_told.proofs.objects.fits.Reads as fits-reads
 
 own-need-requires : tie.Need-own-need-requires
 own-need-requires c κs = search needs
@@ -24,8 +20,8 @@ fits-requires-2 c κs = search needs
 first-of-requires : tie.Need-first-of-requires
 first-of-requires c κs = search needs
 
-fits-requires-3 : tie.Need-fits-requires-3
-fits-requires-3 c κs = search needs
+fits-text-requires : tie.Need-fits-text-requires
+fits-text-requires c κs = search needs
 
 first-of-requires-2 : tie.Need-first-of-requires-2
 first-of-requires-2 c κs = search needs
@@ -40,9 +36,9 @@ returns c =
     let at10 = at5 .before .before .before .before .before in
     let a = at10 .args in
     c .first-of2 .ensures
-    ∙ ap₂ (λ (x y : ℕ). firstOf x y) (at1 .fits4 .ensures) (at2 .first-of .ensures
-    ∙ ap₂ (λ (x y : ℕ). firstOf x y) (at4 .fits2 .ensures ∙ ap (λ (n : Need). objectFault n (a .iaid .now)) (at5 .own-need .ensures))
-    (at3 .fits3 .ensures ∙ ap (λ (n : Need). objectFault n (a .duid .now)) (at5 .own-need .ensures)))
+    ∙ ap₂ (λ (x y : ℕ). firstOf x y) (at1 .fits-text .ensures) (at2 .first-of .ensures
+    ∙ ap₂ (λ (x y : ℕ). firstOf x y) (at4 .fits2 .ensures ∙ ap (λ (n : Need). toldFault n anything (a .iaid .now)) (at5 .own-need .ensures))
+    (at3 .fits3 .ensures ∙ ap (λ (n : Need). toldFault n anything (a .duid .now)) (at5 .own-need .ensures)))
 
 pub object-fault-spec : {M : Type 1} → statement M
 object-fault-spec =
@@ -52,6 +48,6 @@ object-fault-spec =
     fits-requires
     fits-requires-2
     first-of-requires
-    fits-requires-3
+    fits-text-requires
     first-of-requires-2
     returns)

@@ -10,11 +10,6 @@ use Rattle.builder_hfi.specs.HfiParts.{ownFault}
 use borrow.Author.Needs.{needs}
 use Rattle.builder_hfi.proofs.own_fault.Statement.{statement}
 use Rattle.builder_hfi.proofs.own_fault.Tie as tie
-use Rattle.builder_hfi.proofs.own_fault.Reads as reads
-use Rattle.builder_hfi.proofs.own_fault.Lts as lts
-use Rattle.builder_hfi.proofs.identity_fault.Reads as identity-fault-reads
-use Rattle.builder_hfi.proofs.info_fault.Reads as info-fault-reads
-use Rattle.builder_told.proofs.objects.first_of.Reads as first-of-reads
 
 info-fault-requires : tie.Need-info-fault-requires
 info-fault-requires c κs = search needs

@@ -4,9 +4,6 @@ use Rattle.builder_hfi.specs.HfiParts.{ownNeed}
 use borrow.Author.Needs.{needs}
 use Rattle.builder_hfi.proofs.own_need.Statement.{statement}
 use Rattle.builder_hfi.proofs.own_need.Tie as tie
-use Rattle.builder_hfi.proofs.own_need.Reads as reads
-use Rattle.builder_hfi.proofs.own_need.Lts as lts
-use Rattle.layout_needs.proofs.identity_need.Reads as identity-need-reads
 
 identity-need-requires : tie.Need-identity-need-requires
 identity-need-requires c κs = search needs

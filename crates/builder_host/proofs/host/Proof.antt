@@ -1,6 +1,7 @@
 use mathlib.Core.Path.{_≡_, refl, ap, _∙_}
 use lib.Dec.{lit≤}
 use Rattle.table.specs.declared.Need.the-variants.{Required}
+use Rattle.table.specs.Layout.{text}
 use Rattle.table.specs.FixedLayouts.{layoutOf, host}
 use Rattle.table.specs.Rules.{firstFail}
 use Rattle.table.specs.Builder.{Outcome}
@@ -8,7 +9,7 @@ use Rattle.laws.specs.Fields.{imageIn}
 use Rattle.builder_record.specs.Steps.{judgeTests}
 use Rattle.builder_record.proofs.LayLaws.{step-is}
 use Prim.Native.Nat.{ℕ}
-use Rattle.builder_told.specs.Faults.{objectFault}
+use Rattle.laws.specs.TextLaws.{toldFault}
 use Rattle.builder_host.proofs.Laws.{host-refused, host-passed, host-done}
 use borrow.Author.Needs.{needs}
 use Rattle.builder_host.proofs.host.Statement.{statement}
@@ -20,12 +21,12 @@ judged-is : (c : tie.After-judged) →
     c .judged .result
     ≡ firstFail (judgeTests (layoutOf 2) (start .args .state)
     (imageIn (layoutOf 2) (c .before .before .before .mark-32 .result) 0) 0
-    (objectFault Required (start .args .nqn .now)))
+    (toldFault Required text (start .args .nqn .now)))
 judged-is c =
     let start = c .before .before .before .before .before .before .before .before in
     c .judged .ensures
     ∙ ap (λ (f : ℕ). firstFail (judgeTests (layoutOf 2) (start .args .state)
-    (imageIn (layoutOf 2) (c .before .before .before .mark-32 .result) 0) 0 f)) (c .before .fits2 .ensures)
+    (imageIn (layoutOf 2) (c .before .before .before .mark-32 .result) 0) 0 f)) (c .before .fits-text .ensures)
 
 cast-mark-32 : tie.Need-cast-mark-32
 cast-mark-32 c = search needs
@@ -37,8 +38,8 @@ mark-32-requires c κs = (refl, refl)
 slice-aggregate-judged : tie.Need-slice-aggregate-judged
 slice-aggregate-judged c = search needs
 
-fits-requires : tie.Need-fits-requires
-fits-requires c κs = search needs
+fits-text-requires : tie.Need-fits-text-requires
+fits-text-requires c κs = search needs
 
 judged-requires : tie.Need-judged-requires
 unfolding layoutOf host
@@ -97,7 +98,7 @@ host-spec =
     cast-mark-32
     mark-32-requires
     slice-aggregate-judged
-    fits-requires
+    fits-text-requires
     judged-requires
     refused-requires
     returns

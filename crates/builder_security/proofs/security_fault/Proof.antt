@@ -1,8 +1,9 @@
 use mathlib.Core.Path.{ap, ap₂, _∙_}
 use Prim.Native.Nat.{ℕ}
 use Rattle.table.specs.declared.Need.{Need}
+use Rattle.table.specs.Layout.{anything}
 use Rattle.table.specs.Rules.{firstOf}
-use Rattle.builder_told.specs.Faults.{objectFault}
+use Rattle.laws.specs.TextLaws.{toldFault}
 use borrow.Author.Needs.{needs}
 use Rattle.builder_security.proofs.security_fault.Statement.{statement}
 use Rattle.builder_security.proofs.security_fault.Tie as tie
@@ -67,21 +68,21 @@ returns c =
     let start = at16 .before .before .before .before .before .before .before .before in
     c .first-of5 .ensures
     ∙ ap₂ (λ (x y : ℕ). firstOf x y) (at4 .fits6 .ensures
-    ∙ ap (λ (n : Need). objectFault n (start .args .algorithms .now)) (at4 .before .security-need5 .ensures))
+    ∙ ap (λ (n : Need). toldFault n anything (start .args .algorithms .now)) (at4 .before .security-need5 .ensures))
     (c .before .first-of4 .ensures
     ∙ ap₂ (λ (x y : ℕ). firstOf x y) (c .before .before .fits7 .ensures
-    ∙ ap (λ (n : Need). objectFault n (start .args .protocols .now))
+    ∙ ap (λ (n : Need). toldFault n anything (start .args .protocols .now))
     (c .before .before .before .security-need6 .ensures)) (at4 .before .before .first-of3 .ensures
     ∙ ap₂ (λ (x y : ℕ). firstOf x y) (at4 .before .before .before .fits5 .ensures
-    ∙ ap (λ (n : Need). objectFault n (start .args .ciphers .now)) (at8 .security-need4 .ensures))
+    ∙ ap (λ (n : Need). toldFault n anything (start .args .ciphers .now)) (at8 .security-need4 .ensures))
     (at8 .before .first-of2 .ensures
     ∙ ap₂ (λ (x y : ℕ). firstOf x y) (at8 .before .before .fits4 .ensures
-    ∙ ap (λ (n : Need). objectFault n (start .args .groups .now)) (at8 .before .before .before .security-need3 .ensures))
+    ∙ ap (λ (n : Need). toldFault n anything (start .args .groups .now)) (at8 .before .before .before .security-need3 .ensures))
     (at12 .first-of .ensures
     ∙ ap₂ (λ (x y : ℕ). firstOf x y) (at12 .before .before .before .fits2 .ensures
-    ∙ ap (λ (n : Need). objectFault n (start .args .hashes .now)) (at16 .security-need .ensures))
+    ∙ ap (λ (n : Need). toldFault n anything (start .args .hashes .now)) (at16 .security-need .ensures))
     (at12 .before .fits3 .ensures
-    ∙ ap (λ (n : Need). objectFault n (start .args .keypath .now)) (at12 .before .before .security-need2 .ensures))))))
+    ∙ ap (λ (n : Need). toldFault n anything (start .args .keypath .now)) (at12 .before .before .security-need2 .ensures))))))
 
 pub security-fault-spec : {M : Type 1} → statement M
 security-fault-spec =

@@ -2,11 +2,9 @@ use Rattle.reader_rules.proofs.HeapLaws.{extended-off, extended-no, ext
 use Rattle.table.specs.FixedLayouts.{extended}
 use borrow.Author.Tests.{eq-eqb, ne-eqb}
 use Prim.Native.Nat.{_+_}
-use Rattle.reader_heap_records.specs.HeapRecords.{spot}
+use Rattle.reader_heap_records.specs.HeapRecords.{flatPart}
 use Rattle.reader_references.proofs.Laws.{part-none, part-some, part-yes}
-use Rattle.laws.specs.RefWalk.{partRule}
-use Rattle.table.specs.Layout.{region, referenceAt}
-use lib.ListN.{length}
+use Rattle.table.specs.Layout.{referenceAt}
 use mathlib.Core.List.{[]}
 use mathlib.Core.Path.{ap, sym, _∙_}
 use borrow.Author.Needs.{needs}
@@ -47,8 +45,8 @@ returns-3 c =
     let r = part-some (s .args .heap .now) (s .args .from) (x .at) (x .len)
     (rw (at2 .part-at .ensures) at (c .before .if2 .left)) in
     c .extended-fault .ensures
-    ∙ ap (partRule (region (s .args .from) (length (s .args .heap .now))) (spot (s .args .position)) (extended .shape)
-    (extended .refs) []) (at2 .part-at .ensures ∙ sym (part-yes (s .args .heap .now) (s .args .from) (x .at) (x .len) r))
+    ∙ ap (flatPart (s .args .heap .now) (s .args .from) (s .args .position) (extended .shape) (extended .refs) []) (at2 .part-at .ensures ∙ sym (part-yes (s .args .heap .now) (s .args
+    .from) (x .at) (x .len) r))
     ∙ extended-yes (s .args .t .now) (s .args .heap .now) (s .args .from) (s .args .a) (s .args .position) (s .pre .1)
     (ne-eqb _ 0 (rw (at2 .before .before .ssns-flags .ensures) at (at2 .before .if1 .left))) r
 

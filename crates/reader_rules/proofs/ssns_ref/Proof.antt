@@ -1,5 +1,8 @@
-use lib.ListN.{length}
-use Rattle.table.specs.Layout.{region}
+use mathlib.Core.Path.{ap, _∙_}
+use Prim.Native.Nat.{ℕ, _+_}
+use Rattle.table.specs.Layout.{referenceAt}
+use Rattle.layout_needs.specs.Needs.{ssnsNeed}
+use Rattle.reader_references.proofs.Laws.{as-text, as-bytes}
 use borrow.Author.Tests.{ne-eqb}
 use Rattle.reader_rules.proofs.HeapLaws.{ssns-plain}
 use borrow.Author.Needs.{needs}
@@ -12,24 +15,44 @@ extended-ref-requires c κs = search needs
 returns : tie.Need-returns
 returns c = rw (c .before .if1 .taken) (c .extended-ref .ensures)
 
-add-plain-fault : tie.Need-add-plain-fault
-add-plain-fault c = search needs
-
 ssns-flags-requires : tie.Need-ssns-flags-requires
 ssns-flags-requires c κs = search needs
 
 ssns-need-requires : tie.Need-ssns-need-requires
 ssns-need-requires c κs = search needs
 
-plain-fault-requires : tie.Need-plain-fault-requires
-plain-fault-requires c κs = search needs
+holds-text-requires : tie.Need-holds-text-requires
+holds-text-requires c κs = search needs
+
+add-text-fault : tie.Need-add-text-fault
+add-text-fault c = search needs
+
+text-fault-requires : tie.Need-text-fault-requires
+text-fault-requires c κs = search needs
 
 returns-2 : tie.Need-returns-2
 returns-2 c =
-    let start = c .before .before .before .before .before .before in
-    rw (← ssns-plain (region (start .args .from) (length (start .args .heap .now))) (start .args .t .now)
-    (start .args .a) (start .args .position) (start .args .off) (ne-eqb _ 60 (c .before .before .before .if1 .left)))
-    (cc)
+    let start = c .before .before .before .before .before .before .before .before in
+    let a = start .args in
+    let need = c .before .before .before .ssns-need .ensures ∙ ap (λ (f : ℕ). ssnsNeed f (a .off)) (c .before .before .before .before .ssns-flags .ensures) in
+    as-text _ _ _ _ (a .heap .now) (a .from) (referenceAt (a .t .now) (a .a + a .off)) (c .text-fault .result) need (c .before .before .holds-text .ensures)
+    (c .before .if2 .taken) (c .text-fault .ensures)
+    ∙ ssns-plain (a .t .now) (a .heap .now) (a .from) (a .a) (a .position) (start .pre .2) (a .off) (ne-eqb _ 60 (c .before .before .before .before .before .if1 .left))
+
+add-plain-fault : tie.Need-add-plain-fault
+add-plain-fault c = search needs
+
+plain-fault-requires : tie.Need-plain-fault-requires
+plain-fault-requires c κs = search needs
+
+returns-3 : tie.Need-returns-3
+returns-3 c =
+    let start = c .before .before .before .before .before .before .before .before in
+    let a = start .args in
+    let need = c .before .before .before .ssns-need .ensures ∙ ap (λ (f : ℕ). ssnsNeed f (a .off)) (c .before .before .before .before .ssns-flags .ensures) in
+    as-bytes _ _ _ _ (a .heap .now) (a .from) (referenceAt (a .t .now) (a .a + a .off)) (c .plain-fault .result) need (c .before .before .holds-text .ensures)
+    (c .before .if2 .left) (c .plain-fault .ensures)
+    ∙ ssns-plain (a .t .now) (a .heap .now) (a .from) (a .a) (a .position) (start .pre .2) (a .off) (ne-eqb _ 60 (c .before .before .before .before .before .if1 .left))
 
 pub ssns-ref-spec : {M : Type 1} → statement M
 ssns-ref-spec =
@@ -37,8 +60,12 @@ ssns-ref-spec =
     (tie.spec
     extended-ref-requires
     returns
-    add-plain-fault
     ssns-flags-requires
     ssns-need-requires
+    holds-text-requires
+    add-text-fault
+    text-fault-requires
+    returns-2
+    add-plain-fault
     plain-fault-requires
-    returns-2)
+    returns-3)

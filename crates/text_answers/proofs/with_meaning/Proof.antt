@@ -127,6 +127,12 @@ slice-aggregate-with-bytes-17 c = search needs
 with-bytes-requires-17 : tie.Need-with-bytes-requires-17
 with-bytes-requires-17 c κs = search needs
 
+slice-aggregate-with-bytes-18 : tie.Need-slice-aggregate-with-bytes-18
+slice-aggregate-with-bytes-18 c = search needs
+
+with-bytes-requires-18 : tie.Need-with-bytes-requires-18
+with-bytes-requires-18 c κs = search needs
+
 returns : tie.Need-returns
 unfolding meaningOf
 returns c = (omega arith, c .with-bytes .ensures .1, rw (c .before .before .match .keys1) (c .with-bytes .ensures .2))
@@ -201,7 +207,11 @@ returns-18 c = (omega arith, c .with-limit2 .ensures .1, rw (c .before .before .
 
 returns-19 : tie.Need-returns-19
 unfolding meaningOf
-returns-19 c = (omega arith, c .with-bytes17 .ensures .1, search (picks, c .with-bytes17 .ensures .2))
+returns-19 c = (omega arith, c .with-bytes17 .ensures .1, rw (c .before .before .match .keys19) (c .with-bytes17 .ensures .2))
+
+returns-20 : tie.Need-returns-20
+unfolding meaningOf
+returns-20 c = (omega arith, c .with-bytes18 .ensures .1, search (picks, c .with-bytes18 .ensures .2))
 
 pub with-meaning-spec : {M : Type 1} → statement M
 with-meaning-spec =
@@ -247,6 +257,8 @@ with-meaning-spec =
     with-limit-requires-2
     slice-aggregate-with-bytes-17
     with-bytes-requires-17
+    slice-aggregate-with-bytes-18
+    with-bytes-requires-18
     returns
     returns-2
     returns-3
@@ -265,4 +277,5 @@ with-meaning-spec =
     returns-16
     returns-17
     returns-18
-    returns-19)
+    returns-19
+    returns-20)

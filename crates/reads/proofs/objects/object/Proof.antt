@@ -1,5 +1,5 @@
 use Rattle.reads_seats.proofs.ObjectLaws.{accepted}
-use Rattle.reads_seats.specs.Objects.{objectIn}
+use Rattle.reads_seats.specs.Objects.{handedIn}
 use Rattle.table.specs.Reads.{readObject, readPlace}
 use Rattle.table.specs.Numbers.{check}
 use Rattle.table.specs.declared.Answer.{Answer}
@@ -25,7 +25,7 @@ object-in-requires : tie.Need-object-in-requires
 object-in-requires c κs = accepted (c .before .before .before .before .args .t .now) (sym (ap (λ (x : Answer). x .number) (c .before .before .check .ensures)) ∙ c .if1 .left)
 
 returns-2 : tie.Need-returns-2
-unfolding readObject readPlace objectIn
+unfolding readObject readPlace handedIn
 returns-2 c = let t = c .before .before .before .before .before .args .t .now in let e = ap (λ (x : Answer). x .number) (c .before .before .before .check .ensures) in
     let n = eq-eqb (check t .number) 0 (sym e ∙ c .before .if1 .left) in
     (rw n (c .object-in .ensures .0), c .object-in .ensures .1, rw n (c .object-in .ensures .2))

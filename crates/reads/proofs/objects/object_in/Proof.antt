@@ -1,23 +1,33 @@
-use Rattle.reads_seats.proofs.ObjectLaws.{absent-start, seat-heap}
-use Rattle.reads_seats.proofs.SeatLaws.{seats-good}
-use Rattle.reads_seats.specs.Objects.{objectIn}
-use Rattle.table.specs.Reads.{seatOf}
+use mathlib.Core.Path.{_∙_}
+use native.Mathlib.Omega.{arith}
+use Rattle.reads.proofs.HandedLaws.{handed-at, handed-bytes}
 use borrow.Author.Needs.{needs}
 use Rattle.reads.proofs.objects.object_in.Statement.{statement}
 use Rattle.reads.proofs.objects.object_in.Tie as tie
 
-place-in-requires : tie.Need-place-in-requires
-place-in-requires c κs = search needs
+whole-object-requires : tie.Need-whole-object-requires
+whole-object-requires c κs = search needs
 
-heap-part-requires : tie.Need-heap-part-requires
-heap-part-requires c κs = let s = c .before .before in let a = s .args in let t = a .t .now in
-    (s .pre, rw (c .place-in .ensures) (seat-heap t (s .pre) (a .off) (a .kind) (seatOf t (a .kind) (a .position)) (seats-good t (s .pre) (a .position) (a .kind))))
+handed-len-requires : tie.Need-handed-len-requires
+handed-len-requires c κs = search needs
+
+part-of-requires : tie.Need-part-of-requires
+part-of-requires c κs = search needs
 
 returns : tie.Need-returns
-unfolding objectIn
-returns c = let s = c .before .before .before in let a = s .args in
-    let e = absent-start (a .t .now) (a .off) (seatOf (a .t .now) (a .kind) (a .position)) in
-    (rw (← c .before .place-in .ensures) (c .heap-part .ensures .0), c .heap-part .ensures .1, rw (← e, ← c .before .place-in .ensures) (c .heap-part .ensures .2))
+returns c =
+    let s = c .before .before .before .before in
+    let a = s .args in
+    let w = c .before .before .whole-object in
+    let h = c .before .handed-len .ensures in
+    let p = c .part-of .ensures in
+    let e = handed-at (a .t .now) (s .pre) (a .kind) (a .position) (a .off) in (
+      handed-bytes (a .t .now) (s .pre) (a .kind) (a .position) (a .off) (w .result .now) (c .part-of .result .now) (c .before .handed-len .result)
+          (w .ensures .0) (h .0) (h .1) (p .0),
+      p .1 ∙ w .ensures .1,
+      omega (arith, p .2, w .ensures .2, e),
+    )
 
 pub object-in-spec : {M : Type 1} → statement M
-object-in-spec = tie.close (tie.spec place-in-requires heap-part-requires returns)
+object-in-spec =
+    tie.close (tie.spec whole-object-requires handed-len-requires part-of-requires returns)

@@ -2,7 +2,7 @@ use Rattle.reads_by_seat.proofs.ObjectLaws.{own-start}
 use Rattle.reads_seats.proofs.ObjectLaws.{plain-fits, seat-heap}
 use Rattle.reads_seats.proofs.SeatLaws.{standing}
 use Rattle.reads_seats.proofs.OwnLaws.{own-long}
-use Rattle.table.specs.Reads.{seat, placeAt}
+use Rattle.table.specs.Reads.{seat, wholeAt}
 use Rattle.table.specs.FixedLayouts.{layoutOf}
 use Rattle.table.specs.Layout.{referenceAt}
 use Rattle.table.specs.Bytes.{part}
@@ -17,7 +17,7 @@ use Rattle.reads_by_seat.proofs.objects.object_bytes.Statement.{stateme
 use Rattle.reads_by_seat.proofs.objects.object_bytes.Tie as tie
 
 -- the object starts where its reference says
-start : (c : tie.After-reference-at) → let a = c .before .before .before .args in c .reference-at .result .at ≡ placeAt (a .t .now) (a .offset) (seat (layoutOf (a .kind)) (a .at) true) .at
+start : (c : tie.After-reference-at) → let a = c .before .before .before .args in c .reference-at .result .at ≡ wholeAt (a .t .now) (a .offset) (seat (layoutOf (a .kind)) (a .at) true) .at
 start c = let s = c .before .before .before in let a = s .args in
     ap (λ (r : Region). r .at) (c .reference-at .ensures .0)
     ∙ ap (λ (x : List ℕ). referenceAt x (a .offset) .at) (c .before .record-at .ensures)

@@ -1,5 +1,5 @@
-use Rattle.reads_seats.proofs.OwnLaws.{own-long, placeAt-own}
-use Rattle.table.specs.Reads.{seat, placeAt}
+use Rattle.reads_seats.proofs.OwnLaws.{own-long, wholeAt-own}
+use Rattle.table.specs.Reads.{seat, wholeAt}
 use Rattle.table.specs.FixedLayouts.{layoutOf}
 use Rattle.table.specs.Bytes.{part}
 use Rattle.table.specs.declared.Place.{Place}
@@ -30,8 +30,8 @@ returns c =
     let l = layoutOf (a .kind) in
     let e = c .before .part-of .ensures .0 ∙ ap (part t (a .at)) (c .before .before .base-size .ensures) in (
       c .named-len .ensures .0
-          ∙ ap (λ (x : List ℕ). placeAt x (a .offset) (seat l 0 true) .len) e
-          ∙ ap (λ (q : Place). q .len) (placeAt-own (a .kind) t (a .at) (a .offset) true),
+          ∙ ap (λ (x : List ℕ). wholeAt x (a .offset) (seat l 0 true) .len) e
+          ∙ ap (λ (q : Place). q .len) (wholeAt-own (a .kind) t (a .at) (a .offset) true),
       c .named-len .ensures .1,
     )
 

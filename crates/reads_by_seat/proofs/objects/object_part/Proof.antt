@@ -4,7 +4,7 @@ use Prim.Native.Nat.{ℕ}
 use native.Mathlib.Omega.{arith}
 use Rattle.table.specs.Bytes.{part}
 use Rattle.table.specs.FixedLayouts.{layoutOf}
-use Rattle.table.specs.Reads.{seat, placeAt}
+use Rattle.table.specs.Reads.{seat, wholeAt}
 use borrow.Author.Needs.{needs}
 use Rattle.reads_by_seat.proofs.objects.object_part.Statement.{statement}
 use Rattle.reads_by_seat.proofs.objects.object_part.Tie as tie
@@ -16,7 +16,7 @@ part-of-requires : tie.Need-part-of-requires
 part-of-requires c κs = search needs
 
 returns : tie.Need-returns
-returns c = let s = c .before .before .before .before in let a = s .args in let t = a .t .now in let l = layoutOf (a .kind) in let q = placeAt t (a .offset) (seat l (a .at) true) in
+returns c = let s = c .before .before .before .before in let a = s .args in let t = a .t .now in let l = layoutOf (a .kind) in let q = wholeAt t (a .offset) (seat l (a .at) true) in
     c .part-of .ensures .0 ∙ ap (λ (n : ℕ). part t (q .at) n) (sym (c .before .if1 .taken) ∙ c .before .before .object-len .ensures .0)
 
 object-bytes-requires : tie.Need-object-bytes-requires

@@ -8,7 +8,7 @@ use native.Mathlib.Omega.{arith}
 use lib.ListN.{length, take}
 use Rattle.table.specs.Bytes.{part, total}
 use Rattle.table.specs.FixedLayouts.{layoutOf, header}
-use Rattle.table.specs.Reads.{seat, placeAt, hasPlain}
+use Rattle.table.specs.Reads.{seat, wholeAt, hasPlain}
 use Rattle.reader.proofs.AcceptedLaws.{laid}
 use Rattle.reads_seats.proofs.ObjectLaws.{seat-room}
 use Rattle.reads_seats.proofs.SeatLaws.{header-seated}
@@ -77,7 +77,7 @@ returns-3 c =
     let n = at4 .before .before .u32-at in
     let at = at4 .before .reference-at in
     let d = length (o .result .now) in
-    let q = placeAt t 44 (seat (layoutOf 0) 0 true) in
+    let q = wholeAt t 44 (seat (layoutOf 0) 0 true) in
     let g : hasPlain 44 (layoutOf 0 .refs) ≡ true = unfold layoutOf header in
     refl in let l : d ≡ q .len = ap length (o .ensures) ∙ part-long t (q .at) (q .len)
     (seat-room t ok 44 0 (seat (layoutOf 0) 0 true) (refl, header-seated t ok)) in let some : q .len ≡ 0 → ⊥ = λ e.

@@ -1,8 +1,8 @@
 use Rattle.table.specs.Reads.{noPlace}
 use mathlib.Core.Path.{sym, ap, _∙_}
 use borrow.Author.Needs.{needs}
-use Rattle.reads.proofs.objects.place_of.Statement.{statement}
-use Rattle.reads.proofs.objects.place_of.Tie as tie
+use Rattle.reads.proofs.objects.whole_of.Statement.{statement}
+use Rattle.reads.proofs.objects.whole_of.Tie as tie
 
 has-object-requires : tie.Need-has-object-requires
 has-object-requires c κs = search needs
@@ -22,8 +22,8 @@ no-place-requires c κs = search needs
 returns-2 : tie.Need-returns-2
 returns-2 c = rw (← c .before .before .before .has-object .ensures, c .before .before .if1 .left) (c .no-place .ensures ∙ ap noPlace (c .before .refuse .ensures))
 
-pub place-of-spec : {M : Type 1} → statement M
-place-of-spec =
+pub whole-of-spec : {M : Type 1} → statement M
+whole-of-spec =
     tie.close
     (tie.spec
     has-object-requires
