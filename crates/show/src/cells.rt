@@ -74,20 +74,16 @@ fn print_autoconfigured(f: Field, json: bool, width: usize) {
     print_flag(value_of(f) / 8 % 2 == 1, json, width);
 }
 
-// Whether an object is present: an empty text is, and its part is empty too.
-fn is_present(t: &[u8], kind: u8, n: usize, off: usize) -> bool
+// An object of bytes or a text, or none. An empty text is present, though its part is empty as that of none is.
+fn print_object(t: &[u8], kind: u8, n: usize, off: usize, json: bool, width: usize)
     requires { ⌜ Accepted (now t) ⌝ }
 {
-    let p = place_in(t, kind, n, off);
-    p.present
-}
-
-// An object of bytes or a text, or none.
-fn print_object(x: &[u8], present: bool, json: bool, width: usize) {
-    if !present {
+    let place = place_in(t, kind, n, off);
+    if !place.present {
         print_absent(json, width);
         return;
     }
+    let x = object_in(t, kind, n, off);
     if x.len() == 0 {
         print_empty(json, width);
         return;
@@ -130,12 +126,7 @@ pub fn print_cell(t: &[u8], n: usize, c: Column, json: bool)
             json,
             width,
         ),
-        Form::Object => print_object(
-            object_in(t, kind, n, off),
-            is_present(t, kind, n, off),
-            json,
-            width,
-        ),
+        Form::Object => print_object(t, kind, n, off, json, width),
         Form::AddressObject => print_address(object_in(t, kind, n, off), json, width),
         Form::DigitsObject => print_digits_object(object_in(t, kind, n, off), json, width),
         Form::Interfaces => print_interfaces(
