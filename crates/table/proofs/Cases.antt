@@ -1,4 +1,4 @@
--- Cases: what a check, a read, a rewrite or a call of the builder is given, and what it must give; whether the definitions compute just that. Assumes nothing.
+-- Cases: what a check, a read, a rewrite, a closing or a call of the builder is given, and what it must give; whether the definitions compute just that. Assumes nothing.
 use mathlib.Core.Bool.{Bool, true, false, not, _&&_}
 use mathlib.Core.List.{List, [], _∷_}
 use Prim.Native.Nat.{ℕ}
@@ -18,6 +18,7 @@ use Rattle.table.specs.Meaning.{limit, meaning, heapAt, heapLen, formLen
 use Rattle.table.specs.Numbers.{heapIn, regions, tests, driverRule, hostRule, records, check}
 use Rattle.table.specs.Reads.{seatOf, readRecord, readField, readPlace, readObject}
 use Rattle.table.specs.Rewriting.{rewriteAnswer, rewrite, rewriteBytes}
+use Rattle.table.specs.Closing.{sitesOf, sitesEntry, sitesList, sitesBody, sites, overlapped, marks, slid, moved, goes, stored, mended, closedHeap, closed, closeAnswer, closeMoved, closeBytes, closeMap}
 use Rattle.table.specs.Builder.{Outcome, sameState, recordsEnd, placeOf, next, waits, toldImage, toldSlots, slotsRule, nestsRight, fillAnswer, placed, fill, leave, opened, begin, sealed, finish}
 
 -- ---- check and form: a table's bytes, the answer that `check` must give, and the one form of an accepted table
@@ -135,6 +136,34 @@ fineRewrite c =
 abbrev pub allFineRewrites : List RewriteCase → Bool
 allFineRewrites [] = true
 allFineRewrites (c ∷ cs) = fineRewrite c && allFineRewrites cs
+
+-- ---- closing: the table and the map lent; the answer, the bytes moved, and the table and the map after
+
+pub record CloseCase : Type 0 where
+  pub table : List ℕ
+  pub lent : List ℕ
+  pub says : Answer
+  pub moves : ℕ
+  pub leaves : List ℕ
+  pub marked : List ℕ
+
+abbrev pub unclosed : List ℕ → List ℕ → ℕ → ℕ → ℕ → CloseCase
+unclosed t b n k i = record { table = t; lent = b; says = answer n k i; moves = 0; leaves = t; marked = b }
+
+abbrev pub shut : List ℕ → List ℕ → ℕ → List ℕ → List ℕ → CloseCase
+shut t b n t′ b′ = record { table = t; lent = b; says = done; moves = n; leaves = t′; marked = b′ }
+
+unfoldable pub fineClose : CloseCase → Bool
+unfolding sitesOf sitesEntry sitesList sitesBody sites overlapped marks slid moved goes stored mended closedHeap closed closeAnswer closeMoved closeBytes closeMap image isRight slotAt recAt header host info extended hfiExtended hfi ssns security discovery readSlots readEntry readList readBody usedAt usedIn countIn listRegions longEnough versioned refsRule usedRule entryRule listRule bodyRule limit meaning heapIn regions tests driverRule hostRule records check
+fineClose c =
+    let room = length (c .lent) in
+    sameAnswer (closeAnswer (c .table) room) (c .says)
+    && (eqb (closeMoved (c .table) room) (c .moves)
+    && (same (closeBytes (c .table) room) (c .leaves) && same (closeMap (c .table) (c .lent)) (c .marked)))
+
+abbrev pub allFineCloses : List CloseCase → Bool
+allFineCloses [] = true
+allFineCloses (c ∷ cs) = fineClose c && allFineCloses cs
 
 -- ---- the builder: the state, the buffer and the call; the answer, the state and the buffer after
 

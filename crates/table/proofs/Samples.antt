@@ -1,9 +1,9 @@
 -- Rules 9 (docs/RULES.md): K1 to K10, K12, K13 and further tables, shown of rules, meaning and the one form by one statement over one list; then reads,
--- rewrites and a short build. Assumes nothing.
+-- rewrites, closings and a short build. Assumes nothing.
 use mathlib.Core.Bool.{true}
 use mathlib.Core.List.{List, [], _∷_, _++_}
 use Prim.Native.Nat.{ℕ}
-use lib.ListN.{take, replicate}
+use lib.ListN.{take, drop, replicate}
 use lib.Dec.{T}
 use Rattle.table.specs.Bytes.{checksum, splice, Edit, edit, apply}
 use Rattle.table.specs.Builder.{empty}
@@ -27,6 +27,11 @@ use Rattle.table.proofs.Cases.{
   written,
   fineRewrite,
   allFineRewrites,
+  CloseCase,
+  unclosed,
+  shut,
+  fineClose,
+  allFineCloses,
   BuildCase,
   beginning,
   aHost,
@@ -353,6 +358,52 @@ rewriteSamples =
 pub rewrites-fine : T (allFineRewrites rewriteSamples)
 unfolding fineRewrite
 rewrites-fine = tt
+
+-- K1 with two bytes before its NQN
+abbrev holed : List Edit → List ℕ
+holed es = summed (apply (k1 ++ (0 ∷ 0 ∷ [])) (edit 4 (0xA4 ∷ []) ∷ edit 40 (4 ∷ []) ∷ edit 146 (0xA2 ∷ []) ∷ edit 160 (0xBE ∷ 0x5C ∷ 0x6E ∷ []) ∷ es))
+
+-- closed: Length stays, and the two bytes set free are zero
+abbrev filled : List Edit → List ℕ
+filled es = summed (apply (k1 ++ (0 ∷ 0 ∷ [])) (edit 4 (0xA4 ∷ []) ∷ es))
+
+-- three bytes before the heap of all levels of heap records, each object three bytes further
+abbrev pushed : List ℕ
+pushed =
+    summed
+    (apply (take 192 identity ++ (7 ∷ 8 ∷ 9 ∷ drop 192 identity))
+    (edit 4 (0x5E ∷ [])
+    ∷ edit 40 (0x9E ∷ [])
+    ∷ edit 146 (0xC3 ∷ [])
+    ∷ edit 176 (0xC5 ∷ [])
+    ∷ edit 301 (0x45 ∷ [])
+    ∷ edit 307 (0x47 ∷ [])
+    ∷ edit 335 (0x5B ∷ [])
+    ∷ edit 341 (0x5D ∷ [])
+    ∷ []))
+
+-- In order: K1, which has no hole; two bytes before its NQN, with a map of one byte and of two; the same where the driver signature shares a byte of it; no map; a
+-- refused table; a hole before all levels of heap records, with a map that is longer than it need be; references that are ignored mark nothing and stay; text
+-- inside a heap record, with a map that is too short and one that is not; a heap record whose bytes beyond its own reach into the next object
+abbrev pub closeSamples : List CloseCase
+closeSamples =
+    shut k1 (0x82 ∷ []) 0 k1 (3 ∷ [])
+    ∷ shut (holed []) (14 ∷ []) 2 (filled []) (12 ∷ [])
+    ∷ shut (holed []) (7 ∷ 0xFF ∷ []) 2 (filled []) (12 ∷ 0 ∷ [])
+    ∷ shut (holed (edit 44 (0xA3 ∷ 0 ∷ 0 ∷ 0 ∷ 1 ∷ []) ∷ [])) (0 ∷ []) 2 (filled (edit 44 (0xA1 ∷ 0 ∷ 0 ∷ 0 ∷ 1 ∷ []) ∷ [])) (12 ∷ [])
+    ∷ unclosed (holed []) [] 14 0 0
+    ∷ unclosed (take 161 k1) [] 3 0 0
+    ∷ shut pushed (replicate 21 7) 155 (summed (apply (identity ++ (0 ∷ 0 ∷ 0 ∷ [])) (edit 4 (0x5E ∷ []) ∷ []))) (0xF8 ∷ (replicate 18 0xFF ++ (0x3F ∷ 0 ∷ [])))
+    ∷ shut (identityWith (edit 328 (1 ∷ []) ∷ [])) (replicate 20 0) 0 (identityWith (edit 40 (0x98 ∷ []) ∷ edit 328 (1 ∷ []) ∷ edit 344 (0 ∷ 0 ∷ 0 ∷ []) ∷ []))
+    (replicate 19 0xFF ++ (0 ∷ []))
+    ∷ unclosed (identityWith (edit 146 (0x46 ∷ 1 ∷ []) ∷ [])) (replicate 19 0) 14 0 0
+    ∷ unclosed (identityWith (edit 146 (0x46 ∷ 1 ∷ []) ∷ [])) (replicate 20 0) 19 0 0
+    ∷ unclosed (identityWith (edit 308 (21 ∷ []) ∷ [])) (replicate 20 0) 19 0 0
+    ∷ []
+
+pub closes-fine : T (allFineCloses closeSamples)
+unfolding fineClose
+closes-fine = tt
 
 -- K1 before it is finished: no Length, no checksum, no heap length
 abbrev unfinished : List ℕ

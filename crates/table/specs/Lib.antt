@@ -7,4 +7,5 @@ pub mod Meaning
 pub mod Numbers
 pub mod Reads
 pub mod Rewriting
+pub mod Closing
 pub mod Builder

@@ -1,0 +1,1 @@
+// Theorems about closing up the heap, of the definitions of table alone: they stand in specs/.
