@@ -9,7 +9,8 @@
 #   make bindings  the Rust crate over the library, bindings/rust, with its tests
 #   make readme   the examples of README.md, docs/DESCRIPTIONS.md and docs/SAMPLES.md run, and held to what stands there; after `make run`
 #   make soak     the library beside the second program for ten minutes; SECONDS=60 or CASES=1000000 for as long, SEED= for the same again
-#   make bench    time of a check, a read, a rewrite and a build, beside the second program's and a bare byte sum's
+#   make bench    time of a check, a read, a rewrite, a closing up of the heap and a build, beside the second program's and a bare byte sum's
+#   make worst    time of the closing that takes longest of those that we know
 #   make plot     time by the table's length, drawn to docs/performance.png (needs python3)
 #   make vectors  write the vectors, sample tables and cases anew
 #   make clean    remove what the others made
@@ -51,8 +52,8 @@ LINKED  := $(RUN) second/linked/target/$(X86)/release/linked
 
 PREFIX ?= /usr/local
 
-.PHONY: run test proofs compared second-tests comparisons compared-checks compared-reads compared-rewrites compared-builds library lib install \
-        examples bindings readme soak vectors clean second linked
+.PHONY: run test proofs compared second-tests comparisons compared-checks compared-reads compared-rewrites compared-closings compared-builds \
+        library lib install examples bindings readme soak vectors clean second linked
 
 # The programs are proved, then compiled: the first run takes some minutes.
 run:
@@ -109,7 +110,7 @@ second-tests: second
 	$(SECOND) cases check $(AGREED)
 
 # The library beside the second program, and as its users meet it.
-comparisons: compared-checks compared-reads compared-rewrites compared-builds examples bindings
+comparisons: compared-checks compared-reads compared-rewrites compared-closings compared-builds examples bindings
 
 compared-checks: linked
 	$(LINKED) compare 40000 1
@@ -119,6 +120,9 @@ compared-reads: linked
 
 compared-rewrites: linked
 	$(LINKED) rewrite 6000 3
+
+compared-closings: linked
+	$(LINKED) close 6000 5
 
 compared-builds: linked
 	$(LINKED) build 3000 4

@@ -1,7 +1,9 @@
 # The benchmark, run from the repository's top, whose Makefile includes this:
 #
-#   make bench           time of a sum, a check, a read, a rewrite and a build, beside the second program's and a bare byte sum's
+#   make bench           time of a sum, a check, a read, a rewrite, a closing up of the heap and a build, beside the second program's and a bare
+#                        byte sum's
 #   make bench SCALAR=1  the same without vector loops, as on a processor that has none: the library's module and the benchmark compiled so
+#   make worst           time of the closing that takes longest of those that we know
 #   make plot            time by the table's length, drawn to docs/performance.png (needs python3)
 
 # The library itself is timed where it can be: it is x86-64 code with vector loops. Elsewhere its module is, compiled for what is asked for;
@@ -19,10 +21,13 @@ NOVECT  := $(if $(SCALAR),RUSTFLAGS="-C no-vectorize-loops -C no-vectorize-slp")
 BENCHED := $(COMPILE) NBFT_LIB=$(CURDIR)/$(MODULE) NBFT_TIMED="$(NOT_IT)" $(NOVECT) $(CARGO) build
 endif
 
-.PHONY: bench benched plot
+.PHONY: bench benched worst plot
 
 bench: benched
 	$(BENCH)
+
+worst: benched
+	$(BENCH) worst
 
 plot: benched
 	$(BENCH) series > bench/target/series

@@ -67,6 +67,24 @@ impl<'a> Turns<'a> {
         }
     }
 
+    /// Closing up changes the table, so before each call it is copied anew, by either program.
+    pub fn compact(&mut self, table: &'a [u8]) -> Both {
+        let (mut lent, mut map) = (table.to_vec(), vec![0; table.len().div_ceil(8)]);
+        let (mut other, mut other_map) = (lent.clone(), map.clone());
+        assert_eq!(linked::compact(&mut lent, &mut map), second::compact(&mut other, &mut other_map));
+        assert!(lent == other && map == other_map && lent != table);
+        Both {
+            library: self.enter(move || {
+                lent.copy_from_slice(black_box(table));
+                linked::compact(black_box(&mut lent), black_box(&mut map))
+            }),
+            second: self.enter(move || {
+                other.copy_from_slice(black_box(table));
+                second::compact(black_box(&mut other), black_box(&mut other_map))
+            }),
+        }
+    }
+
     /// All calls from begin to finish, which build this table.
     pub fn build(&mut self, calls: &'a [Call], table: &[u8]) -> Both {
         let (mut output, mut other) = (vec![0; table.len()], vec![0; table.len()]);

@@ -14,8 +14,9 @@ use std::process::ExitCode;
 const HELP: &str = "\
 bench: times of the static library beside the second program
 
-  bench           sums, checks, a field read, rewrites and a build, each in a table
+  bench           sums, checks, a field read, rewrites, closings and a build, each in a table
   bench series    checks and rewrites by the table's length
+  bench worst     the closing that takes longest of those that we know
 ";
 
 fn main() -> ExitCode {
@@ -23,6 +24,7 @@ fn main() -> ExitCode {
     match words.iter().map(String::as_str).collect::<Vec<_>>()[..] {
         [] => report::print(),
         ["series"] => series::print(),
+        ["worst"] => report::print_worst(),
         _ => {
             eprint!("{HELP}");
             return ExitCode::FAILURE;

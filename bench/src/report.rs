@@ -1,8 +1,8 @@
-//! The benchmark's tables: a sum, a check, a field read, a rewrite and a build,
-//! each beside two more that it is held to.
+//! The benchmark's tables: a sum, a check, a field read, a rewrite, a closing up
+//! of the heap and a build, each beside two more that it is held to.
 
 use crate::stack;
-use crate::tables::{grown, long_heap, shared_text};
+use crate::tables::{all_marked, grown, long_heap, shared_text, with_a_hole};
 use crate::turns::{Timed, Times, Turns};
 use linked::builder::Run;
 use second::form;
@@ -55,6 +55,12 @@ fn rewrite_row<'a>(turns: &mut Turns<'a>, table: &'a [u8], check: &Row) -> Row {
     Row { timed: [rewrite.library, rewrite.second, check.timed[0]], ..*check }
 }
 
+/// Beside the check of the same table but for a byte.
+fn compact_row<'a>(turns: &mut Turns<'a>, table: &'a [u8], check: &Row) -> Row {
+    let compact = turns.compact(table);
+    Row { timed: [compact.library, compact.second, check.timed[0]], ..*check }
+}
+
 fn field_row<'a>(turns: &mut Turns<'a>, table: &'a [u8], check: &Row) -> Row {
     let field = turns.field(table);
     Row { timed: [field.library, field.second, check.timed[0]], ..*check }
@@ -73,13 +79,14 @@ fn print_table(call: &str, held_to: [&str; 2], rows: &[Row], times: &Times) {
     rows.iter().for_each(|row| row.print(times));
 }
 
-/// Bytes of stack that a check, a rewrite and a build take.
-fn stacks(table: &[u8], calls: &[Call]) -> [usize; 3] {
-    let mut output = vec![0; GREATEST_LENGTH];
+/// Bytes of stack that a check, a rewrite, a closing and a build take.
+fn stacks(table: &[u8], calls: &[Call]) -> [usize; 4] {
+    let (mut output, mut lent) = (vec![0; GREATEST_LENGTH], with_a_hole(table));
     let run = Run::of(calls);
     [
         stack::depth(|| linked::check(table)),
         stack::depth(|| linked::rewrite(table, &mut output)),
+        stack::depth(|| linked::compact(&mut lent, &mut output)),
         stack::depth(|| run.make(&mut output)),
     ]
 }
@@ -90,6 +97,7 @@ struct Report {
     checks: [Row; 7],
     field: Row,
     rewrites: [Row; 5],
+    closings: [Row; 4],
     build: Row,
 }
 
@@ -97,6 +105,7 @@ pub fn print() {
     let (smallest, typical, long) = (samples::smallest(), grown(1), long_heap(60_000));
     let (half, large, identity) = (grown(28), grown(56), form(&samples::dhcp()));
     let shared = shared_text(16, 40_000);
+    let holed = [&typical, &long, &half, &large].map(|table| with_a_hole(table));
     let calls = calls(&mut Random::seeded(1), &samples::machine());
     let mut turns = Turns::default();
     let checks = [
@@ -115,15 +124,27 @@ pub fn print() {
         field: field_row(&mut turns, &typical, &checks[1]),
         rewrites: [(&typical, 1), (&long, 2), (&half, 3), (&large, 4), (&identity, 5)]
             .map(|(table, check)| rewrite_row(&mut turns, table, &checks[check])),
+        closings: [0, 1, 2, 3].map(|place| compact_row(&mut turns, &holed[place], &checks[place + 1])),
         build: build_row(&mut turns, &calls, &typical, &checks[1]),
         checks,
     };
     report.print(&turns.take(ROUNDS), stacks(&large, &calls));
 }
 
+/// A closing takes so long here that fewer rounds must do.
+pub fn print_worst() {
+    let table = all_marked();
+    let mut turns = Turns::default();
+    let check = check_row(&mut turns, "all marked 1,531 times", &table);
+    let compact = compact_row(&mut turns, &table, &check);
+    let times = turns.take(ROUNDS / 50);
+    println!("timed: {}\n", env!("TIMED"));
+    print_table("closing", ["second", "check"], from_ref(&compact), &times);
+}
+
 impl Report {
-    fn print(&self, times: &Times, stacks: [usize; 3]) {
-        let Report { sums, checks, field, rewrites, build } = self;
+    fn print(&self, times: &Times, stacks: [usize; 4]) {
+        let Report { sums, checks, field, rewrites, closings, build } = self;
         println!("timed: {}\n", env!("TIMED"));
         print_table("sum", ["byte sum", "check"], sums, times);
         println!("to check: the part of a check that is the sum\n");
@@ -138,7 +159,11 @@ impl Report {
         println!("twice the table takes {:.2} times the time", rewrites[3].to(&rewrites[2], times));
         println!("a rewrite takes {} bytes of stack", stacks[1]);
         println!("targets: typical and 60 kB at most 3 to check; DHCP identity at most 1 to second; twice at most 2.2\n");
+        print_table("closing", ["second", "check"], closings, times);
+        println!("twice the table takes {:.2} times the time", closings[3].to(&closings[2], times));
+        println!("a closing takes {} bytes of stack", stacks[2]);
+        println!("targets: typical and 60 kB at most 1.5 to second\n");
         print_table("build", ["second", "byte sum"], from_ref(build), times);
-        println!("a build takes {} bytes of stack", stacks[2]);
+        println!("a build takes {} bytes of stack", stacks[3]);
     }
 }

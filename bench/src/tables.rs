@@ -1,7 +1,9 @@
 //! The tables that are timed.
 
 use second::damage::put_checksum_within_length;
+use second::frame::{DRIVER_SIGNATURE_AT, GREATEST_LENGTH};
 use second::text::Text;
+use second::wire::{put_reference, u16_at, u32_at};
 use second::{form, samples, Meaning};
 
 /// Bytes of the machine's table without a driver signature.
@@ -48,6 +50,34 @@ pub fn shared_text(times: usize, letters: usize) -> Vec<u8> {
     let first = 160 + 32 * interfaces + SUBSYSTEM_NAME;
     for name in (0..subsystems).map(|position| first + 128 * position) {
         table.copy_within(HOST_NAME..HOST_NAME + 6, name);
+    }
+    put_checksum_within_length(&mut table);
+    table
+}
+
+/// The table with a driver signature that begins one byte later. That is the first object of a form, so that every heap
+/// byte but the first, which nothing names any more, moves when the heap is closed up.
+pub fn with_a_hole(table: &[u8]) -> Vec<u8> {
+    let mut table = table.to_vec();
+    let (start, length) = (u32_at(&table, DRIVER_SIGNATURE_AT), u16_at(&table, DRIVER_SIGNATURE_AT + 4));
+    put_reference(&mut table, DRIVER_SIGNATURE_AT, start + 1, length - 1);
+    put_checksum_within_length(&mut table);
+    table
+}
+
+/// As many security records as there can be, each of whose objects is the heap but for its first byte, as the driver
+/// signature is, and the longest heap beside them: we know of no table that has more bytes to mark.
+pub fn all_marked() -> Vec<u8> {
+    let mut whole = samples::host_only();
+    whole.securities = vec![samples::machine().securities; 255].concat();
+    whole.driver_signature = Some(b"x".into());
+    whole.driver_signature = Some(vec![b'x'; GREATEST_LENGTH + 1 - form(&whole).len()].into());
+    let mut table = form(&whole);
+    let (heap, length, list) = (u32_at(&table, 36), u32_at(&table, 40), u32_at(&table, 96) as usize);
+    let fields = [6, 12, 18, 24, 30, 36];
+    let lists = (0..255).flat_map(|record| fields.map(|field| list + 64 * record + field));
+    for reference in lists.chain([DRIVER_SIGNATURE_AT]) {
+        put_reference(&mut table, reference, heap + 1, length as u16 - 1);
     }
     put_checksum_within_length(&mut table);
     table

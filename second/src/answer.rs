@@ -21,9 +21,10 @@ pub mod number {
     pub const NO_SUCH_FIELD: u8 = 16;
     pub const FORM_TOO_LONG: u8 = 17;
     pub const TEXT: u8 = 18;
+    pub const OVERLAP: u8 = 19;
 
     /// The greatest of them.
-    pub const LAST: u8 = TEXT;
+    pub const LAST: u8 = OVERLAP;
 }
 
 /// The kind of the header, in answers and in reads.

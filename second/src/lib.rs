@@ -2,11 +2,13 @@
 //!
 //! Tables are read into typed structs that can hold nothing but what a table
 //! says. The check is whether that reading succeeds, and the one form, the
-//! rewriter and the builder are all written from those structs.
+//! rewriter and the builder are all written from those structs. They also say
+//! which references of a table count, which is what closing its heap takes.
 
 pub mod answer;
 pub mod builder;
 pub mod cases;
+pub mod compact;
 pub mod damage;
 pub mod discovery;
 pub mod faults;
@@ -32,6 +34,7 @@ pub mod vectors;
 pub mod wire;
 
 pub use answer::Answer;
+pub use compact::compact;
 pub use form::{form, form_length, rewrite};
 pub use meaning::{check, meaning, Entry, Meaning};
 pub use read::{field, object, record, Field, Image};

@@ -74,7 +74,11 @@ pub struct Meaning<'a> {
 impl<'a> Meaning<'a> {
     /// The meaning of a good table, or the first fault of another.
     pub fn read(lent: &'a [u8]) -> Result<Meaning<'a>, Answer> {
-        let frame = Frame::read(lent)?;
+        Meaning::within(Frame::read(lent)?)
+    }
+
+    /// The same of a table whose frame is good.
+    pub fn within(frame: Frame<'a>) -> Result<Meaning<'a>, Answer> {
         let header = InTable {
             frame,
             record: frame.table,

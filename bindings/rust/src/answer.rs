@@ -3,9 +3,10 @@
 use core::error::Error;
 use core::fmt::{self, Display, Formatter};
 
-/// Why a call is refused: those of a check, then those of the other calls, then [`Number::Text`], which is of both. Up
-/// to [`Number::Version`] they are tested in this order; then record after record, of each its own fields, its
-/// references in turn, with the heap record or the text that one names, and its indexes.
+/// Why a call is refused: those of a check, then those of the other calls, then [`Number::Text`], which is of both, and
+/// [`Number::Overlap`], which is of [`compact`](crate::compact) alone. Up to [`Number::Version`] they are tested in this
+/// order; then record after record, of each its own fields, its references in turn, with the heap record or the text
+/// that one names, and its indexes.
 #[repr(u8)]
 #[derive(Clone, Copy, Debug, PartialEq, Eq, Hash)]
 pub enum Number {
@@ -35,7 +36,7 @@ pub enum Number {
     HeapRecord = 12,
     /// An index names no valid record.
     Index = 13,
-    /// The lent output is too short.
+    /// The lent output is too short, or the lent map has fewer bits than the heap has bytes.
     OutputTooShort = 14,
     /// A builder call out of turn, or an impossible builder state.
     OutOfTurn = 15,
@@ -45,11 +46,13 @@ pub enum Number {
     ResultTooLong = 17,
     /// A text does not end in its only zero byte; of a builder call, a text is told with a zero byte.
     Text = 18,
+    /// A heap record shares a byte with another object.
+    Overlap = 19,
 }
 
 impl Number {
     /// All numbers; each stands one place before the one that it is.
-    pub const ALL: [Number; 18] = [
+    pub const ALL: [Number; 19] = [
         Number::TooFewBytes,
         Number::Signature,
         Number::Length,
@@ -68,6 +71,7 @@ impl Number {
         Number::NoSuchField,
         Number::ResultTooLong,
         Number::Text,
+        Number::Overlap,
     ];
 
     /// What it means, in words.
@@ -91,6 +95,7 @@ impl Number {
             Number::NoSuchField => "no such kind, position or field",
             Number::ResultTooLong => "the output would pass 65536 bytes",
             Number::Text => "a text does not end in its only zero byte",
+            Number::Overlap => "a heap record shares a byte with another object",
         }
     }
 }
@@ -178,7 +183,7 @@ impl Display for Refusal {
 
 impl Error for Refusal {}
 
-/// Bits 0 to 7 are the number, 8 to 15 the kind, 16 to 31 the position. The library answers with no number above 18 and no
+/// Bits 0 to 7 are the number, 8 to 15 the kind, 16 to 31 the position. The library answers with no number above 19 and no
 /// kind above 6.
 pub(crate) fn answered(packed: u32) -> Result<(), Refusal> {
     let [number, kind, low, high] = packed.to_le_bytes();

@@ -1,4 +1,4 @@
-//! Check, read, rewrite and build NVMe boot firmware tables (NBFT).
+//! Check, read, rewrite, build and close up NVMe boot firmware tables (NBFT).
 //!
 //! The work is done by the static library `libnbft.a`, whose answers are proved: for any bytes a call ends, touches only
 //! what it is lent, and gives the answer that the definitions say. This crate adds slices, types and names to its
@@ -114,4 +114,44 @@ pub fn rewrite<'o>(table: &[u8], out: &'o mut [u8]) -> Result<&'o mut [u8], Refu
     let packed = unsafe { library::nbft_rewrite(table.as_ptr(), table.len(), out.as_mut_ptr(), out.len()) };
     answered(packed as u32)?;
     Ok(&mut out[..(packed >> 32) as usize])
+}
+
+/// Closes up the table's heap in place, and says how many of its bytes moved.
+///
+/// Bytes of the heap that no reference names are given up, and those that one names move down in the order in which they
+/// stand. What the table says stays as it is, and so do its Length, where the heap begins, and which bytes objects share.
+/// Lent bytes behind the table stay too.
+///
+/// `map` needs a bit for each byte of the heap: `table.len().div_ceil(8)` bytes are always enough. What it holds before
+/// means nothing. Afterwards bit n % 8, the lowest first, of byte n / 8 says whether a reference named heap byte n before
+/// the call; all further bits are 0.
+///
+/// A table that is not good is refused as by [`check`], then a map that is too short with [`Number::OutputTooShort`],
+/// then with [`Number::Overlap`] a table in which a heap record shares a byte with another object or heap record. A
+/// refused call changes neither table nor map.
+///
+/// ```
+/// # fn main() -> Result<(), nbft::Refusal> {
+/// # let mut buffer = [0; 256];
+/// # let mut builder = nbft::Builder::new(&mut buffer);
+/// # builder.begin(&[0; 26], nbft::Counts::default(), b"driver")?;
+/// # builder.host(&nbft::Host { record: &[0; 32], nqn: b"nqn.2014-08.org.example:host" })?;
+/// # let mut table = builder.finish()?.to_vec();
+/// // The driver signature, which stands first in the heap, is taken out of the table.
+/// table[44..50].fill(0);
+/// table[9] = 0;
+/// table[9] = table.iter().fold(0, |sum: u8, byte| sum.wrapping_sub(*byte));
+///
+/// let mut map = vec![0; table.len().div_ceil(8)];
+/// let moved = nbft::compact(&mut table, &mut map)?;
+/// assert_eq!(moved as usize, "nqn.2014-08.org.example:host".len() + 1);
+/// assert_eq!(nbft::check(&table), Ok(()));
+/// # Ok(())
+/// # }
+/// ```
+pub fn compact(table: &mut [u8], map: &mut [u8]) -> Result<u32, Refusal> {
+    // SAFETY: pointers and lengths are those of two slices, both of which the function may write.
+    let packed = unsafe { library::nbft_compact(table.as_mut_ptr(), table.len(), map.as_mut_ptr(), map.len()) };
+    answered(packed as u32)?;
+    Ok((packed >> 32) as u32)
 }

@@ -16,6 +16,7 @@ extern "C" {
     pub fn nbft_object(table: *const u8, length: usize, kind: u8, position: u16, offset: u32) -> u64;
     pub fn nbft_object_start(table: *const u8, length: usize, kind: u8, position: u16, offset: u32) -> u32;
     pub fn nbft_rewrite(table: *const u8, length: usize, out: *mut u8, room: usize) -> u64;
+    pub fn nbft_compact(table: *mut u8, length: usize, map: *mut u8, room: usize) -> u64;
     pub fn nbft_begin(
         state: *mut [u8; 16],
         out: *mut u8,

@@ -156,7 +156,7 @@ fn a_flipped_byte_under_a_right_checksum_is_judged_by_what_it_says() {
 #[test]
 fn every_number_has_its_code_and_its_words() {
     let codes: Vec<u8> = Number::ALL.iter().map(|number| *number as u8).collect();
-    assert_eq!(codes, (1..=18).collect::<Vec<u8>>());
+    assert_eq!(codes, (1..=19).collect::<Vec<u8>>());
     assert_eq!(plain(Number::Checksum).to_string(), "the checksum is wrong");
     let host = Refusal { number: Number::Version, kind: Kind::Host, position: 0 };
     assert_eq!(host.to_string(), "a version is wrong: host");

@@ -1,4 +1,4 @@
--- Nothing is lost in a packed number: equal numbers are of equal answers, and of equal lengths. Assumes nothing.
+-- Nothing is lost in a packed number: equal numbers are of equal answers, and of equal lengths and counts. Assumes nothing.
 use mathlib.Core.Path.{_≡_, refl}
 use mathlib.Core.Bool.{Bool, true, false}
 use Prim.Native.Nat.{ℕ, _+_, _*_, _^_, _<_}
@@ -8,7 +8,7 @@ use Rattle.table.specs.declared.Field.{Field}
 use Rattle.table.specs.declared.Place.{Place}
 use Rattle.table.specs.declared.Rewritten.{Rewritten}
 use Rattle.table.specs.Bytes.{pick}
-use Rattle.c_answers.specs.Packed.{packed, packedField, packedPlace, packedRewritten}
+use Rattle.c_answers.specs.Packed.{packed, packedField, packedPlace, packedRewritten, packedCompacted}
 
 -- numbers and kinds are bytes, and so is every position of a record
 abbrev pub Small : Answer → Type 0
@@ -31,6 +31,11 @@ above a b m n s t e = (packed-same a b s t (omega (arith, s, t, e)), omega (arit
 pub rewritten-same : (r q : Rewritten) → Small (r .answer) → Small (q .answer) → packedRewritten r ≡ packedRewritten q → (r .answer ≡ q .answer) × (r .len ≡ q .len)
 unfolding packedRewritten
 rewritten-same r q s t e = above (r .answer) (q .answer) (r .len) (q .len) s t e
+
+-- of a closing: the answer, and how many bytes moved
+pub compacted-same : (a b : Answer) (m n : ℕ) → Small a → Small b → packedCompacted a m ≡ packedCompacted b n → (a ≡ b) × (m ≡ n)
+unfolding packedCompacted
+compacted-same a b m n s t e = above a b m n s t e
 
 -- one bit, and what stands eight bits above it
 bits : (c d : Bool) (m n : ℕ) → pick c 1 0 + 256 * m ≡ pick d 1 0 + 256 * n → (c ≡ d) × (m ≡ n)

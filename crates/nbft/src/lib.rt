@@ -1,12 +1,14 @@
 // The C functions, and nothing else. include/nbft.h declares them.
 use c_answers::pack;
+use c_answers::pack_compacted;
 use c_answers::pack_rewritten;
 ghost use mathlib.Core.Path.{_≡_};
 ghost use lib.ListN.{length};
 ghost use Rattle.table.specs.Numbers.{check};
 ghost use Rattle.table.specs.Reads.{readField, readPlace};
 ghost use Rattle.table.specs.Rewriting.{rewrite, rewriteBytes};
-ghost use Rattle.c_answers.specs.Packed.{packed, packedField, packedPlace, packedRewritten, valueAfter};
+ghost use Rattle.table.specs.Closing.{closeAnswer, closeBytes, closeMap, closeMoved};
+ghost use Rattle.c_answers.specs.Packed.{packed, packedField, packedPlace, packedRewritten, packedCompacted, valueAfter};
 
 pub mod building; // the builder's calls
 
@@ -53,4 +55,14 @@ pub extern "C" fn nbft_rewrite(t: &[u8], out: &mut [u8]) -> u64
     ensures { λ r. ⌜ (r ≡ packedRewritten (rewrite (now (t .entry)) (length (now (out .entry))))) × (now (out .exit) ≡ rewriteBytes (now (t .entry)) (now (out .entry))) ⌝ }
 {
     pack_rewritten(rewriter::rewrite(t, out))
+}
+
+// The heap closed up in place; where refused, table and map stay as they were.
+#[no_mangle]
+pub extern "C" fn nbft_compact(t: &mut [u8], map: &mut [u8]) -> u64
+    ensures { λ r. ⌜ r ≡ packedCompacted (closeAnswer (now (t .entry)) (length (now (map .entry)))) (closeMoved (now (t .entry)) (length (now (map .entry)))) ⌝ }
+    ensures { λ r. ⌜ (now (t .exit) ≡ closeBytes (now (t .entry)) (length (now (map .entry)))) × (now (map .exit) ≡ closeMap (now (t .entry)) (now (map .entry))) ⌝ }
+{
+    let done = closer::compact(t, map);
+    pack_compacted(done.answer, done.moved)
 }

@@ -116,7 +116,8 @@ list-good t n k c l =
 -- ---- heap records
 
 -- the reference at r to a heap record: it is long enough, and its own references pass
-nest-passes : (t : List ℕ) (n : Need) (shape : Shape) (e : Env) (owner : List ℕ) (r inner : ℕ) → nestRule (heapIn t) n shape e owner t r inner ≡ 0 → (n ≡ Ignored → ⊥) → eqb (num t (r + 4) 2) 0 ≡ false
+pub nest-passes : (t : List ℕ) (n : Need) (shape : Shape) (e : Env) (owner : List ℕ) (r inner : ℕ)
+    → nestRule (heapIn t) n shape e owner t r inner ≡ 0 → (n ≡ Ignored → ⊥) → eqb (num t (r + 4) 2) 0 ≡ false
     → Inside (num t 36 4) (num t 40 4) (num t r 4) (num t (r + 4) 2) × (length (shape .keep) ≤ num t (r + 4) 2) × (inner ≡ 0)
 nest-passes t n shape e owner r inner z c some =
     let u = first-of (refRule (heapIn t) n (num t r 4) (num t (r + 4) 2)) (under n 0 behind) z in
@@ -140,11 +141,11 @@ nest-passes t n shape e owner r inner z c some =
 
 -- the references of a record that pass, one by one
 module _ (heap : Region) (e : Env) (t : List ℕ) (a : ℕ) (img : List ℕ) (p : ℕ) (need : List ℕ → Need) (rest : Refs) where
-  plain-rest : (content : Content) → refsRule heap e t a img (plain p need content rest) ≡ 0 → refsRule heap e t a img rest ≡ 0
+  pub plain-rest : (content : Content) → refsRule heap e t a img (plain p need content rest) ≡ 0 → refsRule heap e t a img rest ≡ 0
   unfolding refsRule
   plain-rest content z = first-of (plainRule heap (need img) content e t (a + p)) (refsRule heap e t a img rest) z .1
 
-  nest-first : (shape : Shape) (own : Refs) → refsRule heap e t a img (nest p need shape own rest) ≡ 0
+  pub nest-first : (shape : Shape) (own : Refs) → refsRule heap e t a img (nest p need shape own rest) ≡ 0
       → nestRule heap (need img) shape e img t (a + p) (refsRule heap e t (num t (a + p) 4) (image (shape .keep) (drop (num t (a + p) 4) t)) own) ≡ 0
   unfolding refsRule
   nest-first shape own z =

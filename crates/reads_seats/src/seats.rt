@@ -29,7 +29,7 @@ pub enum Seat {
 }
 
 // Whether the record of a kind with these bytes is used.
-fn is_used(bytes: &[u8], kind: u8) -> bool
+pub fn is_used(bytes: &[u8], kind: u8) -> bool
     requires { ⌜ (2 ≤ kind) × (kind ≤ 6) × (baseOf (layoutOf kind) ≤ length (now bytes)) ⌝ }
     ensures { λ r. ⌜ r ≡ isValid (layoutOf kind .shape) (imageIn (layoutOf kind) (now (bytes .entry)) 0) ⌝ }
 {
@@ -38,7 +38,7 @@ fn is_used(bytes: &[u8], kind: u8) -> bool
 }
 
 // A position of the list whose entry in the control record stands at `list`. Its records may be longer than their kind.
-fn list_seat(t: &[u8], kind: u8, list: usize, position: usize) -> Seat
+pub fn list_seat(t: &[u8], kind: u8, list: usize, position: usize) -> Seat
     requires { ⌜ (2 ≤ kind) × (kind ≤ 6) × (list + 8 ≤ length (now t)) × ListIn (now t) list (baseOf (layoutOf kind)) ⌝ }
     ensures { λ r. ⌜ (asSeat (layoutOf kind) r ≡ listSeat (layoutOf kind) (now (t .entry)) list position) × InTable (now (t .entry)) (baseOf (layoutOf kind)) r ⌝ }
 {

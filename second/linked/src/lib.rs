@@ -4,7 +4,9 @@ pub mod builder;
 pub mod builds;
 pub mod cases;
 pub mod checks;
+pub mod closings;
 pub mod guard;
+pub mod holes;
 pub mod long_forms;
 pub mod mischief;
 pub mod reads;
@@ -25,6 +27,7 @@ extern "C" {
     fn nbft_object(table: *const u8, length: usize, kind: u8, position: u16, offset: u32) -> u64;
     fn nbft_object_start(table: *const u8, length: usize, kind: u8, position: u16, offset: u32) -> u32;
     fn nbft_rewrite(table: *const u8, length: usize, output: *mut u8, room: usize) -> u64;
+    fn nbft_compact(table: *mut u8, length: usize, map: *mut u8, room: usize) -> u64;
 }
 
 /// What the static library answers to these bytes.
@@ -94,6 +97,26 @@ pub fn rewrite_into_nothing(lent: &[u8]) -> [(Answer, usize); 2] {
         // SAFETY: no byte of the output is lent, so the function writes none.
         let packed = unsafe { nbft_rewrite(table, lent.len(), place, 0) };
         (unpack(packed as u32), (packed >> 32) as usize)
+    })
+}
+
+/// What it answers when it closes up the table, and how many bytes of the heap it then moved.
+pub fn compact(table: &mut [u8], map: &mut [u8]) -> (Answer, usize) {
+    // SAFETY: pointers and lengths are two slices', which nothing else holds.
+    let packed = unsafe { nbft_compact(table.as_mut_ptr(), table.len(), map.as_mut_ptr(), map.len()) };
+    (unpack(packed as u32), (packed >> 32) as usize)
+}
+
+/// The same where the map has no bytes and stands where nothing can be written: at null, and at a place that dangles. A
+/// table without bytes stands there too. Beside what is given stands what is left of the table.
+pub fn compact_with_nothing(lent: &[u8]) -> [((Answer, usize), Vec<u8>); 2] {
+    let dangling: *mut u8 = NonNull::dangling().as_ptr();
+    [null_mut(), dangling].map(|place| {
+        let mut table = lent.to_vec();
+        let start = if table.is_empty() { place } else { table.as_mut_ptr() };
+        // SAFETY: no byte of the map is lent, so the function writes none there.
+        let packed = unsafe { nbft_compact(start, table.len(), place, 0) };
+        ((unpack(packed as u32), (packed >> 32) as usize), table)
     })
 }
 

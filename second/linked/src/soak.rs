@@ -2,7 +2,7 @@
 
 use crate::guard::Guarded;
 use crate::tally::Tally;
-use crate::{builder, builds, checks, reads, rewrites};
+use crate::{builder, builds, checks, closings, reads, rewrites};
 use std::time::{Duration, Instant, SystemTime, UNIX_EPOCH};
 
 /// When to stop: looked at behind every batch.
@@ -40,7 +40,7 @@ const fn batch(cases: &'static str, count: u64, compare: Compare) -> Batch {
 }
 
 /// A seed's batch is the one at its remainder, so that the seed alone says what was compared.
-const BATCHES: [Batch; 8] = [
+const BATCHES: [Batch; 10] = [
     batch("tables checked", 1000, |soak, count, seed| {
         checks::generated(count, seed, &mut soak.tally, checks::by_library)
     }),
@@ -49,6 +49,9 @@ const BATCHES: [Batch; 8] = [
     }),
     batch("tables rewritten", 200, |soak, count, seed| {
         rewrites::generated(count, seed, &mut soak.tally, rewrites::by_library)
+    }),
+    batch("tables closed up", 200, |soak, count, seed| {
+        closings::generated(count, seed, &mut soak.tally, closings::by_library)
     }),
     batch("builder's runs", 200, |soak, count, seed| {
         builds::generated(count, seed, &mut soak.tally, builder::by_library)
@@ -65,6 +68,12 @@ const BATCHES: [Batch; 8] = [
         let pages = &mut soak.pages;
         rewrites::generated(count, seed, &mut soak.tally, |table, output| {
             rewrites::by_library_in_pages(pages, table, output)
+        })
+    }),
+    batch("tables closed up between closed pages", 100, |soak, count, seed| {
+        let pages = &mut soak.pages;
+        closings::generated(count, seed, &mut soak.tally, |table, map| {
+            closings::by_library_in_pages(pages, table, map)
         })
     }),
     batch("builder's runs between closed pages", 100, |soak, count, seed| {
@@ -106,6 +115,7 @@ impl Soak {
     fn directed(&mut self) -> Result<(), String> {
         checks::known(checks::by_library)?;
         rewrites::directed(&mut self.tally, rewrites::by_library)?;
+        closings::directed(&mut self.tally, closings::by_library)?;
         builds::known(&mut self.tally, builder::by_library)
     }
 

@@ -133,6 +133,12 @@ slice-aggregate-with-bytes-18 c = search needs
 with-bytes-requires-18 : tie.Need-with-bytes-requires-18
 with-bytes-requires-18 c κs = search needs
 
+slice-aggregate-with-bytes-19 : tie.Need-slice-aggregate-with-bytes-19
+slice-aggregate-with-bytes-19 c = search needs
+
+with-bytes-requires-19 : tie.Need-with-bytes-requires-19
+with-bytes-requires-19 c κs = search needs
+
 returns : tie.Need-returns
 unfolding meaningOf
 returns c = (omega arith, c .with-bytes .ensures .1, rw (c .before .before .match .keys1) (c .with-bytes .ensures .2))
@@ -211,7 +217,11 @@ returns-19 c = (omega arith, c .with-bytes17 .ensures .1, rw (c .before .before 
 
 returns-20 : tie.Need-returns-20
 unfolding meaningOf
-returns-20 c = (omega arith, c .with-bytes18 .ensures .1, search (picks, c .with-bytes18 .ensures .2))
+returns-20 c = (omega arith, c .with-bytes18 .ensures .1, rw (c .before .before .match .keys20) (c .with-bytes18 .ensures .2))
+
+returns-21 : tie.Need-returns-21
+unfolding meaningOf
+returns-21 c = (omega arith, c .with-bytes19 .ensures .1, search (picks, c .with-bytes19 .ensures .2))
 
 pub with-meaning-spec : {M : Type 1} → statement M
 with-meaning-spec =
@@ -259,6 +269,8 @@ with-meaning-spec =
     with-bytes-requires-17
     slice-aggregate-with-bytes-18
     with-bytes-requires-18
+    slice-aggregate-with-bytes-19
+    with-bytes-requires-19
     returns
     returns-2
     returns-3
@@ -278,4 +290,5 @@ with-meaning-spec =
     returns-17
     returns-18
     returns-19
-    returns-20)
+    returns-20
+    returns-21)
