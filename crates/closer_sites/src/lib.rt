@@ -88,7 +88,7 @@ fn held_len(t: &[u8], kind: u8, at: usize, offset: usize) -> usize
     let seat = heap_record(t, kind, at);
     match seat {
         Seat::Nowhere => 0,
-        Seat::At { at: _, used: _ } => bytes_wire::u16_at(t, at + offset + 4),
+        Seat::At { at: _, used: _ } => bytes_wire::reference_at(t, at + offset).len,
     }
 }
 
@@ -97,7 +97,7 @@ fn named_at(t: &[u8], kind: u8, at: usize, next: usize, offset: usize) -> Named
     requires { ⌜ (at + baseOf (layoutOf kind) ≤ length (now t)) × (next < refCount kind) × (offset ≡ getD (offsets (layoutOf kind .refs)) next 0) ⌝ }
     ensures { λ r. ⌜ (r ≡ namedAt (now (t .entry)) kind at next) × (r .off < 4294967296) × (r .len < 65536) ⌝ }
 {
-    let off = bytes_wire::u32_at(t, at + offset);
+    let off = bytes_wire::reference_at(t, at + offset).at;
     if next < layout_kinds::object_count(kind) {
         return Named {
             at: at + offset,
@@ -142,7 +142,7 @@ fn to_host(t: &[u8]) -> Walk
     requires { ⌜ LaidOut (now t) ⌝ }
     ensures { λ r. ⌜ r ≡ hostOf (now (t .entry)) ⌝ }
 {
-    let at = bytes_wire::u32_at(t, Control::HOST);
+    let at = bytes_wire::reference_at(t, Control::HOST).at;
     let used = is_used(part_of(t, at, Host::SIZE), Host::ID);
     walk_of(Hfi::ID, 0, Host::ID, at, first_of(Host::ID, used))
 }

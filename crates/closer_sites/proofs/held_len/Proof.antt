@@ -1,6 +1,7 @@
 use mathlib.Core.Path.{sym, ap, _∙_}
 use Prim.Native.Nat.{ℕ, _+_}
 use lib.Dec.{lit<}
+use Rattle.table.specs.declared.Region.{Region}
 use Rattle.table.specs.Bytes.{num}
 use Rattle.reads_seats.specs.declared.seats.Seat.{Seat}
 use Rattle.reads_seats.specs.Seats.{nestAt}
@@ -12,7 +13,7 @@ use Rattle.closer_sites.proofs.held_len.Statement.{statement}
 use Rattle.closer_sites.proofs.held_len.Tie as tie
 use Rattle.closer_sites.proofs.held_len.Reads as reads
 use Rattle.closer_sites.proofs.held_len.Lts as lts
-use Rattle.bytes_wire.proofs.u16_at.Reads as u16-at-reads
+use Rattle.bytes_wire.proofs.reference_at.Reads as reference-at-reads
 use Rattle.reads_seats.proofs.seats.heap_record.Reads as heap-record-reads
 
 heap-record-requires : tie.Need-heap-record-requires
@@ -24,14 +25,11 @@ enum-told c = search needs
 enum-told-2 : tie.Need-enum-told-2
 enum-told-2 c = search needs
 
-add-u16-at : tie.Need-add-u16-at
-add-u16-at c = search needs
+add-reference-at : tie.Need-add-reference-at
+add-reference-at c = search needs
 
-add-u16-at-2 : tie.Need-add-u16-at-2
-add-u16-at-2 c = search needs
-
-u16-at-requires : tie.Need-u16-at-requires
-u16-at-requires c κs = search needs
+reference-at-requires : tie.Need-reference-at-requires
+reference-at-requires c κs = search needs
 
 returns : tie.Need-returns
 returns c =
@@ -49,12 +47,12 @@ returns-2 c =
     let s = c .before .before .before .before .before in
     let a = s .args in
     let n = num (a .t .now) (a .at + nestAt (a .kind) + 4) 2 in (
-      c .u16-at .ensures .0
+      ap (λ (r : Region). r .len) (c .reference-at .ensures .0)
           ∙ ap (λ (q : ℕ). num (a .t .now) (a .at + q + 4) 2) (s .pre .1)
           ∙ ap (λ (x : Seat). lenOf x n) (sym (c .before .enum-told2 .given .1) ∙ c .before .before .before .heap-record .ensures)
           ∙ held-len (a .t .now) (a .kind) (a .at)
           ∙ ap (lenAt (a .t .now) (a .kind) (a .at)) (sym (s .pre .1)),
-      c .u16-at .ensures .1,
+      c .reference-at .ensures .2,
     )
 
 pub held-len-spec : {M : Type 1} → statement M
@@ -64,8 +62,7 @@ held-len-spec =
     heap-record-requires
     enum-told
     enum-told-2
-    add-u16-at
-    add-u16-at-2
-    u16-at-requires
+    add-reference-at
+    reference-at-requires
     returns
     returns-2)
