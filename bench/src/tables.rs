@@ -1,10 +1,16 @@
 //! The tables that are timed.
 
+use second::compact::sites;
 use second::damage::put_checksum_within_length;
+use second::discovery::Discovery;
 use second::frame::{DRIVER_SIGNATURE_AT, GREATEST_LENGTH};
+use second::identity::{Client, Identity};
+use second::interface::{Addition, Interface};
+use second::record::Record;
+use second::security::{Policy, Security};
 use second::text::Text;
 use second::wire::{put_reference, u16_at, u32_at};
-use second::{form, samples, Meaning};
+use second::{form, samples, Entry, Meaning};
 
 /// Bytes of the machine's table without a driver signature.
 const UNSIGNED: usize = 1_296;
@@ -65,19 +71,48 @@ pub fn with_a_hole(table: &[u8]) -> Vec<u8> {
     table
 }
 
-/// As many security records as there can be, each of whose objects is the heap but for its first byte, as the driver
-/// signature is, and the longest heap beside them: we know of no table that has more bytes to mark.
-pub fn all_marked() -> Vec<u8> {
+/// An HFI with both of its heap records, and the objects of these as short as they can be.
+fn brief_interface() -> Interface<'static> {
+    let mut interface = samples::dhcp().interfaces[0].used().expect("the sample uses it").clone();
+    let client = Some(Client { iaid: b"x".into(), duid: b"x".into() });
+    let identity = Some(Identity { client });
+    interface.info.host_name = Some(Text::of(""));
+    interface.info.addition = Some(Addition { autoconfigured: false, identity });
+    interface
+}
+
+/// A security record with all of its six objects, as short as they can be.
+fn brief_security() -> Security<'static> {
+    let policy = || Some(Policy { origin: 1, list: b"x".into() });
+    Security {
+        authentication: 1,
+        channel: 1,
+        algorithms: policy(),
+        protocols: policy(),
+        ciphers: Some(b"x".into()),
+        groups: Some(b"x".into()),
+        hashes: Some(b"x".into()),
+        keypath: Some(b"x".into()),
+    }
+}
+
+/// As many HFIs as there can be, each with two heap records, as many security records, each with six objects, and
+/// discovery records in the room that is left. Every object is the heap's last byte, which is zero, and so a text too:
+/// each heap record is held to each site, and for nearly all of these the whole map is counted. We know of no table that
+/// takes longer to close up.
+pub fn most_sites() -> Vec<u8> {
     let mut whole = samples::host_only();
-    whole.securities = vec![samples::machine().securities; 255].concat();
-    whole.driver_signature = Some(b"x".into());
-    whole.driver_signature = Some(vec![b'x'; GREATEST_LENGTH + 1 - form(&whole).len()].into());
+    whole.interfaces = vec![Entry::Used(brief_interface()); 255];
+    whole.securities = vec![Entry::Used(brief_security()); 255];
+    let brief = Discovery { interface: 1, security: 0, address: Some(Text::of("")), name: Some(Text::of("")) };
+    let room = GREATEST_LENGTH - form(&whole).len();
+    whole.discoveries = vec![Entry::Used(brief); room / (Discovery::SIZE + 2)];
     let mut table = form(&whole);
-    let (heap, length, list) = (u32_at(&table, 36), u32_at(&table, 40), u32_at(&table, 96) as usize);
-    let fields = [6, 12, 18, 24, 30, 36];
-    let lists = (0..255).flat_map(|record| fields.map(|field| list + 64 * record + field));
-    for reference in lists.chain([DRIVER_SIGNATURE_AT]) {
-        put_reference(&mut table, reference, heap + 1, length as u16 - 1);
+    let last = u32_at(&table, 36) + u32_at(&table, 40) - 1;
+    for site in sites(&table).expect("a form is good") {
+        if !site.is_heap_record {
+            put_reference(&mut table, site.at, last, 1);
+        }
     }
     put_checksum_within_length(&mut table);
     table

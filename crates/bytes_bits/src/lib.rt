@@ -1,7 +1,7 @@
 // A map of bits in lent bytes: bit n is bit n mod 8, the lowest first, of byte n / 8.
 ghost use mathlib.Core.Path.{_≡_};
-ghost use Prim.Native.Nat.{_+_, _*_, _/_, _^_, _≤_, _<_};
-ghost use lib.ListN.{length};
+ghost use Prim.Native.Nat.{ℕ, _+_, _*_, _/_, _^_, _≤_, _<_};
+ghost use lib.ListN.{length, getD};
 ghost use lib.Count.{ones};
 ghost use Rattle.bytes_bits.specs.Bits.{bitAt, bitsBelow, withBit, withBits};
 
@@ -35,8 +35,8 @@ pub fn mark(map: &mut [u8], n: usize)
     }
 }
 
-// Sets the n bits from a on. The bound on their places keeps them from wrapping.
-pub fn mark_all(map: &mut [u8], a: usize, n: usize)
+// Sets the n bits from a on, one at a time.
+fn mark_each(map: &mut [u8], a: usize, n: usize)
     requires { ⌜ (a + n ≤ 8 * length (now map)) × (a + n ≤ 4294967295) ⌝ }
     ensures { λ r. ⌜ now (map .exit) ≡ withBits (now (map .entry)) a n ⌝ }
 {
@@ -45,6 +45,38 @@ pub fn mark_all(map: &mut [u8], a: usize, n: usize)
         mark(map, a + i);
         i += 1;
     }
+}
+
+// Sets all bits of count bytes, by plain stores that compile to one fill of memory.
+// It asks for a map of bytes, which each map is, since a loop that only stores is not told so.
+fn mark_bytes(map: &mut [u8], first: usize, count: usize)
+    requires { ⌜ (first + count ≤ length (now map)) × ((i : ℕ) → getD (now map) i 0 < 256) ⌝ }
+    ensures { λ r. ⌜ now (map .exit) ≡ withBits (now (map .entry)) (8 * first) (8 * count) ⌝ }
+{
+    let mut i: usize = 0;
+    while i < count {
+        map[first + i] = 255;
+        i += 1;
+    }
+}
+
+// Sets the n bits from a on: those before the first whole byte, the whole bytes, and those behind the last.
+// The bound on their places keeps them from wrapping.
+pub fn mark_all(map: &mut [u8], a: usize, n: usize)
+    requires { ⌜ (a + n ≤ 8 * length (now map)) × (a + n ≤ 4294967295) ⌝ }
+    ensures { λ r. ⌜ now (map .exit) ≡ withBits (now (map .entry)) a n ⌝ }
+{
+    // Fewer than eight bits may hold no whole byte, and may end before the next one starts.
+    if n < 8 {
+        mark_each(map, a, n);
+        return;
+    }
+    let before = (8 - a % 8) % 8;
+    let bytes = (n - before) / 8;
+    let behind = (n - before) % 8;
+    mark_each(map, a, before);
+    mark_bytes(map, (a + before) / 8, bytes);
+    mark_each(map, a + before + 8 * bytes, behind);
 }
 
 // How many bits of a byte are set. Half as wide as a place, so that twice as many fit a vector.
