@@ -2,6 +2,7 @@
 
 use crate::builds::{told, Outcome};
 use crate::guard::Guarded;
+use crate::margins::Margined;
 use crate::unpack;
 use second::retell::Call;
 use second::Answer;
@@ -124,45 +125,26 @@ impl Lent<'_> {
     }
 }
 
-/// Bytes before and behind state and output that are not lent, and what they hold.
-const MARGIN: usize = 64;
-const UNLENT: u8 = 0xA5;
-
-/// Bytes with a margin on either side.
-fn with_margins(bytes: &[u8]) -> Vec<u8> {
-    let mut around = vec![UNLENT; MARGIN + bytes.len() + MARGIN];
-    around[MARGIN..MARGIN + bytes.len()].copy_from_slice(bytes);
-    around
-}
-
-/// The bytes within the margins, if these are as they were.
-fn within_margins(mut around: Vec<u8>) -> Result<Vec<u8>, String> {
-    let end = around.len() - MARGIN;
-    if around[..MARGIN].iter().chain(&around[end..]).any(|byte| *byte != UNLENT) {
-        return Err("the library writes outside state and buffer".to_string());
-    }
-    around.truncate(end);
-    around.drain(..MARGIN);
-    Ok(around)
-}
-
 /// The library's call in this state, into a buffer that holds these bytes. What has no bytes is lent where nothing can
 /// be read or written: at null, or at a place that dangles where the buffer's length is odd.
 pub fn by_library(call: &Call, state: [u8; 16], buffer: &[u8]) -> Result<Outcome, String> {
     let nothing: *const u8 = if buffer.len() % 2 == 0 { null() } else { NonNull::dangling().as_ptr() };
     let place = |bytes: &[u8]| if bytes.is_empty() { nothing } else { bytes.as_ptr() };
-    let (mut state, mut out) = (with_margins(&state), with_margins(buffer));
+    let (mut state, mut out) = (Margined::new(&state), Margined::new(buffer));
     let copies: Vec<Vec<u8>> = told(call).iter().map(|part| part.to_vec()).collect();
-    let start = if buffer.is_empty() { nothing.cast_mut() } else { out[MARGIN..].as_mut_ptr() };
+    let start = if buffer.is_empty() { nothing.cast_mut() } else { out.within().as_mut_ptr() };
     let parts: Vec<(*const u8, usize)> = copies.iter().map(|copy| (place(copy), copy.len())).collect();
-    let lent = Lent { state: state[MARGIN..].as_mut_ptr(), out: (start, buffer.len()), told: &parts };
+    let lent = Lent { state: state.within().as_mut_ptr(), out: (start, buffer.len()), told: &parts };
     // SAFETY: pointers and lengths are those of vectors that nothing else holds, or no byte is lent.
     let answer = unpack(unsafe { lent.make(call) });
     if told(call) != copies {
         return Err("the library changes what it is told".to_string());
     }
-    let state = within_margins(state)?.try_into().expect("a state has sixteen bytes");
-    Ok(Outcome { answer, state, buffer: within_margins(out)? })
+    if !state.margins_stay() || !out.margins_stay() {
+        return Err("the library writes outside state and buffer".to_string());
+    }
+    let state = state.within().to_vec().try_into().expect("a state has sixteen bytes");
+    Ok(Outcome { answer, state, buffer: out.within().to_vec() })
 }
 
 /// As many as a call lends: state, output and at most seven parts.

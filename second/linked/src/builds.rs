@@ -2,9 +2,10 @@
 //! are compared. Buffers are full of noise, so that a byte shows whether it was written.
 
 use crate::cases::each;
-use crate::hex;
 use crate::mischief::any_call;
+use crate::noise::Noise;
 use crate::tally::Tally;
+use crate::{first_difference, hex};
 use second::random::Random;
 use second::retell::Call;
 use second::{Answer, State};
@@ -101,7 +102,7 @@ pub struct Comparison<'t, F> {
     make: F,
     pub random: Random,
     /// What buffers hold before they are lent is cut from this.
-    noise: Vec<u8>,
+    noise: Noise,
     tally: &'t mut Tally,
 }
 
@@ -111,7 +112,7 @@ pub const LONGEST_BUFFER: usize = 70_000;
 impl<'t, F: Make> Comparison<'t, F> {
     fn seeded(seed: u64, tally: &'t mut Tally, make: F) -> Comparison<'t, F> {
         let mut random = Random::seeded(seed);
-        let noise = random.bytes(LONGEST_BUFFER);
+        let noise = Noise::new(&mut random, LONGEST_BUFFER);
         Comparison { make, random, noise, tally }
     }
 
@@ -159,8 +160,7 @@ impl<'t, F: Make> Comparison<'t, F> {
 
     /// The empty state, and a buffer of noise.
     pub fn start(&mut self, length: usize) -> Kept {
-        let from = self.random.below(self.noise.len() - length + 1);
-        Kept { state: State::EMPTY, buffer: self.noise[from..from + length].to_vec() }
+        Kept { state: State::EMPTY, buffer: self.noise.cut(&mut self.random, length).to_vec() }
     }
 }
 
@@ -169,12 +169,8 @@ fn same(expected: &Outcome, given: &Outcome) -> Result<(), String> {
         return Ok(());
     }
     let told = |outcome: &Outcome| format!("{:?} and state {}", outcome.answer, hex(&outcome.state));
-    let mut buffers = given.buffer.iter().zip(&expected.buffer).enumerate();
-    let bytes = match buffers.find(|(_, (given, expected))| given != expected) {
-        Some((place, (given, expected))) => format!("; byte {place} of the buffer is {given:02X} and not {expected:02X}"),
-        None => String::new(),
-    };
-    Err(format!("the library gives {}, the second program {}{bytes}", told(given), told(expected)))
+    let in_buffer = first_difference("buffer", &given.buffer, &expected.buffer);
+    Err(format!("the library gives {}, the second program {}{in_buffer}", told(given), told(expected)))
 }
 
 /// A call with all that it was given, as a message shows it.

@@ -2,16 +2,15 @@
 //! it was written.
 
 use crate::cases::each;
-use crate::guard::Guarded;
+use crate::guard::{in_four_places, Guarded};
+use crate::margins::Margined;
+use crate::noise::Noise;
 use crate::tally::Tally;
-use crate::{hex, holes, long_forms, tables};
+use crate::{first_difference, hex, holes, long_forms, tables};
 use second::answer::number::{OUTPUT_TOO_SHORT, TOO_FEW_BYTES};
-use second::damage::outer_damage;
-use second::faults::damages;
 use second::frame::Frame;
-use second::goods::goods;
 use second::random::Random;
-use second::samples::{crowded, dhcp, known, machine, smallest};
+use second::samples::{crowded, smallest};
 use second::{form, Answer, Meaning};
 
 /// What closing gives, and every byte of table and map when it has ended.
@@ -23,31 +22,11 @@ pub struct Closing {
     map: Vec<u8>,
 }
 
-/// Bytes before and behind table and map that are not lent, and what they hold.
-const MARGIN: usize = 64;
-const UNLENT: u8 = 0xA5;
-
-/// Bytes with a margin on either side.
-fn with_margins(bytes: &[u8]) -> Vec<u8> {
-    [&[UNLENT; MARGIN], bytes, &[UNLENT; MARGIN]].concat()
-}
-
-/// The bytes within the margins.
-fn within(around: &mut [u8]) -> &mut [u8] {
-    let end = around.len() - MARGIN;
-    &mut around[MARGIN..end]
-}
-
-fn margins_stay(around: &[u8]) -> bool {
-    let end = around.len() - MARGIN;
-    around[..MARGIN].iter().chain(&around[end..]).all(|byte| *byte == UNLENT)
-}
-
 /// The library closes a table up, with a map that holds these bytes.
 pub fn by_library(table: &[u8], map: &[u8]) -> Result<Closing, String> {
-    let (mut table, mut map) = (with_margins(table), with_margins(map));
-    let closing = call(within(&mut table), within(&mut map));
-    if margins_stay(&table) && margins_stay(&map) {
+    let (mut table, mut map) = (Margined::new(table), Margined::new(map));
+    let closing = call(table.within(), map.within());
+    if table.margins_stay() && map.margins_stay() {
         Ok(closing)
     } else {
         Err("the library writes outside table and map".to_string())
@@ -56,16 +35,7 @@ pub fn by_library(table: &[u8], map: &[u8]) -> Result<Closing, String> {
 
 /// The same four times: table and map each end at, or start behind, a page that nothing may touch.
 pub fn by_library_in_pages(pages: &mut [Guarded; 2], table: &[u8], map: &[u8]) -> Result<Closing, String> {
-    let [table_pages, map_pages] = pages;
-    let ends_end = call(table_pages.ending(table), map_pages.ending(map));
-    let ends_start = call(table_pages.ending(table), map_pages.starting(map));
-    let starts_end = call(table_pages.starting(table), map_pages.ending(map));
-    let starts_start = call(table_pages.starting(table), map_pages.starting(map));
-    if [ends_start, starts_end, starts_start].iter().all(|other| *other == ends_end) {
-        Ok(ends_end)
-    } else {
-        Err("what the library does depends on the place".to_string())
-    }
+    in_four_places(pages, [table, map], "what the library does", |table, map| Ok(call(table, map)))
 }
 
 fn call(table: &mut [u8], map: &mut [u8]) -> Closing {
@@ -142,16 +112,9 @@ fn next(random: &mut Random) -> Vec<u8> {
     }
 }
 
-/// The samples, good tables that each show one thing, every damage of two tables, and long ones.
+/// Behind those that rewrites start from too: long ones, and one with two bytes before its name.
 fn directed_tables() -> Vec<Vec<u8>> {
-    let (good, with_clients) = (form(&machine()), form(&dhcp()));
-    let mut samples = known();
-    samples.extend(goods());
-    for table in [&good, &with_clients] {
-        samples.extend(damages(table).iter().map(|damage| damage.apply(table)));
-    }
-    samples.extend(outer_damage(&good));
-    let mut tables: Vec<Vec<u8>> = samples.into_iter().map(|sample| sample.table).collect();
+    let mut tables = tables::directed();
     tables.extend([form(&crowded(96)), form(&crowded(95)), long_forms::far_too_long()]);
     tables.push(holes::two_bytes_before_the_name());
     tables
@@ -162,7 +125,7 @@ struct Comparison<'t, F> {
     close: F,
     random: Random,
     /// What maps hold before they are lent is cut from this.
-    noise: Vec<u8>,
+    noise: Noise,
     tally: &'t mut Tally,
 }
 
@@ -172,7 +135,7 @@ const LONGEST_MAP: usize = 70_000;
 impl<'t, F: Make> Comparison<'t, F> {
     fn seeded(seed: u64, tally: &'t mut Tally, close: F) -> Comparison<'t, F> {
         let mut random = Random::seeded(seed);
-        let noise = random.bytes(LONGEST_MAP);
+        let noise = Noise::new(&mut random, LONGEST_MAP);
         Comparison { close, random, noise, tally }
     }
 
@@ -229,23 +192,13 @@ impl<'t, F: Make> Comparison<'t, F> {
 
     /// Both programs close up a table with a map of this length.
     fn call_both(&mut self, table: &[u8], room: usize) -> Result<Closing, String> {
-        let start = self.random.below(self.noise.len() - room + 1);
-        let map = &self.noise[start..start + room];
+        let map = self.noise.cut(&mut self.random, room);
         let expected = by_second(table, map);
         let given = (self.close)(table, map)
             .and_then(|given| same(&expected, given))
             .map_err(|difference| format!("{difference}, for a map of {room} bytes, on\n{}", hex(table)))?;
         self.tally.add("compact", given.answer);
         Ok(given)
-    }
-}
-
-/// Where two rows of bytes first differ, as a message shows it.
-fn first_difference(name: &str, given: &[u8], expected: &[u8]) -> String {
-    let mut bytes = given.iter().zip(expected).enumerate();
-    match bytes.find(|(_, (given, expected))| given != expected) {
-        Some((place, (given, expected))) => format!("; byte {place} of the {name} is {given:02X} and not {expected:02X}"),
-        None => String::new(),
     }
 }
 

@@ -59,3 +59,22 @@ impl Drop for Guarded {
         unsafe { munmap(self.start.sub(PAGE), self.length + 2 * PAGE) };
     }
 }
+
+/// A call that is lent two rows of bytes, made four times: each row ends at, or starts behind, a page that nothing may
+/// touch. Gives what all four give; where they differ, the message says that `what` depends on the place.
+pub fn in_four_places<T: PartialEq>(
+    [first_pages, second_pages]: &mut [Guarded; 2],
+    [first, second]: [&[u8]; 2],
+    what: &str,
+    mut call: impl FnMut(&mut [u8], &mut [u8]) -> Result<T, String>,
+) -> Result<T, String> {
+    let ends_end = call(first_pages.ending(first), second_pages.ending(second))?;
+    let ends_start = call(first_pages.ending(first), second_pages.starting(second))?;
+    let starts_end = call(first_pages.starting(first), second_pages.ending(second))?;
+    let starts_start = call(first_pages.starting(first), second_pages.starting(second))?;
+    if [ends_start, starts_end, starts_start].iter().all(|other| *other == ends_end) {
+        Ok(ends_end)
+    } else {
+        Err(format!("{what} depends on the place"))
+    }
+}

@@ -8,7 +8,9 @@ pub mod closings;
 pub mod guard;
 pub mod holes;
 pub mod long_forms;
+pub mod margins;
 pub mod mischief;
+pub mod noise;
 pub mod reads;
 pub mod rewrites;
 pub mod runs;
@@ -123,6 +125,15 @@ pub fn compact_with_nothing(lent: &[u8]) -> [((Answer, usize), Vec<u8>); 2] {
 /// Bytes as a message shows them.
 pub fn hex(bytes: &[u8]) -> String {
     bytes.iter().map(|byte| format!("{byte:02X}")).collect()
+}
+
+/// Where two rows of bytes first differ, as a message says it behind what else it tells: nothing where they do not.
+fn first_difference(name: &str, given: &[u8], expected: &[u8]) -> String {
+    let mut pairs = given.iter().zip(expected).enumerate();
+    match pairs.find(|(_, (given, expected))| given != expected) {
+        Some((place, (is, should))) => format!("; byte {place} of the {name} is {is:02X} and not {should:02X}"),
+        None => String::new(),
+    }
 }
 
 /// Bits 0 to 7 number, 8 to 15 kind, 16 to 31 position.

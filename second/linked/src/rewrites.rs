@@ -2,16 +2,16 @@
 //! are full of noise, so that a byte shows whether it was written.
 
 use crate::cases::each;
-use crate::guard::Guarded;
+use crate::guard::{in_four_places, Guarded};
+use crate::margins::Margined;
+use crate::noise::Noise;
 use crate::tally::Tally;
-use crate::{hex, long_forms, tables};
+use crate::{first_difference, hex, long_forms, tables};
 use second::answer::number::{OUTPUT_TOO_SHORT, TOO_FEW_BYTES};
-use second::damage::{empty_heap, outer_damage};
-use second::faults::damages;
+use second::damage::empty_heap;
 use second::frame::GREATEST_LENGTH;
-use second::goods::goods;
 use second::random::Random;
-use second::samples::{crowded, dhcp, known, machine, smallest};
+use second::samples::{crowded, machine, smallest};
 use second::{form, form_length, Answer, Meaning};
 
 /// What a rewrite gives, and every byte of the output when it has ended.
@@ -22,36 +22,20 @@ pub struct Rewrite {
     output: Vec<u8>,
 }
 
-/// Bytes before and behind the output that are not lent, and what they hold.
-const MARGIN: usize = 64;
-const UNLENT: u8 = 0xA5;
-
 /// The library's rewrite of a table into an output that holds these bytes.
 pub fn by_library(table: &[u8], output: &[u8]) -> Result<Rewrite, String> {
-    let mut around = vec![UNLENT; MARGIN + output.len() + MARGIN];
-    let (before, rest) = around.split_at_mut(MARGIN);
-    let (lent_output, behind) = rest.split_at_mut(output.len());
-    lent_output.copy_from_slice(output);
-    let lent = table.to_vec();
-    let rewrite = call(table, &lent, lent_output)?;
-    if before.iter().chain(behind.iter()).any(|byte| *byte != UNLENT) {
-        return Err("the library writes outside the output".to_string());
+    let (lent, mut output) = (table.to_vec(), Margined::new(output));
+    let rewrite = call(table, &lent, output.within())?;
+    if output.margins_stay() {
+        Ok(rewrite)
+    } else {
+        Err("the library writes outside the output".to_string())
     }
-    Ok(rewrite)
 }
 
 /// The same four times: table and output each end at, or start behind, a page that nothing may touch.
 pub fn by_library_in_pages(pages: &mut [Guarded; 2], table: &[u8], output: &[u8]) -> Result<Rewrite, String> {
-    let [table_pages, output_pages] = pages;
-    let ends_end = call(table, table_pages.ending(table), output_pages.ending(output))?;
-    let ends_start = call(table, table_pages.ending(table), output_pages.starting(output))?;
-    let starts_end = call(table, table_pages.starting(table), output_pages.ending(output))?;
-    let starts_start = call(table, table_pages.starting(table), output_pages.starting(output))?;
-    if [ends_start, starts_end, starts_start].iter().all(|other| *other == ends_end) {
-        Ok(ends_end)
-    } else {
-        Err("the library's rewrite depends on the place".to_string())
-    }
+    in_four_places(pages, [table, output], "the library's rewrite", |lent, output| call(table, lent, output))
 }
 
 /// Lends a copy of the table, which the library must leave as it is.
@@ -125,18 +109,11 @@ fn next(random: &mut Random) -> Vec<u8> {
     }
 }
 
-/// The samples, good tables that each show one thing, every damage of two
-/// tables, and forms around the greatest length and its multiples.
+/// Behind those that closings start from too: one with an empty heap, and forms
+/// around the greatest length and its multiples.
 fn directed_tables() -> Vec<Vec<u8>> {
-    let (good, with_clients) = (form(&machine()), form(&dhcp()));
-    let mut samples = known();
-    samples.extend(goods());
-    for table in [&good, &with_clients] {
-        samples.extend(damages(table).iter().map(|damage| damage.apply(table)));
-    }
-    samples.extend(outer_damage(&good));
-    samples.push(empty_heap(&good));
-    let mut tables: Vec<Vec<u8>> = samples.into_iter().map(|sample| sample.table).collect();
+    let mut tables = tables::directed();
+    tables.push(empty_heap(&form(&machine())).table);
     tables.extend([form(&crowded(96)), long_forms::far_too_long()]);
     let mut random = Random::seeded(0);
     for length in [65_535, 65_536, 65_537, 65_538, 65_700, 131_071, 131_072, 131_073, 131_400, 196_608, 200_000] {
@@ -152,7 +129,7 @@ struct Comparison<'t, F> {
     rewrite: F,
     random: Random,
     /// What outputs hold before they are lent is cut from this.
-    noise: Vec<u8>,
+    noise: Noise,
     tally: &'t mut Tally,
 }
 
@@ -162,7 +139,7 @@ const LONGEST_OUTPUT: usize = 1 << 18;
 impl<'t, F: Make> Comparison<'t, F> {
     fn seeded(seed: u64, tally: &'t mut Tally, rewrite: F) -> Comparison<'t, F> {
         let mut random = Random::seeded(seed);
-        let noise = random.bytes(LONGEST_OUTPUT);
+        let noise = Noise::new(&mut random, LONGEST_OUTPUT);
         Comparison { rewrite, random, noise, tally }
     }
 
@@ -213,8 +190,7 @@ impl<'t, F: Make> Comparison<'t, F> {
 
     /// Both programs rewrite a table into an output of this length.
     fn call_both(&mut self, table: &[u8], room: usize) -> Result<Rewrite, String> {
-        let start = self.random.below(self.noise.len() - room + 1);
-        let output = &self.noise[start..start + room];
+        let output = self.noise.cut(&mut self.random, room);
         let expected = by_second(table, output);
         let given = (self.rewrite)(table, output)
             .and_then(|given| same(&expected, given))
@@ -229,12 +205,8 @@ fn same(expected: &Rewrite, given: Rewrite) -> Result<Rewrite, String> {
         return Ok(given);
     }
     let told = |rewrite: &Rewrite| format!("{:?} and length {}", rewrite.answer, rewrite.length);
-    let mut outputs = given.output.iter().zip(&expected.output).enumerate();
-    let bytes = match outputs.find(|(_, (given, expected))| given != expected) {
-        Some((place, (given, expected))) => format!("; byte {place} of the output is {given:02X} and not {expected:02X}"),
-        None => String::new(),
-    };
-    Err(format!("the library gives {}, the second program {}{bytes}", told(&given), told(expected)))
+    let in_output = first_difference("output", &given.output, &expected.output);
+    Err(format!("the library gives {}, the second program {}{in_output}", told(&given), told(expected)))
 }
 
 #[cfg(test)]

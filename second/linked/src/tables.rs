@@ -1,18 +1,32 @@
-//! An endless row of tables to compare: good ones in many layouts, damaged
-//! ones, ones with a wrong text, with a few bytes or the version of an info
-//! changed, cut ones, and plain noise.
+//! Tables to compare: directed ones, and an endless row of good ones in many
+//! layouts, damaged ones, ones with a wrong text, with a few bytes or the
+//! version of an info changed, cut ones, and plain noise.
 
 use second::answer::number::TEXT;
-use second::damage::put_checksum_within_length;
+use second::damage::{outer_damage, put_checksum_within_length};
 use second::faults::damages;
 use second::form::form;
 use second::frame::Frame;
 use second::generate::random_meaning;
+use second::goods::goods;
 use second::interface::{Info, Interface};
 use second::layout::{lay_out_freely, with_tail, Style};
 use second::random::Random;
 use second::record::Record;
+use second::samples::{dhcp, known, machine};
 use second::wire::u32_at;
+
+/// The samples, good tables that each show one thing, and every damage of two tables.
+pub fn directed() -> Vec<Vec<u8>> {
+    let (good, with_clients) = (form(&machine()), form(&dhcp()));
+    let mut samples = known();
+    samples.extend(goods());
+    for table in [&good, &with_clients] {
+        samples.extend(damages(table).iter().map(|damage| damage.apply(table)));
+    }
+    samples.extend(outer_damage(&good));
+    samples.into_iter().map(|sample| sample.table).collect()
+}
 
 /// The next table. The same seed gives the same tables.
 pub fn next(random: &mut Random) -> Vec<u8> {
