@@ -1,0 +1,1 @@
+// What two tables say differently: the definitions stand in specs/.
