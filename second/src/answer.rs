@@ -1,5 +1,7 @@
 //! What every call answers: a number, and the record it speaks of.
 
+use std::fmt;
+
 /// The numbers an answer can carry.
 pub mod number {
     pub const DONE: u8 = 0;
@@ -58,5 +60,12 @@ impl Answer {
 
     pub fn is_done(self) -> bool {
         self.number == number::DONE
+    }
+}
+
+/// As the tools print it: number, kind and position.
+impl fmt::Display for Answer {
+    fn fmt(&self, out: &mut fmt::Formatter) -> fmt::Result {
+        write!(out, "{} {} {}", self.number, self.kind, self.position)
     }
 }

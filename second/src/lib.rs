@@ -3,11 +3,13 @@
 //! Tables are read into typed structs that can hold nothing but what a table
 //! says. The check is whether that reading succeeds, and the one form, the
 //! rewriter and the builder are all written from those structs. They also say
-//! which references of a table count, which is what closing its heap takes.
+//! which references of a table count, which is what closing its heap takes,
+//! and what one table says otherwise than another.
 
 pub mod answer;
 pub mod builder;
 pub mod cases;
+pub mod changes;
 pub mod compact;
 pub mod damage;
 pub mod discovery;
@@ -21,6 +23,7 @@ pub mod identity;
 pub mod interface;
 pub mod layout;
 pub mod meaning;
+pub mod pairs;
 pub mod random;
 pub mod read;
 pub mod record;
@@ -34,6 +37,7 @@ pub mod vectors;
 pub mod wire;
 
 pub use answer::Answer;
+pub use changes::changes;
 pub use compact::compact;
 pub use form::{form, form_length, rewrite};
 pub use meaning::{check, meaning, Entry, Meaning};

@@ -1,5 +1,9 @@
-//! Checks and rewrites tables, and writes the files others compare with.
+//! Checks, rewrites and compares tables, and writes the files others compare
+//! with.
 
+use second::changes::report;
+use second::pairs::pairs;
+use second::random::Random;
 use second::{check, rewrite};
 use std::fs;
 use std::path::{Path, PathBuf};
@@ -10,12 +14,16 @@ second: an independent reading of NVMe boot firmware tables
 
   second check FILE           print the table's number, kind and position
   second form FILE OUT        write the table's one form
+  second diff FILE FILE       print what differs between the two tables' meanings, a line each
   second vectors write DIR    write DIR/tables.txt
   second vectors check DIR    say whether DIR/tables.txt is what would be written
   second samples write DIR    write the sample tables DIR/*.nbft
   second samples check DIR    say whether they are what would be written
   second cases write DIR      write cases for a proof assistant, DIR/*/specs/*.antt
   second cases check DIR      say whether they are what would be written
+  second pairs write DIR COUNT SEED
+                              write COUNT pairs of tables DIR/N.a and DIR/N.b, N from 0 on, and DIR/N.expected,
+                              which is what diff prints of them; the same SEED gives the same ones
 ";
 
 fn main() -> ExitCode {
@@ -34,12 +42,16 @@ fn run(words: &[&str]) -> Result<(), String> {
     match words {
         ["check", file] => print_check(Path::new(file)),
         ["form", file, output] => write_form(Path::new(file), Path::new(output)),
+        ["diff", first, second] => print_diff(Path::new(first), Path::new(second)),
         ["vectors", action, directory] => {
             let file = Path::new(directory).join("tables.txt");
             keep(action, file, second::vectors::text().as_bytes())
         }
         ["samples", action, directory] => samples(action, Path::new(directory)),
         ["cases", action, directory] => cases(action, Path::new(directory)),
+        ["pairs", "write", directory, count, seed] => {
+            write_pairs(Path::new(directory), number(count)?, number(seed)?)
+        }
         [] | ["help" | "--help" | "-h"] => {
             print!("{HELP}");
             Ok(())
@@ -57,8 +69,13 @@ fn write(file: &Path, bytes: &[u8]) -> Result<(), String> {
 }
 
 fn print_check(file: &Path) -> Result<(), String> {
-    let answer = check(&read(file)?);
-    println!("{} {} {}", answer.number, answer.kind, answer.position);
+    println!("{}", check(&read(file)?));
+    Ok(())
+}
+
+/// Refused tables are told in what is printed, as differences are.
+fn print_diff(first: &Path, second: &Path) -> Result<(), String> {
+    print!("{}", report(&read(first)?, &read(second)?));
     Ok(())
 }
 
@@ -68,13 +85,7 @@ fn write_form(file: &Path, output: &Path) -> Result<(), String> {
     if answer.is_done() {
         write(output, &form[..length])
     } else {
-        Err(format!(
-            "{}: refused with {} {} {}",
-            file.display(),
-            answer.number,
-            answer.kind,
-            answer.position
-        ))
+        Err(format!("{}: refused with {answer}", file.display()))
     }
 }
 
@@ -97,6 +108,24 @@ fn samples(action: &str, directory: &Path) -> Result<(), String> {
 fn cases(action: &str, directory: &Path) -> Result<(), String> {
     let mut files = second::cases::files().into_iter();
     files.try_for_each(|(name, text)| keep(action, directory.join(name), text.as_bytes()))
+}
+
+fn write_pairs(directory: &Path, count: u64, seed: u64) -> Result<(), String> {
+    let mut random = Random::seeded(seed);
+    for pair in 0..count {
+        let (first, second) = pairs(&mut random);
+        let expected = report(&first, &second);
+        let file = |name: &str| directory.join(format!("{pair}.{name}"));
+        write(&file("a"), &first)?;
+        write(&file("b"), &second)?;
+        write(&file("expected"), expected.as_bytes())?;
+    }
+    Ok(())
+}
+
+fn number(word: &str) -> Result<u64, String> {
+    let complaint = |_| format!("{word}: not a number\n\n{HELP}");
+    word.parse().map_err(complaint)
 }
 
 /// Writes a file, or checks that it is as it would be written.
