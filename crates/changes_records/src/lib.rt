@@ -1,0 +1,1 @@
+// What two tables say differently, record by record: the definitions stand in specs/.
