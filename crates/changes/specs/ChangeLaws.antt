@@ -315,7 +315,7 @@ unfolding header
 head-told = tt
 
 -- a byte of it, counted from the OEM ID on
-head-at : (m : Meaning) (i : ℕ) → getD (headOf m) (10 + i) 0 ≡ getD (m .oem) i 0
+pub head-at : (m : Meaning) (i : ℕ) → getD (headOf m) (10 + i) 0 ≡ getD (m .oem) i 0
 head-at m i =
     let e : 10 + i ≡ suc (suc (suc (suc (suc (suc (suc (suc (suc (suc i))))))))) = omega arith in
     ap (λ (j : ℕ). getD (headOf m) j 0) e
