@@ -107,7 +107,7 @@ none-both : {X : Type 0} (xs ys : List X) → xs ++ ys ≡ [] → (xs ≡ []) ×
 none-both [] ys e = (refl, e)
 none-both (x ∷ xs) ys e = absurd (omega (arith, ap length e))
 
-same-eq : (xs ys : List ℕ) → T (same xs ys) → xs ≡ ys
+pub same-eq : (xs ys : List ℕ) → T (same xs ys) → xs ≡ ys
 same-eq [] [] h = refl
 same-eq [] (y ∷ ys) h = absurd h
 same-eq (x ∷ xs) [] h = absurd h
@@ -380,7 +380,7 @@ same-self : (xs : List ℕ) → same xs xs ≡ true
 same-self [] = refl
 same-self (x ∷ xs) = rw (eq-eqb x x refl) (same-self xs)
 
-unlike-self : (x : List ℕ) (l : Line) → unlike x x l ≡ []
+pub unlike-self : (x : List ℕ) (l : Line) → unlike x x l ≡ []
 unlike-self x l = rw (same-self x) refl
 
 pick-none : (c : Bool) {xs ys : List Line} → xs ≡ [] → ys ≡ [] → pick c xs ys ≡ []

@@ -1,1 +1,2 @@
-// What two tables say differently, record by record: the definitions stand in specs/.
+// What two accepted tables say differently, record by record, as lines of text in a lent buffer.
+pub mod records; // the lines of two records

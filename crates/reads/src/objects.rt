@@ -40,7 +40,7 @@ fn whole_in(t: &[u8], kind: u8, position: usize, off: usize) -> Place
 }
 
 // That object, a part of the heap; empty where refused or absent.
-fn whole_object(t: &[u8], kind: u8, position: usize, off: usize) -> &[u8]
+pub fn whole_object(t: &[u8], kind: u8, position: usize, off: usize) -> &[u8]
     requires { ⌜ Accepted (now t) ⌝ }
     ensures { λ r. ⌜ (now r ≡ objectIn (now (t .entry)) kind position off) × (r .ptr .0 ≡ t .entry .ptr .0) × (r .ptr .1 ≡ t .entry .ptr .1 + wholeAt (now (t .entry)) off (seatOf (now (t .entry)) kind position) .at) ⌝ }
 {
