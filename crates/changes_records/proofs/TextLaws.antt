@@ -11,11 +11,15 @@ use lib.Dec.{T, leb, leb→le}
 use Rattle.table.specs.Bytes.{pick, same, splice}
 use Rattle.table.specs.Layout.{baseOf}
 use Rattle.table.specs.FixedLayouts.{control, discovery, extended, header, hfi, hfiExtended, host, info, layoutOf, noKind, security, ssns}
-use Rattle.table.specs.Reads.{seatOf, wholeAt}
+use Rattle.table.specs.Reads.{Seat, imageAt, nowhere, seat, seatOf, wholeAt}
 use Rattle.laws.specs.Fields.{Bytes}
 use Rattle.laws.specs.ListWalk.{by-layout}
 use Rattle.reads_seats.specs.Objects.{objectIn}
+use Rattle.reads_seats.specs.Seats.{Good}
+use Rattle.reads_seats.specs.Told.{imageOf}
 use Rattle.reads_seats.proofs.ObjectLaws.{seat-place}
+use Rattle.reads_seats.proofs.SeatLaws.{seats-good}
+use Rattle.reader.specs.Accepted.{Accepted}
 use Rattle.changes.specs.Changes.{Line, each, textOf, textsOf, unlike}
 use Rattle.changes.specs.ChangeLaws.{same-eq, unlike-self}
 
@@ -84,3 +88,12 @@ base-fits = by-layout (λ l. T (leb (baseOf l) 128)) tt tt tt tt tt tt tt tt tt 
 
 pub base-most : (k : ℕ) → baseOf (layoutOf k) ≤ 128
 base-most k = leb→le (baseOf (layoutOf k)) 128 (base-fits k)
+
+-- a record that is there is read at its kind's base size
+pub there-len : (t : List ℕ) → Accepted t → (k n : ℕ) → imageOf t k n .answer .number ≡ 0 → imageOf t k n .len ≡ baseOf (layoutOf k)
+unfolding imageOf
+there-len t ok k n e = go (seatOf t k n) (seats-good t ok n k) e
+  where
+    go : (s : Seat) → Good t k s → imageAt t s .answer .number ≡ 0 → imageAt t s .len ≡ baseOf (layoutOf k)
+    go nowhere g z = absurd (omega (arith, z))
+    go (seat l a on) g z = ap baseOf (g .0)

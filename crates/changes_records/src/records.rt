@@ -4,6 +4,7 @@ use changes::lines::differ_at;
 use changes::lines::field_line;
 use changes::lines::object_line;
 use reads::objects::whole_object;
+use reads::records::record_in;
 use text::Text;
 use text::append::empty;
 ghost use mathlib.Core.Path.{_≡_};
@@ -15,8 +16,9 @@ ghost use Rattle.table.specs.Layout.{baseOf};
 ghost use Rattle.table.specs.FixedLayouts.{layoutOf};
 ghost use Rattle.reader.specs.Accepted.{Accepted};
 ghost use Rattle.reads_seats.specs.Objects.{objectIn};
+ghost use Rattle.reads_seats.specs.Told.{imageOf};
 ghost use Rattle.changes.specs.Changes.{fieldLine, objectLine, offsetLines, recordLines, textsOf};
-ghost use Rattle.changes_records.specs.Told.{plainLines};
+ghost use Rattle.changes_records.specs.Told.{ownLines, plainLines};
 
 // A field's line where its two values differ.
 fn field_text(kind: u8, position: usize, offset: usize, one: &[u8], other: &[u8]) -> Text
@@ -107,4 +109,17 @@ fn image_lines(
         offset += 1;
     }
     at
+}
+
+// Fields and objects of two records that are there, behind the first `from` bytes of `out`. The heap record that they name is not among them.
+fn own_lines(t: &[u8], u: &[u8], kind: u8, position: usize, out: &mut [u8], from: usize) -> usize
+    requires { ⌜ Accepted (now t) × Accepted (now u) × (position < 65536) × (from + 16384 ≤ length (now out)) × (imageOf (now t) kind position .answer .number ≡ 0) × (imageOf (now u) kind position .answer .number ≡ 0) ⌝ }
+    ensures { λ r. ⌜ (from ≤ r) × (r ≤ from + 16384) × (take r (now (out .exit)) ≡ take from (now (out .entry)) ++ textsOf (ownLines (now (t .entry)) (now (u .entry)) kind position)) × (length (now (out .exit)) ≡ length (now (out .entry))) ⌝ }
+{
+    let len = layout_kinds::base_size(kind);
+    let x = record_in(t, kind, position);
+    let y = record_in(u, kind, position);
+    let one = x.bytes;
+    let other = y.bytes;
+    image_lines(t, u, kind, position, &one[..len], &other[..len], out, from)
 }
