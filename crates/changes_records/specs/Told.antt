@@ -1,4 +1,5 @@
 -- The lines of two tables as their reads tell them, record by record. Definitions only.
+use mathlib.Core.Bool.{Bool, _&&_}
 use mathlib.Core.List.{List, [], _∷_, _++_}
 use Prim.Native.Nat.{ℕ, zero, suc}
 use lib.Dec.{eqb, leb}
@@ -28,6 +29,17 @@ heldLines t u (suc d) k n =
     let i = innerKind k in
     pick (eqb (imageOf t i n .answer .number) 0)
     (pick (eqb (imageOf u i n .answer .number) 0) (ownLines t u i n ++ heldLines t u d i n) (onlyOn i n 1 ∷ []))
+    (pick (eqb (imageOf u i n .answer .number) 0) (onlyOn i n 2 ∷ []) [])
+
+-- whether both tables have the record of kind i and position n
+abbrev pub bothThere : List ℕ → List ℕ → ℕ → ℕ → Bool
+bothThere t u i n = eqb (imageOf t i n .answer .number) 0 && eqb (imageOf u i n .answer .number) 0
+
+-- one level of it: the heap record of kind i, without what that names
+unfoldable pub levelLines : List ℕ → List ℕ → ℕ → ℕ → List Line
+levelLines t u i n =
+    pick (eqb (imageOf t i n .answer .number) 0)
+    (pick (eqb (imageOf u i n .answer .number) 0) (ownLines t u i n) (onlyOn i n 1 ∷ []))
     (pick (eqb (imageOf u i n .answer .number) 0) (onlyOn i n 2 ∷ []) [])
 
 -- all of it: in every kind the reference to a heap record is the last of what a record has

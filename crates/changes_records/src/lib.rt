@@ -1,2 +1,3 @@
 // What two accepted tables say differently, record by record, as lines of text in a lent buffer.
-pub mod records; // the lines of two records
+pub mod records; // fields and objects of two records
+pub mod wholes; // two records with the heap records that they name

@@ -76,7 +76,7 @@ fn offset_text(
 }
 
 // A text behind the first `at` bytes of `out`; how many are then taken.
-fn put_text(out: &mut [u8], at: usize, text: Text) -> usize
+pub fn put_text(out: &mut [u8], at: usize, text: Text) -> usize
     requires { ⌜ Counts (text .len) (text .bytes) × (at + 128 ≤ length (now out)) ⌝ }
     ensures { λ r. ⌜ (r ≡ at + text .len) × (r ≤ at + 128) × (take r (now (out .exit)) ≡ take at (now (out .entry)) ++ take (text .len) (text .bytes)) × (length (now (out .exit)) ≡ length (now (out .entry))) ⌝ }
 {
@@ -112,7 +112,14 @@ fn image_lines(
 }
 
 // Fields and objects of two records that are there, behind the first `from` bytes of `out`. The heap record that they name is not among them.
-fn own_lines(t: &[u8], u: &[u8], kind: u8, position: usize, out: &mut [u8], from: usize) -> usize
+pub fn own_lines(
+    t: &[u8],
+    u: &[u8],
+    kind: u8,
+    position: usize,
+    out: &mut [u8],
+    from: usize,
+) -> usize
     requires { ⌜ Accepted (now t) × Accepted (now u) × (position < 65536) × (from + 16384 ≤ length (now out)) × (imageOf (now t) kind position .answer .number ≡ 0) × (imageOf (now u) kind position .answer .number ≡ 0) ⌝ }
     ensures { λ r. ⌜ (from ≤ r) × (r ≤ from + 16384) × (take r (now (out .exit)) ≡ take from (now (out .entry)) ++ textsOf (ownLines (now (t .entry)) (now (u .entry)) kind position)) × (length (now (out .exit)) ≡ length (now (out .entry))) ⌝ }
 {
