@@ -1,2 +1,3 @@
 pub mod TextLaws
 pub mod HeldLaws
+pub mod PlaceLaws

@@ -1,3 +1,4 @@
 pub mod Told
 pub mod ToldLaws
 pub mod AllLaws
+pub mod Walk

@@ -74,7 +74,7 @@ fn info_lines(t: &[u8], u: &[u8], position: usize, out: &mut [u8], from: usize) 
 }
 
 // All of two records that are there, from the buffer's first byte on.
-fn whole_lines(t: &[u8], u: &[u8], kind: u8, position: usize, out: &mut [u8]) -> usize
+pub fn whole_lines(t: &[u8], u: &[u8], kind: u8, position: usize, out: &mut [u8]) -> usize
     requires { ⌜ Accepted (now t) × Accepted (now u) × (kind ≤ 6) × (position < 65536) × (65536 ≤ length (now out)) × (imageOf (now t) kind position .answer .number ≡ 0) × (imageOf (now u) kind position .answer .number ≡ 0) ⌝ }
     ensures { λ r. ⌜ (r ≤ 65536) × (take r (now (out .exit)) ≡ textsOf (wholeLines (now (t .entry)) (now (u .entry)) kind position)) × (length (now (out .exit)) ≡ length (now (out .entry))) ⌝ }
 {
