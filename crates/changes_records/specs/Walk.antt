@@ -1,6 +1,6 @@
 -- A walk over the places of two tables: the counts, the header, the host, and the positions of each list. Definitions only.
 use mathlib.Core.List.{List, [], _++_}
-use Prim.Native.Nat.{ℕ, _+_, _-_}
+use Prim.Native.Nat.{ℕ, _+_, _-_, _*_}
 use lib.Dec.{eqb, ltb}
 use Rattle.table.specs.Bytes.{pick}
 use Rattle.changes.specs.Changes.{Line}
@@ -34,3 +34,7 @@ restOf t u w =
     (pick (eqb (w .list) 1) (wholeLines t u 0 0 ++ (pairLines t u 2 0 ++ lists))
     (pick (eqb (w .list) 2) (pairLines t u 2 0 ++ lists)
     (listLinesFrom t u (w .list) (w .position + 1) (mostOf t u (w .list) - w .position) ++ listsFrom t u (w .list + 1) (6 - w .list))))
+
+-- more than the steps that are left: a list has at most 255 positions
+unfoldable pub left : Walk → ℕ
+left w = 1000 * (7 - w .list) + (1000 - w .position)

@@ -14,7 +14,7 @@ ghost use lib.ListN.{length, take};
 ghost use Rattle.reader.specs.Accepted.{Accepted};
 ghost use Rattle.changes.specs.Changes.{textsOf};
 ghost use Rattle.changes_records.specs.Told.{mostOf, positionLines};
-ghost use Rattle.changes_records.specs.Walk.{walk, begun, linesAt, nextOf};
+ghost use Rattle.changes_records.specs.Walk.{walk, begun, left, linesAt, nextOf};
 
 // Past the last list.
 pub const END: u8 = 7;
@@ -53,9 +53,10 @@ fn most_of(t: &[u8], u: &[u8], list: u8) -> usize
     one
 }
 
+// The place behind one that is not the last; the bounds let a caller see that a walk ends.
 pub fn next(t: &[u8], u: &[u8], w: Walk) -> Walk
-    requires { ⌜ Accepted (now t) × Accepted (now u) × (w .list < 7) ⌝ }
-    ensures { λ r. ⌜ r ≡ nextOf (now (t .entry)) (now (u .entry)) w ⌝ }
+    requires { ⌜ Accepted (now t) × Accepted (now u) × (w .list < 7) × (w .position < 256) ⌝ }
+    ensures { λ r. ⌜ (r ≡ nextOf (now (t .entry)) (now (u .entry)) w) × (r .list ≤ 7) × (r .position < 256) × (left r < left w) ⌝ }
 {
     if w.list < 3 {
         return walk_of(w.list + 1, 0);
