@@ -1,6 +1,6 @@
 # Wickgarland: a verified library for the NVMe boot firmware table (NBFT).
 #
-#   make run      check a sample table, show what it says, rewrite it, and build it from its description
+#   make run      check a sample table, show what it says, rewrite it, build it from its description, and compare two
 #   make test     every test: the second program, its vectors, the library beside it, and all proofs
 #   make library  the static library, target/staticlib/libnbft.a (include/nbft.h declares its functions)
 #   make lib      library, header and nbft.pc for pkg-config, under build/
@@ -53,11 +53,11 @@ LINKED  := $(RUN) second/linked/target/$(X86)/release/linked
 PREFIX ?= /usr/local
 
 .PHONY: run test proofs compared second-tests comparisons compared-checks compared-reads compared-rewrites compared-closings compared-builds \
-        library lib install examples bindings readme soak vectors clean second linked
+        compared-pairs library lib install examples bindings readme soak vectors clean second linked
 
 # The programs are proved, then compiled: the first run takes some minutes.
 run:
-	rt check nbft_check nbft_show nbft_rewrite nbft_build
+	rt check nbft_check nbft_show nbft_rewrite nbft_build nbft_diff
 	@echo "nbft_check samples/machine.nbft: number, kind and position, and what they mean"
 	@$(BIN)/nbft_check samples/machine.nbft
 	@echo "nbft_show samples/machine.nbft"
@@ -70,6 +70,8 @@ run:
 	@$(BIN)/nbft_rewrite --same samples/machine.nbft target/machine.built
 	@$(BIN)/nbft_show samples/machine.nbft > target/machine.shown
 	@$(BIN)/nbft_show target/machine.built | diff target/machine.shown - && echo "shown the same"
+	@echo "nbft_diff samples/machine.nbft samples/mixed.nbft: what the two say differently"
+	@$(BIN)/nbft_diff samples/machine.nbft samples/mixed.nbft
 
 # All proofs, and beside them what is compared: where the one leaves a core idle the other has it, and if either fails so does the test.
 # The comparisons start when the library is proved and end long before the last edit is tried, so that the last line is that of `rt ci`:
@@ -99,8 +101,8 @@ compared: second-tests
 	[ ! -e "$$copy/target/stamp/$${crate%.rlib}" ] || cp -a "target/rlib/$$crate" "$$copy/target/rlib" || exit 1; done && \
 	$(MAKE) --no-print-directory --output-sync=target --directory="$$copy" --file="$(CURDIR)/Makefile" library && \
 	$(MAKE) --no-print-directory --output-sync=target NBFT_LIB="$$copy/target/staticlib" comparisons
-	@until $(call answering,nbft_check nbft_show nbft_rewrite nbft_build) || [ -e $(ENDED) ]; do sleep 1; done
-	@$(MAKE) --no-print-directory readme
+	@until $(call answering,nbft_check nbft_show nbft_rewrite nbft_build nbft_diff) || [ -e $(ENDED) ]; do sleep 1; done
+	@$(MAKE) --no-print-directory readme compared-pairs
 
 # The second program's own tests, and that the committed vectors, samples and cases are what it writes.
 second-tests: second
@@ -126,6 +128,14 @@ compared-closings: linked
 
 compared-builds: linked
 	$(LINKED) build 3000 4
+
+# Pairs of tables, with what the second program says of each, held to what nbft_diff prints.
+PAIRS := 400
+compared-pairs: second
+	@folder=$$(mktemp -d) && trap 'rm -rf "$$folder"' EXIT && $(SECOND) pairs write "$$folder" $(PAIRS) 6 && \
+	for expected in "$$folder"/*.expected; do pair=$${expected%.expected}; $(BIN)/nbft_diff "$$pair.a" "$$pair.b" 2>/dev/null | \
+	cmp - "$$expected" || { echo "nbft_diff prints something else than the second program, pair $${pair##*/}"; exit 1; }; done && \
+	echo "$(PAIRS) pairs of tables: nbft_diff prints what the second program says"
 
 # `rt staticlib` proves one crate after the other; `rt check` before it proves several at a time.
 library:

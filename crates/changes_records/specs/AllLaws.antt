@@ -1,5 +1,6 @@
 -- What the reads tell of two tables, place by place, is what their meanings say differently. Assumes nothing.
 use mathlib.Core.Path.{_≡_, refl, sym, ap, ap₂, _∙_}
+use mathlib.Core.Logic.{_↔_}
 use mathlib.Core.Bool.{Bool, true, false}
 use mathlib.Core.List.{List, [], _∷_, _++_, append-assoc, append-nil}
 use Prim.Native.Nat.{ℕ, zero, suc, _+_, _-_, _≤_, _<_}
@@ -13,10 +14,14 @@ use Rattle.table.specs.Layout.{Entry, Layout, image, unused, used}
 use Rattle.table.specs.FixedLayouts.{control, discovery, header, hfi, host, layoutOf, listKinds, security, ssns}
 use Rattle.table.specs.Meaning.{Meaning, meaning}
 use Rattle.table.specs.Reads.{seatOf}
+use Rattle.laws.specs.AcceptedMeaning.{lawful}
+use Rattle.laws.specs.Fields.{Bytes}
 use Rattle.laws.specs.ImageLaws.{length-image}
 use Rattle.layout_images.proofs.Laws.{part-byte, part-long}
 use Rattle.reads_seats.proofs.MeaningLaws.{image-front, told-all}
-use Rattle.changes.specs.ChangeLaws.{head-at}
+use Rattle.changes.specs.ChangeLaws.{head-at, none-exactly}
+use Rattle.reader.specs.Accepted.{Accepted}
+use Rattle.reader.proofs.AcceptedLaws.{checked}
 use Rattle.reads_seats.specs.Told.{bytesOf, countAt, countOf, imageOf, told, toldEntry, toldList, toldSlots}
 use Rattle.changes.specs.Changes.{Line, bodyLines, changes, countLines, entryLines, fieldLine, headOf, listLines, namedLines, onlyOn, recordLines, usedOn}
 use Rattle.changes_records.specs.Told.{allLines, listLinesFrom, listsFrom, longer, mostOf, ownLines, pairLines, positionLines, wholeLines}
@@ -180,3 +185,13 @@ module _ (t u : List ℕ) where
   lines-told : changes (told t) (told u) ≡ allLines t u
   unfolding changes allLines
   lines-told = ap₂ _++_ counts-told (ap₂ _++_ (head-told ∙ header-told t u 0) (ap₂ _++_ owner-told (lists-told t u)))
+
+-- of accepted tables: these are the lines of what they mean, and none exactly where they mean the same
+module _ (t u : List ℕ) (b : Bytes t) (d : Bytes u) (ok : Accepted t) (ko : Accepted u) where
+  pub lines-accepted : changes (meaning t) (meaning u) ≡ allLines t u
+  lines-accepted = ap₂ changes (sym (told-all t b ok)) (sym (told-all u d ko)) ∙ lines-told t u
+
+  pub none-accepted : (allLines t u ≡ []) ↔ (meaning t ≡ meaning u)
+  none-accepted =
+      let z = none-exactly (meaning t) (meaning u) (lawful t b (checked t ok) .shapes) (lawful u d (checked u ko) .shapes) in
+      (λ h. z .0 (lines-accepted ∙ h), λ h. sym lines-accepted ∙ z .1 h)
