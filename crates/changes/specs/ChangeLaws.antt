@@ -387,14 +387,14 @@ pick-none : (c : Bool) {xs ys : List Line} → xs ≡ [] → ys ≡ [] → pick 
 pick-none true e d = e
 pick-none false e d = d
 
-each-nothing : (f : ℕ → List Line) (q n : ℕ) → ((j : ℕ) → f j ≡ []) → each f q n ≡ []
+pub each-nothing : (f : ℕ → List Line) (q n : ℕ) → ((j : ℕ) → q ≤ j → j < q + n → f j ≡ []) → each f q n ≡ []
 each-nothing f q zero h = refl
-each-nothing f q (suc n) h = ap₂ _++_ (h q) (each-nothing f (suc q) n h)
+each-nothing f q (suc n) h = ap₂ _++_ (h q (omega arith) (omega arith)) (each-nothing f (suc q) n (λ j l k. h j (omega arith) (omega arith)))
 
 record-self : (k n : ℕ) (s : Shape) (x : List ℕ) (named : ℕ → List Line) → ((q : ℕ) → named q ≡ []) → recordLines k n s x x named ≡ []
 record-self k n s x named h =
     each-nothing (offsetLines k n (s .fields) x x named) 0 (length (s .keep))
-    (λ q. pick-none (eqb (widthAt q (s .fields)) 0) (h q) (unlike-self (part x q (widthAt q (s .fields))) _))
+    (λ q l m. pick-none (eqb (widthAt q (s .fields)) 0) (h q) (unlike-self (part x q (widthAt q (s .fields))) _))
 
 named-self : (k n : ℕ) {rs : Refs} (ss : Slots rs) (q : ℕ) → namedLines k n ss ss q ≡ []
 unfolding namedLines

@@ -7,9 +7,9 @@ use native.Mathlib.Omega.{arith}
 use lib.Dec.{eqb}
 use borrow.Author.Tests.{eq-eqb, ne-eqb}
 use Rattle.table.specs.Bytes.{pick}
-use Rattle.reads_seats.specs.Told.{imageOf, innerKind}
+use Rattle.reads_seats.specs.Told.{depth, imageOf, innerKind}
 use Rattle.changes.specs.Changes.{Line, onlyOn, textsOf}
-use Rattle.changes_records.specs.Told.{bothThere, depth, heldLines, levelLines, ownLines, wholeLines}
+use Rattle.changes_records.specs.Told.{bothThere, heldLines, levelLines, ownLines, wholeLines}
 use Rattle.changes_records.proofs.TextLaws.{texts-both}
 
 module _ (t u : List ℕ) where

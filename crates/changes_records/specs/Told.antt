@@ -7,7 +7,7 @@ use Rattle.table.specs.Bytes.{pick}
 use Rattle.table.specs.FixedLayouts.{layoutOf}
 use Rattle.table.specs.Reads.{hasPlain}
 use Rattle.reads_seats.specs.Objects.{objectIn}
-use Rattle.reads_seats.specs.Told.{bytesOf, countOf, imageOf, innerKind}
+use Rattle.reads_seats.specs.Told.{bytesOf, countOf, depth, imageOf, innerKind}
 use Rattle.changes.specs.Changes.{Line, objectLine, onlyOn, recordLines, usedOn}
 
 -- the object at offset q of the records of kind k and position n, if a reference to one stands there
@@ -17,10 +17,6 @@ plainLines t u k n q = pick (hasPlain q (layoutOf k .refs)) (objectLine k n q (o
 -- fields and objects of these records
 unfoldable pub ownLines : List ℕ → List ℕ → ℕ → ℕ → List Line
 ownLines t u k n = recordLines k n (layoutOf k .shape) (bytesOf (imageOf t k n)) (bytesOf (imageOf u k n)) (plainLines t u k n)
-
--- how deep the heap records below a record of kind k go
-abbrev pub depth : ℕ → ℕ
-depth k = pick (eqb k 3) 2 (pick (eqb k 4) 1 (pick (eqb k 7) 1 0))
 
 -- the heap record that these name, and, as deep as d, what that names in its turn
 unfoldable pub heldLines : List ℕ → List ℕ → ℕ → ℕ → ℕ → List Line

@@ -15,9 +15,10 @@ use Rattle.table.specs.Layout.{Refs, Shape, Slots, nest, none, plain}
 use Rattle.table.specs.FixedLayouts.{discovery, extended, header, hfi, hfiExtended, host, info, layoutOf, security, ssns}
 use Rattle.table.specs.Reads.{hasPlain, widthAt}
 use Rattle.reads_seats.specs.Objects.{objectIn}
-use Rattle.reads_seats.specs.Told.{bytesOf, imageOf, innerKind, toldNest, toldSlots}
+use Rattle.reads_seats.specs.Told.{bytesOf, depth, imageOf, innerKind, toldNest, toldSlots}
 use Rattle.changes.specs.Changes.{Line, each, idOf, namedLines, objectLine, offsetLines, onlyOn, recordLines}
-use Rattle.changes_records.specs.Told.{depth, heldLines, ownLines, plainLines, wholeLines}
+use Rattle.changes.specs.ChangeLaws.{each-nothing}
+use Rattle.changes_records.specs.Told.{heldLines, ownLines, plainLines, wholeLines}
 
 -- ---- the reference to a heap record stands last
 
@@ -115,10 +116,6 @@ bare-at fs rs q (suc m) t j l h =
         → (widthAt j fs ≡ 0) × (hasPlain j rs ≡ false)
     go true d on here = on (leb-true (suc q) j d)
     go false d on here = let z : j ≡ q = omega (arith, leb-false (suc q) j d) in rw z here
-
-each-nothing : (f : ℕ → List Line) (q m : ℕ) → ((j : ℕ) → q ≤ j → j < q + m → f j ≡ []) → each f q m ≡ []
-each-nothing f q zero h = refl
-each-nothing f q (suc m) h = ap₂ _++_ (h q (omega arith) (omega arith)) (each-nothing f (suc q) m (λ j l k. h j (omega arith) (omega arith)))
 
 each-same : (f g : ℕ → List Line) (q m : ℕ) → ((j : ℕ) → f j ≡ g j) → each f q m ≡ each g q m
 each-same f g q zero h = refl

@@ -4,7 +4,7 @@ use mathlib.Core.Bool.{Bool, true, false, not}
 use mathlib.Core.List.{List, [], _∷_, _++_, append-nil}
 use Prim.Native.Nat.{ℕ, _+_, _-_, _*_, _/_, _≤_, _<_}
 use native.Mathlib.Omega.{arith}
-use lib.ListN.{length, getD, take, drop, replicate, length-drop, length-replicate, length-take}
+use lib.ListN.{length, getD, take, drop, replicate, length-replicate}
 use lib.Seq.{drop-length}
 use lib.Dec.{T, eqb, leb, leb→le}
 use mir.Facts.{and-yes}
@@ -16,6 +16,7 @@ use Rattle.table.specs.Closing.{closeAnswer, closeBytes, closeMap, closeMoved, 
 use Rattle.bytes_writer.proofs.StoreLaws.{lent}
 use Rattle.bytes_bits.specs.Bits.{bitsBelow, marked}
 use Rattle.bytes_bits.specs.MapLaws.{map-below, map-bits}
+use Rattle.layout_images.proofs.Laws.{part-long}
 use Rattle.closing_laws.specs.SlidLaws.{moved-alike, ones-alike, sift-alike}
 use Rattle.closing_laws.specs.ClosedBytes.{length-stored}
 use Rattle.closing_laws.specs.Fencing.{fenced, passed}
@@ -55,9 +56,6 @@ module _ (t : List ℕ) (m : ℕ) (h : heapIn t .len ≤ 8 * m) where
 
 -- ---- the table
 
-pub part-length : (u : List ℕ) (a n : ℕ) → a + n ≤ length u → length (part u a n) ≡ n
-part-length u a n h = simp (length-take, length-drop) (omega arith)
-
 -- the heap closed up in its place, of n bytes at a
 pub heap-closed : (t u y map : List ℕ) (m a n : ℕ) → heapIn t .len ≤ 8 * m → map ≡ mapOf (marks t) 0 m → a ≡ heapIn t .at → n ≡ heapIn t .len → u ≡ stored t → a + n ≤ length u
     → let xs = take (a + n - a) (drop a u) in
@@ -67,7 +65,7 @@ pub heap-closed : (t u y map : List ℕ) (m a n : ℕ) → heapIn t .len ≤ 8 *
 unfolding closedHeap
 heap-closed t u y map m a n h d p q e r k f =
     let z : a + n - a ≡ n = omega arith in
-    let l : length (part u a n) ≡ n = part-length u a n r in
+    let l : length (part u a n) ≡ n = part-long u a n r in
     let k′ : length y ≡ length (part u a n) = rw z at k in
     let f′ : y ≡ padded (length (part u a n)) (sift (marked map) 0 (part u a n)) = rw z at f in
     let g : y ≡ padded (heapIn t .len) (sift (marks t) 0 (part (stored t) (heapIn t .at) (heapIn t .len))) =

@@ -23,14 +23,14 @@ use Rattle.reader.specs.Accepted.{Accepted}
 use Rattle.reads_seats.specs.declared.seats.Seat as code
 use Rattle.reads_seats.specs.declared.seats.Seat.the-variants.{Nowhere, At}
 use Rattle.reads_seats.specs.Seats.{Good, Held, Seated, asSeat, heapRecord, nestAt}
-use Rattle.reads_seats.specs.Told.{innerKind}
+use Rattle.reads_seats.specs.Told.{depth, innerKind}
 use Rattle.reads_seats.proofs.Laws.{heap-record-is, list-there}
 use Rattle.reads_seats.proofs.SeatLaws.{header-seated, record-held, seats-good}
 use Rattle.closer_sites.specs.declared.Walk.{Walk}
 use Rattle.closer_sites.specs.declared.Named.{Named}
 use Rattle.closer_sites.specs.Walk.{Walkable, begun, behind, entered, firstOf, hostOf, lenAt, listOf, named, namedAt, nothing, onwardOf}
 use Rattle.closer_sites.specs.Walk.{recordOf, recordsFrom, refCount, restOf, siteOf, sitesFrom, step, stepOf, walk}
-use Rattle.closer_sites.specs.Going.{Going, depth, left}
+use Rattle.closer_sites.specs.Going.{Going, left}
 
 -- ---- the references of each kind: needs by offset, and the one to a heap record last
 

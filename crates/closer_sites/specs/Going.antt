@@ -3,10 +3,9 @@ use mathlib.Core.Path.{_≡_}
 use mathlib.Core.Bool.{true}
 use mathlib.Core.List.{List}
 use Prim.Native.Nat.{ℕ, _+_, _-_, _*_, _≤_, _<_}
-use lib.Dec.{eqb}
-use Rattle.table.specs.Bytes.{pick}
 use Rattle.table.specs.FixedLayouts.{layoutOf}
 use Rattle.reads_seats.specs.Seats.{Seated}
+use Rattle.reads_seats.specs.Told.{depth}
 use Rattle.closer_sites.specs.declared.Walk.{Walk}
 use Rattle.closer_sites.specs.Walk.{refCount}
 
@@ -17,10 +16,6 @@ pub record Going (t : List ℕ) (w : Walk) : Type 0 where
   pub short : w .next ≤ refCount (w .kind)
   pub over : w .list ≡ 7 → w .next ≡ refCount (w .kind)
   pub seated : w .next < refCount (w .kind) → Seated t (layoutOf (w .kind)) (w .at) true
-
--- how deep the heap records below a record of kind k go
-abbrev pub depth : ℕ → ℕ
-depth k = pick (eqb k 3) 2 (pick (eqb k 4) 1 (pick (eqb k 7) 1 0))
 
 -- more than the steps that are left: a record has six references at most, a list 255 records
 unfoldable pub left : Walk → ℕ

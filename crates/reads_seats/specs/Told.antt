@@ -22,6 +22,10 @@ bytesOf i = take (i .len) (i .bytes)
 abbrev pub innerKind : ℕ → ℕ
 innerKind k = pick (eqb k 3) 7 (pick (eqb k 7) 10 9)
 
+-- how deep the heap records below a record of kind k go
+abbrev pub depth : ℕ → ℕ
+depth k = pick (eqb k 3) 2 (pick (eqb k 4) 1 (pick (eqb k 7) 1 0))
+
 -- a heap record that is there, or none
 abbrev pub toldNest : {p : ℕ} {need : List ℕ → _} {shape : Shape} {own rest : Refs} → Image → Slots own → Slots rest → Slots (nest p need shape own rest)
 toldNest i own rest = pick (eqb (i .answer .number) 0) (rec (bytesOf i) own rest) (gone rest)

@@ -47,7 +47,7 @@ use Rattle.table.proofs.Cases.{
 abbrev summed : List ℕ → List ℕ
 summed t = let z = splice t 9 (0 ∷ []) in splice z 9 (checksum z ∷ [])
 
-abbrev k1 : List ℕ
+abbrev pub k1 : List ℕ
 k1 =
     sheet 162
     (edit 0 (0x4E ∷ 0x42 ∷ 0x46 ∷ 0x54 ∷ 0xA2 ∷ [])
@@ -70,7 +70,7 @@ k1 =
     ∷ edit 160 (0x6E ∷ [])
     ∷ [])
 
-abbrev with : List Edit → List ℕ
+abbrev pub with : List Edit → List ℕ
 with es = summed (apply k1 es)
 
 -- K7: an empty text, the second heap byte alone, which is zero
@@ -205,7 +205,7 @@ identity =
     ∷ edit 344 (0x69 ∷ 0x61 ∷ 0x64 ∷ [])
     ∷ []))
 
-abbrev identityWith : List Edit → List ℕ
+abbrev pub identityWith : List Edit → List ℕ
 identityWith es = summed (apply identity es)
 
 -- its form of n bytes without what stands behind them

@@ -7,9 +7,10 @@ use Rattle.table.specs.Bytes.{num}
 use Rattle.table.specs.Numbers.{heapIn}
 use Rattle.table.specs.Closing.{movedOf, ones, slid}
 use Rattle.laws.specs.Fields.{Bytes}
+use Rattle.layout_images.proofs.Laws.{part-long}
 use Rattle.reader.proofs.AcceptedLaws.{checked, laid}
 use Rattle.bytes_bits.specs.Bits.{bitsBelow, marked}
-use Rattle.closer.proofs.Laws.{closed-of, heap-closed, heap-fits, kept-is, kept-ones, long-enough, moved-is, part-length, stored-long}
+use Rattle.closer.proofs.Laws.{closed-of, heap-closed, heap-fits, kept-is, kept-ones, long-enough, moved-is, stored-long}
 use Rattle.table.proofs.Rules.{picks}
 use borrow.Author.Needs.{needs}
 use Rattle.closer.proofs.close_table.Statement.{statement}
@@ -55,13 +56,13 @@ module _ (c : tie.After-ones-below) where
   lent-part : List ℕ
   lent-part = take (start .u32-at2 .result + size .u32-at3 .result - start .u32-at2 .result) (drop (start .u32-at2 .result) u)
 
-  part-long : length lent-part ≡ heapIn t .len
+  lent-long : length lent-part ≡ heapIn t .len
   unfolding heapIn lent-part
-  part-long =
+  lent-long =
       let a = start .u32-at2 .result in
       let n = size .u32-at3 .result in
       let z : a + n - a ≡ n = omega arith in
-      ap (λ (j : ℕ). length (take j (drop a u))) z ∙ part-length u a n heap-in ∙ size .u32-at3 .ensures .0
+      ap (λ (j : ℕ). length (take j (drop a u))) z ∙ part-long u a n heap-in ∙ size .u32-at3 .ensures .0
 
   part-kept : c .ones-below .result ≡ ones (marked (began .args .map .now)) (length lent-part)
   unfolding heapIn
@@ -69,7 +70,7 @@ module _ (c : tie.After-ones-below) where
       c .ones-below .ensures
       ∙ ap₂ bitsBelow (began .pre .3) (size .u32-at3 .ensures .0)
       ∙ kept-ones t (length (began .args .map .now)) (began .pre .2)
-      ∙ ap₂ (λ (x : List ℕ) (j : ℕ). ones (marked x) j) (sym (began .pre .3)) (sym part-long)
+      ∙ ap₂ (λ (x : List ℕ) (j : ℕ). ones (marked x) j) (sym (began .pre .3)) (sym lent-long)
 
 u32-at-requires : tie.Need-u32-at-requires
 u32-at-requires c κs = let s = c .before .before .before in omega (arith, laid (s .args .t .now) (s .pre .0) .lent)
@@ -103,7 +104,7 @@ part-close-up-end c = omega (arith, heap-in c)
 
 close-up-requires : tie.Need-close-up-requires
 unfolding lent-part
-close-up-requires c κs = (omega (arith, part-long (c .before), began (c .before) .pre .2), part-kept (c .before))
+close-up-requires c κs = (omega (arith, lent-long (c .before), began (c .before) .pre .2), part-kept (c .before))
 
 finish-requires : tie.Need-finish-requires
 finish-requires c κs =
@@ -129,8 +130,8 @@ returns c =
     let a = start at8 .u32-at2 .ensures .0 in
     let e = at8 .before .before .before .store-sites .ensures in
     let kept : at8 .ones-below .result ≡ slid (t at8) (num (t at8) 40 4) = at8 .ones-below .ensures ∙ ap₂ bitsBelow (s .pre .3) (n .0) ∙ kept-is (t at8) (length m) h in (
-      y .ensures .1 .0 ∙ ap₂ (λ (x : List ℕ) (j : ℕ). movedOf (marked x) j) (s .pre .3) (part-long at8) ∙ moved-is (t at8) (length m) h,
-      omega (arith, y .ensures .1 .1, part-long at8, n .0, n .1),
+      y .ensures .1 .0 ∙ ap₂ (λ (x : List ℕ) (j : ℕ). movedOf (marked x) j) (s .pre .3) (lent-long at8) ∙ moved-is (t at8) (length m) h,
+      omega (arith, y .ensures .1 .1, lent-long at8, n .0, n .1),
       c .before .before .finish .ensures
           ∙ closed-of (t at8) _ _ _ (start at8 .before .before .u32-at .ensures .0) kept
           (heap-closed (t at8) (u at8) (y .last .0) m (length m) _ _ h (s .pre .3) a (n .0) e (heap-in at8) (y .kept .0) (y .ensures .0)),

@@ -97,11 +97,12 @@ returns c =
     let z : List ℕ = a .other .now in
     let w : ℕ = widthAt (a .offset) (layoutOf (a .kind) .shape .fields) in
     let e : a .offset + f .field-width .result - a .offset ≡ w = omega (arith, f .field-width .ensures) in
+    let told = plainLines t u (a .kind) (a .position) (a .offset) in
     let some : eqb w 0 ≡ false = ne-eqb w 0 (λ o. y .if1 .taken (f .field-width .ensures ∙ o)) in (
       c .field-text .ensures .0,
       c .field-text .ensures .1
           ∙ ap (λ (m : ℕ). textsOf (fieldLine (a .kind) (a .position) (a .offset) (take m (drop (a .offset) x)) (take m (drop (a .offset) z)))) e
-          ∙ ap (λ (b : Bool). textsOf (pick b (plainLines t u (a .kind) (a .position) (a .offset)) (fieldLine (a .kind) (a .position) (a .offset) (part x (a .offset) w) (part z (a .offset) w)))) (sym some),
+          ∙ ap (λ (b : Bool). textsOf (pick b told (fieldLine (a .kind) (a .position) (a .offset) (part x (a .offset) w) (part z (a .offset) w)))) (sym some),
     )
 
 has-object-requires : tie.Need-has-object-requires

@@ -92,7 +92,8 @@ returns c =
     let y = c .before .before .before .before .before .before .before .before in
     let a = began y .args in
     let r = c .before .before .image-lines .ensures in
-    let lines : List ℕ → List ℕ → List ℕ = λ x z. take (a .from) (a .out .now) ++ textsOf (recordLines (a .kind) (a .position) (layoutOf (a .kind) .shape) x z (plainLines (a .t .now) (a .u .now) (a .kind) (a .position))) in
+    let told = plainLines (a .t .now) (a .u .now) (a .kind) (a .position) in
+    let lines : List ℕ → List ℕ → List ℕ = λ x z. take (a .from) (a .out .now) ++ textsOf (recordLines (a .kind) (a .position) (layoutOf (a .kind) .shape) x z told) in
     (r .0, r .1, r .2 ∙ ap₂ lines (one-is y) (other-is y), r .3)
 
 pub own-lines-spec : {M : Type 1} → statement M

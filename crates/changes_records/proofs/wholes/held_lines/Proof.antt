@@ -52,9 +52,12 @@ module _ (w : tie.After-is-there2) where
   unfolding levelLines
   level-is e f = rw (one-is e, other-is f) refl
 
-  -- the buffer with these lines behind what was there
+  -- the buffer with these bytes, and with these lines, behind what was there
+  abbrev then : List ℕ → List ℕ
+  then y = take (began .args .from) (began .args .out .now) ++ y
+
   abbrev behind : List Line → List ℕ
-  behind ls = take (began .args .from) (began .args .out .now) ++ textsOf ls
+  behind ls = then (textsOf ls)
 
 is-there-requires : tie.Need-is-there-requires
 is-there-requires c κs = search needs
@@ -114,7 +117,7 @@ returns-2 c =
       l .1 ∙ sym (both-is w e f),
       omega (arith, l .0, put .0),
       omega (arith, l .0, put .1),
-      ap (λ (m : ℕ). take m (c .before .before .before .put-text .last .0)) (l .0) ∙ put .2 ∙ ap (λ (y : List ℕ). take (began w .args .from) (began w .args .out .now) ++ y) x ∙ ap (behind w) (sym (level-is w e f)),
+      ap (λ (m : ℕ). take m (c .before .before .before .put-text .last .0)) (l .0) ∙ put .2 ∙ ap (then w) x ∙ ap (behind w) (sym (level-is w e f)),
       put .3,
     )
 
@@ -143,7 +146,7 @@ returns-3 c =
       l .1 ∙ sym (both-is w e f),
       omega (arith, l .0, put .0),
       omega (arith, l .0, put .1),
-      ap (λ (m : ℕ). take m (c .before .before .before .put-text2 .last .0)) (l .0) ∙ put .2 ∙ ap (λ (y : List ℕ). take (began w .args .from) (began w .args .out .now) ++ y) x ∙ ap (behind w) (sym (level-is w e f)),
+      ap (λ (m : ℕ). take m (c .before .before .before .put-text2 .last .0)) (l .0) ∙ put .2 ∙ ap (then w) x ∙ ap (behind w) (sym (level-is w e f)),
       put .3,
     )
 

@@ -4,7 +4,8 @@ use Prim.Native.Nat.{ℕ, _+_, _≤_, _<_}
 use native.Mathlib.Omega.{arith}
 use lib.ListN.{length, take}
 use Rattle.changes.specs.Changes.{Line, textsOf}
-use Rattle.changes_records.specs.Told.{depth, heldLines, levelLines, ownLines}
+use Rattle.reads_seats.specs.Told.{depth}
+use Rattle.changes_records.specs.Told.{heldLines, levelLines, ownLines}
 use Rattle.changes_records.proofs.HeldLaws.{held-once, then-lines, whole-deep, whole-flat}
 use borrow.Author.Needs.{needs}
 use Rattle.changes_records.proofs.wholes.whole_lines.Statement.{statement}
