@@ -2,7 +2,7 @@
 //! of the heap and a build, each beside two more that it is held to.
 
 use crate::stack;
-use crate::tables::{grown, long_heap, most_sites, shared_text, with_a_hole};
+use crate::tables::{grown, long_heap, most_looks, most_sites, shared_text, with_a_hole};
 use crate::turns::{Timed, Times, Turns};
 use linked::builder::Run;
 use second::form;
@@ -94,7 +94,9 @@ fn stacks(table: &[u8], calls: &[Call]) -> [usize; 4] {
 /// What is timed, a table of rows for each call.
 struct Report {
     sums: [Row; 3],
-    checks: [Row; 7],
+    checks: [Row; 8],
+    /// Of the row above with the most.
+    looks: u32,
     field: Row,
     rewrites: [Row; 5],
     closings: [Row; 4],
@@ -104,7 +106,7 @@ struct Report {
 pub fn print() {
     let (smallest, typical, long) = (samples::smallest(), grown(1), long_heap(60_000));
     let (half, large, identity) = (grown(28), grown(56), form(&samples::dhcp()));
-    let shared = shared_text(16, 40_000);
+    let (shared, looks) = (shared_text(16, 40_000), most_looks());
     let holed = [&typical, &long, &half, &large].map(|table| with_a_hole(table));
     let calls = calls(&mut Random::seeded(1), &samples::machine());
     let mut turns = Turns::default();
@@ -116,6 +118,7 @@ pub fn print() {
         ("60 kB, many records", &large),
         ("DHCP identity", &identity),
         ("one text, 33 records", &shared),
+        ("most looks", &looks),
     ]
     .map(|(name, table)| check_row(&mut turns, name, table));
     let report = Report {
@@ -126,9 +129,18 @@ pub fn print() {
             .map(|(table, check)| rewrite_row(&mut turns, table, &checks[check])),
         closings: [0, 1, 2, 3].map(|place| compact_row(&mut turns, &holed[place], &checks[place + 1])),
         build: build_row(&mut turns, &calls, &typical, &checks[1]),
+        looks: looks_of(&looks),
         checks,
     };
     report.print(&turns.take(ROUNDS), stacks(&large, &calls));
+}
+
+/// How often the check of a good table looks at records, on which both programs must agree.
+fn looks_of(table: &[u8]) -> u32 {
+    let looked = linked::check_looks(table);
+    assert_eq!(looked, second::check_looks(table));
+    assert!(looked.0.is_done());
+    looked.1
 }
 
 /// A closing takes so long here that fewer rounds must do.
@@ -144,12 +156,14 @@ pub fn print_worst() {
 
 impl Report {
     fn print(&self, times: &Times, stacks: [usize; 4]) {
-        let Report { sums, checks, field, rewrites, closings, build } = self;
+        let Report { sums, checks, looks, field, rewrites, closings, build } = self;
         println!("timed: {}\n", env!("TIMED"));
         print_table("sum", ["byte sum", "check"], sums, times);
         println!("to check: the part of a check that is the sum\n");
         print_table("check", ["second", "byte sum"], checks, times);
         println!("twice the table takes {:.2} times the time", checks[4].to(&checks[3], times));
+        let by_look = times[checks[7].timed[0]] / f64::from(*looks);
+        println!("most looks: {looks} looks at records, {by_look:.2} ns for each");
         println!("a check takes {} bytes of stack", stacks[0]);
         println!("targets: 60 kB with few records at most 1.2 to second and 1.5 to sum");
         println!("         typical at most 1.5 to second, DHCP identity at most 1; twice at most 2.2\n");

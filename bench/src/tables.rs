@@ -7,6 +7,7 @@ use second::frame::{DRIVER_SIGNATURE_AT, GREATEST_LENGTH};
 use second::identity::{Client, Identity};
 use second::interface::{Addition, Interface};
 use second::record::Record;
+use second::secondary;
 use second::security::{Policy, Security};
 use second::text::Text;
 use second::wire::{put_reference, u16_at, u32_at};
@@ -68,6 +69,16 @@ pub fn with_a_hole(table: &[u8]) -> Vec<u8> {
     let (start, length) = (u32_at(&table, DRIVER_SIGNATURE_AT), u16_at(&table, DRIVER_SIGNATURE_AT + 4));
     put_reference(&mut table, DRIVER_SIGNATURE_AT, start + 1, length - 1);
     put_checksum_within_length(&mut table);
+    table
+}
+
+/// The table that we know to take the most looks at records: 255 HFIs, 255 SSNSs that each name all of these, and in
+/// the room that is left 255 discovery records, which each name a security record, and 187 of those. So it takes as
+/// many looks as its counts allow. There must be an info for each HFI, since it has the HFI's index, but infos may lie
+/// over each other; and the SSNSs have one list.
+pub fn most_looks() -> Vec<u8> {
+    let table = secondary::most_looks();
+    assert_eq!(table.len(), GREATEST_LENGTH);
     table
 }
 

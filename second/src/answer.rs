@@ -24,9 +24,10 @@ pub mod number {
     pub const FORM_TOO_LONG: u8 = 17;
     pub const TEXT: u8 = 18;
     pub const OVERLAP: u8 = 19;
+    pub const SECONDARY: u8 = 20;
 
     /// The greatest of them.
-    pub const LAST: u8 = OVERLAP;
+    pub const LAST: u8 = SECONDARY;
 }
 
 /// The kind of the header, in answers and in reads.

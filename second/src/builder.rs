@@ -8,7 +8,7 @@ use crate::host::Host;
 use crate::identity::Identity;
 use crate::interface::{Info, Interface};
 use crate::meaning::{check, Origin};
-use crate::record::{Bytes, HeapRecord, Number, Objects, Record};
+use crate::record::{judge_secondary, Bytes, HeapRecord, Number, Objects, Record};
 use crate::security::Security;
 use crate::state::{State, READY};
 use crate::subsystem::{Extended, Subsystem};
@@ -51,13 +51,17 @@ pub struct ToldSubsystem<'a> {
 struct Told<'a> {
     objects: &'a [(usize, &'a [u8])],
     heap_record: Option<(&'a [u8], &'a Told<'a>)>,
+    /// How many interface positions the table is to have.
+    interfaces: u8,
 }
 
 impl<'a> Told<'a> {
+    /// Without heap record, and with no object that is a secondary list.
     fn plain(objects: &'a [(usize, &'a [u8])]) -> Told<'a> {
         Told {
             objects,
             heap_record: None,
+            interfaces: 0,
         }
     }
 
@@ -75,6 +79,12 @@ impl<'a> Objects<'a> for Told<'a> {
 
     fn optional_text(&self, field: usize) -> Result<Option<Text<'a>>, Number> {
         self.at(field).map(Text::told).transpose()
+    }
+
+    fn optional_secondary(&self, field: usize) -> Result<Option<Bytes<'a>>, Number> {
+        let list = self.optional(field)?;
+        judge_secondary(list.as_deref(), self.interfaces)?;
+        Ok(list)
     }
 
     fn optional_heap_record(&self, _field: usize) -> Result<Option<HeapRecord<'a>>, Number> {
@@ -95,6 +105,10 @@ impl<'a> Objects<'a> for FineObjects<'a> {
 
     fn optional_text(&self, _field: usize) -> Result<Option<Text<'a>>, Number> {
         Ok(Some(Text::of("fine")))
+    }
+
+    fn optional_secondary(&self, _field: usize) -> Result<Option<Bytes<'a>>, Number> {
+        Ok(None)
     }
 
     fn optional_heap_record(&self, _field: usize) -> Result<Option<HeapRecord<'a>>, Number> {
@@ -227,10 +241,11 @@ pub fn hfi(buffer: &mut [u8], state: State, told: &ToldInterface) -> (Answer, St
     let inner = Told {
         objects: &[(104, told.host_name)],
         heap_record: extended.as_deref().map(|bytes| (bytes, &client)),
+        ..Told::plain(&[])
     };
     let objects = Told {
-        objects: &[],
         heap_record: Some((&info, &inner)),
+        ..Told::plain(&[])
     };
     let outcome = place::<Interface>(buffer, state, &told.record, &objects);
     handed_back(state, outcome)
@@ -247,6 +262,7 @@ pub fn ssns(buffer: &mut [u8], state: State, told: &ToldSubsystem) -> (Answer, S
             (54, told.name),
         ],
         heap_record: Some((&extended, &Told::plain(&root_path))),
+        interfaces: state.counts[0],
     };
     let outcome = place::<Subsystem>(buffer, state, &told.record, &objects);
     handed_back(state, outcome)

@@ -1,8 +1,8 @@
 //! The discovery record.
 
 use crate::answer::number;
-use crate::frame::Frame;
 use crate::interface::Interface;
+use crate::looks::Lookup;
 use crate::record::{Number, Objects, Record, Target};
 use crate::security::Security;
 use crate::text::Text;
@@ -40,9 +40,9 @@ impl<'a> Record<'a> for Discovery<'a> {
         })
     }
 
-    fn indexes_hold(&self, frame: &Frame) -> bool {
-        frame.names_valid::<Interface>(self.interface)
-            && (self.security == 0 || frame.names_valid::<Security>(self.security))
+    fn indexes_hold(&self, records: &Lookup<'a>) -> bool {
+        records.names_valid::<Interface>(self.interface)
+            && (self.security == 0 || records.names_valid::<Security>(self.security))
     }
 
     fn write_fields(&self, position: u16, bytes: &mut [u8]) {

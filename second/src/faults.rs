@@ -10,7 +10,7 @@ use crate::interface::{Info, Interface};
 use crate::record::Record;
 use crate::security::Security;
 use crate::subsystem::{Extended, Subsystem};
-use crate::wire::{bit, two_bits, u16_at, u32_at};
+use crate::wire::{bit, put_reference, two_bits, u16_at, u32_at};
 
 /// Flags of an info, and of an identity.
 const BY_DHCP: u8 = 1 << Info::DHCP_BIT;
@@ -71,7 +71,7 @@ impl Subject {
     }
 
     /// A heap record's own rule is judged before its references, none of
-    /// which stands at 0.
+    /// which stands at 0; and a list's right behind its reference.
     fn own_rule(&self) -> Subject {
         self.at_field(0)
     }
@@ -80,6 +80,12 @@ impl Subject {
     fn indexes(&self) -> Subject {
         self.at_field(usize::MAX)
     }
+}
+
+fn reference_bytes(offset: u32, length: u16) -> [u8; 6] {
+    let mut bytes = [0; 6];
+    put_reference(&mut bytes, 0, offset, length);
+    bytes
 }
 
 struct Finder<'a> {
@@ -278,8 +284,7 @@ impl<'a> Finder<'a> {
             wrong.push(("absent", 0, 0));
         }
         for (fault, offset, length) in wrong {
-            let mut bytes = offset.to_le_bytes().to_vec();
-            bytes.extend(length.to_le_bytes());
+            let bytes = reference_bytes(offset, length);
             let name = format!("{name}-{fault}");
             self.fault(subject, &name, number::REFERENCE, field, &bytes);
         }
@@ -542,6 +547,7 @@ impl<'a> Finder<'a> {
         self.record_reference(&subsystem, "address", 10, true);
         self.record_reference(&subsystem, "service", 16, true);
         self.record_reference(&subsystem, "secondary", 48, false);
+        self.secondary_list(&subsystem);
         self.text(&subsystem, "name", 54, true);
         let flags = u16_at(self.frame.table, subsystem.start + 3).into();
         if bit(flags, 4) {
@@ -556,6 +562,50 @@ impl<'a> Finder<'a> {
         }
         self.index::<Interface>(&subsystem, "primary-index", 46, false);
         self.secondary_indexes(&subsystem);
+    }
+
+    /// A secondary list that is too long, whether or not there is one now, or
+    /// has a byte twice. It is judged right behind its reference.
+    fn secondary_list(&mut self, subsystem: &Subject) {
+        let rule = subsystem.at_field(48).own_rule();
+        let positions = u16::from(self.frame.interfaces.count);
+        let (start, heap) = (self.frame.heap.start as u32, self.frame.heap.length);
+        for (name, length) in [("one-too-long", positions + 1), ("over-255", 256)] {
+            if u64::from(length) <= heap {
+                let bytes = reference_bytes(start, length);
+                self.fault(
+                    &rule,
+                    &format!("secondary-{name}"),
+                    number::SECONDARY,
+                    48,
+                    &bytes,
+                );
+            }
+        }
+        self.repeated_indexes(&rule);
+    }
+
+    /// A byte of the secondary list that is there, once more in it. Both are
+    /// written, so that no other damage to the list takes this one back.
+    fn repeated_indexes(&mut self, rule: &Subject) {
+        let list = Subject {
+            start: u32_at(self.frame.table, rule.start + 48) as usize,
+            ..rule.clone()
+        };
+        let length = usize::from(u16_at(self.frame.table, rule.start + 52));
+        if length < 2 {
+            return;
+        }
+        let (index, last) = (self.frame.table[list.start], length - 1);
+        for (name, first, second) in [
+            ("first-twice", 0, 1),
+            ("last-twice", last - 1, last),
+            ("last-as-first", 0, last),
+        ] {
+            let edits: [(usize, &[u8]); 2] = [(first, &[index]), (second, &[index])];
+            let name = format!("secondary-{name}");
+            self.joint_fault(&list, &name, number::SECONDARY, &edits);
+        }
     }
 
     /// The first and the last byte of the secondary list, if there is one.

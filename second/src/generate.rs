@@ -43,6 +43,14 @@ fn used_positions<R>(list: &[Entry<R>]) -> Vec<u8> {
         .collect()
 }
 
+/// None, some or all of the positions in any order, each of them once.
+fn some_of(random: &mut Random, positions: &[u8]) -> Vec<u8> {
+    let mut some = positions.to_vec();
+    random.shuffle(&mut some);
+    some.truncate(random.below(positions.len() + 1));
+    some
+}
+
 /// An optional index: 0, or one of the positions.
 fn zero_or_one_of(random: &mut Random, positions: &[u8]) -> u8 {
     if positions.is_empty() || random.one_in(3) {
@@ -181,9 +189,7 @@ fn random_subsystem(
     security: u8,
     discovery: u8,
 ) -> Subsystem<'static> {
-    let secondary: Vec<u8> = (0..random.below(4))
-        .map(|_| *random.pick(interfaces))
-        .collect();
+    let secondary = some_of(random, interfaces);
     Subsystem {
         not_bootable: random.flag(),
         root_path_used: random.flag(),

@@ -4,7 +4,7 @@
 use second::changes::report;
 use second::pairs::pairs;
 use second::random::Random;
-use second::{check, rewrite};
+use second::{check, check_looks, rewrite};
 use std::fs;
 use std::path::{Path, PathBuf};
 use std::process::ExitCode;
@@ -13,6 +13,7 @@ const HELP: &str = "\
 second: an independent reading of NVMe boot firmware tables
 
   second check FILE           print the table's number, kind and position
+  second looks FILE           print the same, and how often the check looked at a record
   second form FILE OUT        write the table's one form
   second diff FILE FILE       print what differs between the two tables' meanings, a line each
   second vectors write DIR    write DIR/tables.txt
@@ -41,6 +42,7 @@ fn main() -> ExitCode {
 fn run(words: &[&str]) -> Result<(), String> {
     match words {
         ["check", file] => print_check(Path::new(file)),
+        ["looks", file] => print_looks(Path::new(file)),
         ["form", file, output] => write_form(Path::new(file), Path::new(output)),
         ["diff", first, second] => print_diff(Path::new(first), Path::new(second)),
         ["vectors", action, directory] => {
@@ -70,6 +72,12 @@ fn write(file: &Path, bytes: &[u8]) -> Result<(), String> {
 
 fn print_check(file: &Path) -> Result<(), String> {
     println!("{}", check(&read(file)?));
+    Ok(())
+}
+
+fn print_looks(file: &Path) -> Result<(), String> {
+    let (answer, looks) = check_looks(&read(file)?);
+    println!("{answer} {looks}");
     Ok(())
 }
 

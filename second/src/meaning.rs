@@ -5,6 +5,7 @@ use crate::discovery::Discovery;
 use crate::frame::{Frame, DRIVER_SIGNATURE_AT};
 use crate::host::Host;
 use crate::interface::Interface;
+use crate::looks::Lookup;
 use crate::record::{heap_length, Bytes, InTable, Objects, Record};
 use crate::security::Security;
 use crate::subsystem::Subsystem;
@@ -79,6 +80,12 @@ impl<'a> Meaning<'a> {
 
     /// The same of a table whose frame is good.
     pub fn within(frame: Frame<'a>) -> Result<Meaning<'a>, Answer> {
+        Meaning::looked_up(&Lookup::of(frame))
+    }
+
+    /// The same, and the looks that this takes are counted.
+    fn looked_up(records: &Lookup<'a>) -> Result<Meaning<'a>, Answer> {
+        let frame = records.frame;
         let header = InTable {
             frame,
             record: frame.table,
@@ -88,11 +95,11 @@ impl<'a> Meaning<'a> {
         Ok(Meaning {
             origin: Origin::read(frame.table),
             driver_signature: header.optional(DRIVER_SIGNATURE_AT).map_err(in_header)?,
-            host: read_record(frame, frame.host_record(), 0)?,
-            interfaces: read_list(frame)?,
-            subsystems: read_list(frame)?,
-            securities: read_list(frame)?,
-            discoveries: read_list(frame)?,
+            host: read_record(records, records.host_record(), 0)?,
+            interfaces: read_list(records)?,
+            subsystems: read_list(records)?,
+            securities: read_list(records)?,
+            discoveries: read_list(records)?,
         })
     }
 
@@ -124,29 +131,29 @@ impl<'a> Meaning<'a> {
 }
 
 fn read_record<'a, R: Record<'a>>(
-    frame: Frame<'a>,
+    records: &Lookup<'a>,
     bytes: &'a [u8],
     position: u16,
 ) -> Result<R, Answer> {
     let objects = InTable {
-        frame,
+        frame: records.frame,
         record: bytes,
     };
     let in_record = |number| Answer::at(number, R::ID, position);
     let record = R::read(bytes, position, &objects).map_err(in_record)?;
-    if record.indexes_hold(&frame) {
+    if record.indexes_hold(records) {
         Ok(record)
     } else {
         Err(in_record(number::INDEX))
     }
 }
 
-fn read_list<'a, R: Record<'a>>(frame: Frame<'a>) -> Result<Vec<Entry<R>>, Answer> {
-    let count = u16::from(frame.list(R::ID).count);
+fn read_list<'a, R: Record<'a>>(records: &Lookup<'a>) -> Result<Vec<Entry<R>>, Answer> {
+    let count = u16::from(records.frame.list(R::ID).count);
     let read = |position| {
-        let bytes = frame.list_record(R::ID, position);
+        let bytes = records.list_record::<R>(position);
         if R::is_valid(bytes) {
-            read_record(frame, bytes, position).map(Entry::Used)
+            read_record(records, bytes, position).map(Entry::Used)
         } else {
             Ok(Entry::Unused)
         }
@@ -164,6 +171,16 @@ pub fn check(lent: &[u8]) -> Answer {
         Ok(_) => Answer::DONE,
         Err(answer) => answer,
     }
+}
+
+/// The same, and how often records were looked at until the answer was known.
+pub fn check_looks(lent: &[u8]) -> (Answer, u32) {
+    let records = match Frame::read(lent) {
+        Ok(frame) => Lookup::of(frame),
+        Err(answer) => return (answer, 0),
+    };
+    let outcome = Meaning::looked_up(&records);
+    (outcome.err().unwrap_or(Answer::DONE), records.looks())
 }
 
 /// The meaning of a table that is known to be good.

@@ -187,10 +187,11 @@ fn other_object(random: &mut Random, plain: &[u8]) -> Vec<u8> {
 fn similar(random: &mut Random, object: &[u8]) -> Vec<u8> {
     let mut similar = object.to_vec();
     let place = random.below(object.len());
-    // In a list of indexes its own bytes are those that will do.
-    let byte = match random.flag() {
-        true => random.byte(),
-        false => *random.pick(object),
+    // In a list of indexes small bytes will do that it does not have yet.
+    let byte = match random.below(3) {
+        0 => random.byte(),
+        1 => *random.pick(object),
+        _ => 1 + random.below(4) as u8,
     };
     match random.below(6) {
         0 => similar[place] = byte,

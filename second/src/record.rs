@@ -4,10 +4,12 @@ use crate::answer::number;
 use crate::frame::Frame;
 use crate::identity::Identity;
 use crate::interface::Info;
+use crate::looks::Lookup;
 use crate::subsystem::Extended;
 use crate::text::Text;
 use crate::wire::{put, put_u16, set_bit, u16_at, u32_at};
 use std::borrow::Cow;
+use std::collections::BTreeSet;
 
 /// An object's bytes: borrowed from a table, or made up by a generator.
 pub type Bytes<'a> = Cow<'a, [u8]>;
@@ -29,6 +31,10 @@ pub trait Objects<'a> {
 
     /// The same where it must be text.
     fn optional_text(&self, field: usize) -> Result<Option<Text<'a>>, Number>;
+
+    /// The same where it must be a secondary list: each interface is named
+    /// once at most, so that it is no longer than their list.
+    fn optional_secondary(&self, field: usize) -> Result<Option<Bytes<'a>>, Number>;
 
     /// The heap record for the field, if present.
     fn optional_heap_record(&self, field: usize) -> Result<Option<HeapRecord<'a>>, Number>;
@@ -107,8 +113,9 @@ pub trait Record<'a>: Sized {
         0
     }
 
-    /// Whether every index in the record names a valid record.
-    fn indexes_hold(&self, _frame: &Frame) -> bool {
+    /// Whether every index in the record names a valid record. They are
+    /// looked up in the order in which their faults count.
+    fn indexes_hold(&self, _records: &Lookup<'a>) -> bool {
         true
     }
 
@@ -149,6 +156,22 @@ pub fn is_extended<'a, R: Record<'a>>(bytes: &[u8], position: u16) -> bool {
         && R::is_valid(bytes)
 }
 
+/// Whether a secondary list is as it must be where there are so many
+/// interface positions, used or not. What its indexes name is judged later.
+pub fn judge_secondary(list: Option<&[u8]>, interfaces: u8) -> Result<(), Number> {
+    let list = list.unwrap_or(&[]);
+    if list.len() <= usize::from(interfaces) && all_differ(list) {
+        Ok(())
+    } else {
+        Err(number::SECONDARY)
+    }
+}
+
+fn all_differ(list: &[u8]) -> bool {
+    let different: BTreeSet<&u8> = list.iter().collect();
+    different.len() == list.len()
+}
+
 /// The heap bytes that belong to a record.
 pub fn heap_length<'a, R: Record<'a>>(record: &R) -> usize {
     let targets = record.targets();
@@ -183,6 +206,12 @@ impl<'a> Objects<'a> for InTable<'a> {
 
     fn optional_text(&self, field: usize) -> Result<Option<Text<'a>>, Number> {
         self.part(field)?.map(Text::read).transpose()
+    }
+
+    fn optional_secondary(&self, field: usize) -> Result<Option<Bytes<'a>>, Number> {
+        let list = self.optional(field)?;
+        judge_secondary(list.as_deref(), self.frame.interfaces.count)?;
+        Ok(list)
     }
 
     fn optional_heap_record(&self, field: usize) -> Result<Option<HeapRecord<'a>>, Number> {

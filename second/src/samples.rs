@@ -154,7 +154,7 @@ fn ipv4(address: [u8; 4]) -> [u8; 16] {
     mapped
 }
 
-fn plain_interface() -> Interface<'static> {
+pub fn plain_interface() -> Interface<'static> {
     Interface {
         info: Info {
             default_route: false,
@@ -286,7 +286,7 @@ pub fn examples() -> [Sample; 2] {
     [(0, "example-dhcpv4"), (1, "example-dhcpv6")].map(sample)
 }
 
-fn plain_subsystem() -> Subsystem<'static> {
+pub fn plain_subsystem() -> Subsystem<'static> {
     Subsystem {
         not_bootable: false,
         root_path_used: false,
@@ -322,7 +322,7 @@ fn full_subsystem(position: u8) -> Subsystem<'static> {
         discovery: position,
         security: Some(position),
         primary_interface: position,
-        secondary_interfaces: Some(vec![position; 2].into()),
+        secondary_interfaces: Some(vec![position].into()),
         extended: Some(Extended {
             queue_size_configured: true,
             controller: 0x0102,
@@ -333,7 +333,7 @@ fn full_subsystem(position: u8) -> Subsystem<'static> {
     }
 }
 
-fn plain_security() -> Security<'static> {
+pub fn plain_security() -> Security<'static> {
     Security {
         authentication: 1,
         channel: 2,
@@ -444,7 +444,7 @@ pub fn refused() -> Vec<u8> {
 pub fn far_interface() -> Meaning<'static> {
     let subsystem = Subsystem {
         primary_interface: 255,
-        secondary_interfaces: Some(b"\xFF\xFF".into()),
+        secondary_interfaces: Some(b"\xFF".into()),
         ..plain_subsystem()
     };
     Meaning {

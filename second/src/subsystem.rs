@@ -2,8 +2,8 @@
 
 use crate::answer::number;
 use crate::discovery::Discovery;
-use crate::frame::Frame;
 use crate::interface::Interface;
+use crate::looks::Lookup;
 use crate::record::{is_extended, stamp_extended, Bytes, Number, Objects, Record, Target, TCP};
 use crate::security::Security;
 use crate::text::Text;
@@ -32,6 +32,7 @@ pub struct Subsystem<'a> {
     /// Present exactly when security is used.
     pub security: Option<u8>,
     pub primary_interface: u8,
+    /// Positions in the interface list, each once at most.
     pub secondary_interfaces: Option<Bytes<'a>>,
     pub name: Text<'a>,
     /// Present exactly when extended info is in use.
@@ -103,7 +104,7 @@ impl<'a> Record<'a> for Subsystem<'a> {
             identifier: array_at(bytes, 29),
             security: bit(flags, 2).then_some(bytes[45]),
             primary_interface: bytes[46],
-            secondary_interfaces: objects.optional(48)?,
+            secondary_interfaces: objects.optional_secondary(48)?,
             name: objects.required_text(54)?,
             extended: match bit(flags, 4) {
                 true => Self::read_extended(position, objects)?,
@@ -112,16 +113,16 @@ impl<'a> Record<'a> for Subsystem<'a> {
         })
     }
 
-    fn indexes_hold(&self, frame: &Frame) -> bool {
+    fn indexes_hold(&self, records: &Lookup<'a>) -> bool {
         let secondary = self.secondary_interfaces.as_deref().unwrap_or(&[]);
-        (self.discovery == 0 || frame.names_valid::<Discovery>(self.discovery))
+        (self.discovery == 0 || records.names_valid::<Discovery>(self.discovery))
             && self
                 .security
-                .is_none_or(|index| frame.names_valid::<Security>(index))
-            && frame.names_valid::<Interface>(self.primary_interface)
+                .is_none_or(|index| records.names_valid::<Security>(index))
+            && records.names_valid::<Interface>(self.primary_interface)
             && secondary
                 .iter()
-                .all(|index| frame.names_valid::<Interface>(*index))
+                .all(|index| records.names_valid::<Interface>(*index))
     }
 
     fn write_fields(&self, position: u16, bytes: &mut [u8]) {

@@ -14,6 +14,7 @@ use crate::meaning::{check, meaning};
 use crate::random::Random;
 use crate::record::Record;
 use crate::samples::{dhcp, host_only, known, machine, small, smallest, unended, Sample};
+use crate::secondary::lists;
 use crate::security::Security;
 use crate::subsystem::Subsystem;
 use crate::Answer;
@@ -176,7 +177,7 @@ fn front_damage() -> Vec<Sample> {
 /// Two faults at once, of which the first counts.
 fn double_damage(random: &mut Random) -> Vec<Sample> {
     let good = form(&small(Subsystem::ID, 1));
-    let numbers = [2, 3, 6, 7, 8, 9, 10, 11, 12, 13, 18];
+    let numbers = [2, 3, 6, 7, 8, 9, 10, 11, 12, 13, 18, 20];
     doubly_damaged(random, &good, &damages(&good), &numbers)
 }
 
@@ -267,6 +268,7 @@ pub fn vectors() -> Vec<Vector> {
     let mut samples = known();
     samples.push(unended());
     samples.extend(goods());
+    samples.extend(lists());
     samples.extend(front_damage());
     samples.extend(record_damage());
     samples.extend(addition_damage());

@@ -3,10 +3,10 @@
 use core::error::Error;
 use core::fmt::{self, Display, Formatter};
 
-/// Why a call is refused: those of a check, then those of the other calls, then [`Number::Text`], which is of both, and
-/// [`Number::Overlap`], which is of [`compact`](crate::compact) alone. Up to [`Number::Version`] they are tested in this
-/// order; then record after record, of each its own fields, its references in turn, with the heap record or the text
-/// that one names, and its indexes.
+/// Why a call is refused: those of a check, then those of the other calls, then [`Number::Text`] and
+/// [`Number::Secondary`], which are of both, and [`Number::Overlap`], which is of [`compact`](crate::compact) alone.
+/// Up to [`Number::Version`] they are tested in this order; then record after record, of each its own fields, its
+/// references in turn, with the heap record, the text or the secondary list that one names, and its indexes.
 #[repr(u8)]
 #[derive(Clone, Copy, Debug, PartialEq, Eq, Hash)]
 pub enum Number {
@@ -48,11 +48,13 @@ pub enum Number {
     Text = 18,
     /// A heap record shares a byte with another object.
     Overlap = 19,
+    /// A secondary list, which names HFIs of an SSNS, has more bytes than HFIs are counted, or a byte twice.
+    Secondary = 20,
 }
 
 impl Number {
     /// All numbers; each stands one place before the one that it is.
-    pub const ALL: [Number; 19] = [
+    pub const ALL: [Number; 20] = [
         Number::TooFewBytes,
         Number::Signature,
         Number::Length,
@@ -72,6 +74,7 @@ impl Number {
         Number::ResultTooLong,
         Number::Text,
         Number::Overlap,
+        Number::Secondary,
     ];
 
     /// What it means, in words.
@@ -96,6 +99,7 @@ impl Number {
             Number::ResultTooLong => "the output would pass 65536 bytes",
             Number::Text => "a text does not end in its only zero byte",
             Number::Overlap => "a heap record shares a byte with another object",
+            Number::Secondary => "a secondary list is too long or names an HFI twice",
         }
     }
 }
@@ -183,8 +187,8 @@ impl Display for Refusal {
 
 impl Error for Refusal {}
 
-/// Bits 0 to 7 are the number, 8 to 15 the kind, 16 to 31 the position. The library answers with no number above 19 and no
-/// kind above 6.
+/// Bits 0 to 7 are the number, 8 to 15 the kind, 16 to 31 the position. The library answers with no number above 20
+/// and no kind above 6.
 pub(crate) fn answered(packed: u32) -> Result<(), Refusal> {
     let [number, kind, low, high] = packed.to_le_bytes();
     match number {

@@ -59,7 +59,8 @@ pub struct Ssns<'a> {
     pub address: &'a [u8],
     /// Required.
     pub service: &'a [u8],
-    /// The indexes of the secondary HFIs, one byte each; optional.
+    /// The indexes of the secondary HFIs, one byte each; optional. None of them comes twice, and there are no more than
+    /// HFIs are counted.
     pub others: &'a [u8],
     /// A text; required.
     pub nqn: &'a [u8],
@@ -117,7 +118,8 @@ pub struct Discovery<'a> {
 /// Each call is refused, in this order, out of turn; for a two-bit field that is 3 ([`Number::Record`]); for a
 /// transport info's version, flags or origin, or an HFI extended info's flags ([`Number::HeapRecord`]); object by
 /// object, for a required one that is empty, one of more than 65,535 bytes or a text of more than 65,534
-/// ([`Number::Reference`]), then for a text with a zero byte ([`Number::Text`]); where the table would pass 65,536
+/// ([`Number::Reference`]), then for a text with a zero byte ([`Number::Text`]), or for a list of secondary HFIs that
+/// has a byte twice or more bytes than HFIs are counted ([`Number::Secondary`]); where the table would pass 65,536
 /// bytes, terminators among them; and where the buffer is too short. A refused call changes nothing: what was wrong can
 /// be mended and the call made again.
 ///
@@ -125,6 +127,7 @@ pub struct Discovery<'a> {
 /// [`Number::HeapRecord`]: crate::Number::HeapRecord
 /// [`Number::Reference`]: crate::Number::Reference
 /// [`Number::Text`]: crate::Number::Text
+/// [`Number::Secondary`]: crate::Number::Secondary
 pub struct Builder<'b> {
     state: [u8; 16],
     out: &'b mut [u8],

@@ -44,6 +44,42 @@ pub fn check(table: &[u8]) -> Result<(), Refusal> {
     answered(unsafe { library::nbft_check(table.as_ptr(), table.len()) })
 }
 
+/// The same check, and how often it looked at a record until its answer was known.
+///
+/// It looks once at the host and at each position of a list that it visits, used or not, and once for each index that
+/// it resolves, the one that fails among them. A table that is refused before its records are visited has no looks.
+///
+/// With H HFIs, S SSNSs, C security and D discovery records counted, used or not, there are for any bytes at most
+/// 1 + H + S × (4 + H) + C + 3 × D looks: a list of secondary HFIs that is longer than H, or names one twice, is
+/// refused with [`Number::Secondary`] before any index of its record is resolved.
+///
+/// ```
+/// # fn main() -> Result<(), nbft::Refusal> {
+/// # let mut buffer = [0; 512];
+/// # let mut builder = nbft::Builder::new(&mut buffer);
+/// let counts = nbft::Counts { hfi: 2, discovery: 1, ..nbft::Counts::default() };
+/// # builder.begin(&[0; 26], counts, b"")?;
+/// # builder.host(&nbft::Host { record: &[0; 32], nqn: b"nqn.2014-08.org.example:host" })?;
+/// # let mut info = [0; 128];
+/// # info[3] = 1;
+/// # builder.hfi(&nbft::Hfi { record: &[0; 32], info: &info, name: b"", extended: None })?;
+/// # builder.leave()?;
+/// # let mut record = [0; 32];
+/// # record[3] = 1;
+/// # builder.discovery(&nbft::Discovery { record: &record, address: b"", nqn: b"" })?;
+/// # let table = builder.finish()?;
+/// // The host, two positions of HFIs of which one is unused, the discovery record, and the HFI that it names.
+/// assert_eq!(nbft::check_looks(table), (Ok(()), 1 + 2 + 1 + 1));
+/// assert_eq!(nbft::check_looks(&table[1..]).1, 0);
+/// # Ok(())
+/// # }
+/// ```
+pub fn check_looks(table: &[u8]) -> (Result<(), Refusal>, u32) {
+    // SAFETY: pointer and length are a slice's, which the function only reads.
+    let packed = unsafe { library::nbft_check_looks(table.as_ptr(), table.len()) };
+    (answered(packed as u32), (packed >> 32) as u32)
+}
+
 /// A field that was read.
 #[derive(Clone, Copy, Debug, PartialEq, Eq)]
 pub struct Field {

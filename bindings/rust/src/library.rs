@@ -5,6 +5,7 @@ type Object = *const u8;
 
 extern "C" {
     pub fn nbft_check(table: *const u8, length: usize) -> u32;
+    pub fn nbft_check_looks(table: *const u8, length: usize) -> u64;
     pub fn nbft_field(
         table: *const u8,
         length: usize,

@@ -281,6 +281,32 @@ fn the_first_object_at_fault_is_told() {
     assert_eq!(told(b"\0", &[0; 65_534]), refused(Number::Text));
 }
 
+/// There are three HFIs, none of them used, which is asked at the end alone. A list that is too long for its reference
+/// is told as such, and one that is wrong before the NQN behind it.
+#[test]
+fn secondary_interfaces_are_told_once_and_no_more_than_there_are() {
+    let told = |others: &[u8], nqn: &[u8]| {
+        let mut buffer = vec![0; 1000];
+        let mut builder = Builder::new(&mut buffer);
+        builder.begin(&[0; 26], Counts { hfi: 3, ssns: 1, ..Counts::default() }, b"").unwrap();
+        builder.host(&Host { record: &[0; 32], nqn: b"nqn.h" }).unwrap();
+        (0..3).try_for_each(|_| builder.leave()).unwrap();
+        let (record, extended): (&[u8; 128], &[u8; 18]) = (&[0; 128], &[0; 18]);
+        builder.ssns(&Ssns { record, address: b"a", service: b"s", others, nqn, extended, path: b"" })
+    };
+    let refused = |number| Err(Refusal { number, kind: Kind::Ssns, position: 1 });
+    for fine in [&[][..], &[2], &[3, 1, 2], &[0, 200, 255]] {
+        assert_eq!(told(fine, b"nqn.s"), Ok(()));
+        assert_eq!(told(fine, b"nqn.s\0"), refused(Number::Text));
+    }
+    for wrong in [&[1, 1][..], &[1, 2, 1], &[0, 0], &[1, 2, 3, 4], &[1; 60_000], &[1; 65_535]] {
+        assert_eq!(told(wrong, b"nqn.s"), refused(Number::Secondary));
+        assert_eq!(told(wrong, b""), refused(Number::Secondary));
+        assert_eq!(told(wrong, b"nqn.s\0"), refused(Number::Secondary));
+    }
+    assert_eq!(told(&[1; 65_536], b""), refused(Number::Reference));
+}
+
 /// What is wrong here: the turn, the state, a two-bit field, an empty NQN, one with a zero byte, two that are too long,
 /// and the room.
 #[test]

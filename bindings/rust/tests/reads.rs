@@ -3,7 +3,7 @@
 mod common;
 
 use common::{bytes, layout, number, summed, DHCP, LAYOUTS, MACHINE, MIXED, SAMPLES, SMALLEST};
-use nbft::{check, field, object, Kind, Number, Refusal};
+use nbft::{check, check_looks, field, object, Kind, Number, Refusal};
 
 fn plain(number: Number) -> Refusal {
     Refusal { number, kind: Kind::Header, position: 0 }
@@ -71,6 +71,66 @@ fn a_text_ends_in_its_only_zero_byte() {
     }
     assert_eq!(refusal.to_string(), "a text does not end in its only zero byte: host");
     assert_eq!(bytes(SMALLEST, Kind::Host, 0, 18), b"n");
+}
+
+/// Where the list of the machine's SSNS at position 1 is referred to, with its length, which is 1.
+const SECONDARY: usize = 224 + 48;
+
+/// The machine with a secondary list of this length: the list goes on into what stands behind it, the NQN.
+fn with_longer_list(length: u8) -> Vec<u8> {
+    let mut table = MACHINE.to_vec();
+    assert_eq!(table[SECONDARY + 4], 1);
+    table[SECONDARY + 4] = length;
+    summed(table)
+}
+
+/// There are two HFIs: three bytes are too many, and two that differ are not, but the second is no index.
+#[test]
+fn a_secondary_list_has_no_more_bytes_than_there_are_interfaces_and_none_twice() {
+    let at = |number| Refusal { number, kind: Kind::Ssns, position: 1 };
+    let refusal = at(Number::Secondary);
+    let table = with_longer_list(3);
+    assert_eq!(check(&table), Err(refusal));
+    assert_eq!(object(&table, Kind::Ssns, 1, 48), Err(refusal));
+    assert_eq!(field(&table, Kind::Host, 0, 1), Err(refusal));
+    assert_eq!(refusal.to_string(), "a secondary list is too long or names an HFI twice: SSNS 1");
+    let mut table = with_longer_list(2);
+    assert_eq!(check(&table), Err(at(Number::Index)));
+    let list = u32::from_le_bytes(table[SECONDARY..][..4].try_into().unwrap()) as usize;
+    table[list + 1] = table[list];
+    assert_eq!(check(&summed(table)), Err(refusal));
+}
+
+/// The host, two HFIs; an SSNS with its discovery, security, primary and secondary index, and one without security;
+/// a security record; a discovery record with its HFI and security index.
+#[test]
+fn looks_are_those_at_records_and_indexes() {
+    assert_eq!(check_looks(SMALLEST), (Ok(()), 1));
+    assert_eq!(check_looks(MACHINE), (Ok(()), 1 + 2 + 5 + 4 + 1 + 3));
+    let refusal = Refusal { number: Number::Secondary, kind: Kind::Ssns, position: 1 };
+    assert_eq!(check_looks(&with_longer_list(3)), (Err(refusal), 1 + 2 + 1));
+    let refusal = Refusal { number: Number::Index, kind: Kind::Ssns, position: 1 };
+    assert_eq!(check_looks(&with_longer_list(2)), (Err(refusal), 1 + 2 + 1 + 5));
+    assert_eq!(check_looks(&MACHINE[..200]), (Err(plain(Number::Length)), 0));
+    assert_eq!(check_looks(&[]), (Err(plain(Number::TooFewBytes)), 0));
+}
+
+#[test]
+fn looks_pass_no_bound_and_come_with_the_answer_of_a_check() {
+    for table in SAMPLES {
+        let [h, s, c, d] = common::counts(table).map(u32::from);
+        let most = 1 + h + s * (4 + h) + c + 3 * d;
+        assert!(check_looks(table).1 <= most);
+        for place in 0..table.len() {
+            let mut changed = table.to_vec();
+            changed[place] ^= 0x01;
+            let changed = summed(changed);
+            let (answer, looks) = check_looks(&changed);
+            assert_eq!(answer, check(&changed), "{place}");
+            let [h, s, c, d] = [87, 95, 103, 111].map(|count: usize| u32::from(changed[count]));
+            assert!(looks <= 1 + h + s * (4 + h) + c + 3 * d, "{place}");
+        }
+    }
 }
 
 #[test]
@@ -156,7 +216,7 @@ fn a_flipped_byte_under_a_right_checksum_is_judged_by_what_it_says() {
 #[test]
 fn every_number_has_its_code_and_its_words() {
     let codes: Vec<u8> = Number::ALL.iter().map(|number| *number as u8).collect();
-    assert_eq!(codes, (1..=19).collect::<Vec<u8>>());
+    assert_eq!(codes, (1..=20).collect::<Vec<u8>>());
     assert_eq!(plain(Number::Checksum).to_string(), "the checksum is wrong");
     let host = Refusal { number: Number::Version, kind: Kind::Host, position: 0 };
     assert_eq!(host.to_string(), "a version is wrong: host");

@@ -101,7 +101,7 @@ module _ (oem : List ℕ) (c : Counts) (small : SmallCounts c) (signature : List
 
 number-is : (e : Env) (signature : List ℕ) → slotsRule e [] (headerTold signature) ≡ toldFault Optional anything signature
 unfolding headerTold header toldSlots
-number-is e signature = faults-told e 0 [] (headerTold signature) ∙ first-zero (toldFault Optional anything signature)
+number-is e signature = faults-told e [] (headerTold signature) ∙ first-zero (toldFault Optional anything signature)
 
 module _ (s : State) (b oem cs signature : List ℕ) where
   pub begin-again : sameState s empty ≡ false → (record { answer = answer 15 0 0; state = s } ≡ beginWith s b oem cs signature .step) × (b ≡ beginWith s b oem cs signature .buffer)

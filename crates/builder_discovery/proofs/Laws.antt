@@ -12,7 +12,7 @@ use Rattle.table.specs.Layout.{text}
 use Rattle.table.specs.FixedLayouts.{layoutOf, discovery}
 use Rattle.table.specs.Objects.{sizeOf, heapOf, patched}
 use Rattle.table.specs.Rules.{firstOf, firstFail}
-use Rattle.table.specs.Builder.{waits, ended, toldImage, toldSlots}
+use Rattle.table.specs.Builder.{envOf, waits, ended, toldImage, toldSlots}
 use Rattle.laws.specs.Fields.{imageIn}
 use Rattle.bytes_writer.proofs.StoreLaws.{concat}
 use Rattle.builder_writers.specs.Written.{recordWith}
@@ -41,7 +41,7 @@ discovery-heap u address nqn = refl
 module _ (s : State) (buf x b address nqn : List ℕ) (a : Answer) (eb : b ≡ marked (layoutOf 6 .shape) (s .position) x)
     (ea : a ≡ firstFail (judgeTests (layoutOf 6) s (imageIn (layoutOf 6) b 0) 0 (firstOf (toldFault Optional text address) (toldFault Optional text nqn)))) where
   discovery-fault : firstOf (toldFault Optional text address) (toldFault Optional text nqn)
-      ≡ toldFaults (s .position) (toldImage (discovery .shape) (s .position) x) (discoveryTold address nqn)
+      ≡ toldFaults (envOf s) (toldImage (discovery .shape) (s .position) x) (discoveryTold address nqn)
   unfolding discovery discoveryTold
   discovery-fault = ap (firstOf (toldFault Optional text address)) (sym (first-zero (toldFault Optional text nqn)))
 

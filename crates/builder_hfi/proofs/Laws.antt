@@ -17,7 +17,7 @@ use Rattle.table.specs.Layout.{Slots, bytes, recAt, baseOf, anything, text}
 use Rattle.table.specs.FixedLayouts.{layoutOf, whenSet, infoRule, identityRule, hfi, info, hfiExtended}
 use Rattle.table.specs.Objects.{under, sizeOf, heapOf, patched}
 use Rattle.table.specs.Rules.{firstOf, firstFail}
-use Rattle.table.specs.Builder.{ended, waits, toldImage, toldSlots, nestsRight}
+use Rattle.table.specs.Builder.{envOf, ended, waits, toldImage, toldSlots, nestsRight}
 use Rattle.laws.specs.Fields.{Bytes, imageIn, masked-if, whole, one-byte}
 use Rattle.laws.specs.RefWalk.{first-zero}
 use Rattle.bytes_writer.proofs.StoreLaws.{concat}
@@ -249,7 +249,7 @@ module _ (s : State) (buf x b i c name : List ℕ) (told : Bool) (e d iaid duid 
   left-is : toldSlots (s .position) img₃ (hfiTold i name told e iaid duid) ≡ left there
   left-is = left-by told (eqb (getD img₇ 3 0) 2) refl ∙ ap left (sym there-is)
 
-  fault-is : (t v : Bool) → eqb (getD img₇ 3 0) 2 ≡ v → hfiFault name (ownNeed (t && v) img₁₀) iaid duid ≡ toldFaults (s .position) img₃ (hfiTold i name t e iaid duid)
+  fault-is : (t v : Bool) → eqb (getD img₇ 3 0) 2 ≡ v → hfiFault name (ownNeed (t && v) img₁₀) iaid duid ≡ toldFaults (envOf s) img₃ (hfiTold i name t e iaid duid)
   unfolding hfi info hfiExtended hfiTold infoTold identityTold ownNeed
   fault-is true true q =
       let f₁ : ℕ = toldFault Optional text name in
@@ -270,7 +270,7 @@ module _ (s : State) (buf x b i c name : List ℕ) (told : Bool) (e d iaid duid 
       ∙ own-rules img₃ img₇ (ended text name) img₁₀ (under (ownNeed there img₁₀) [] iaid) (under (ownNeed there img₁₀) [] duid) there
       ∙ ap (λ (ss : Slots (hfi .refs)). pick (nestsRight img₃ ss) 0 12) (sym left-is)
 
-  objects-are : objects ≡ toldFaults (s .position) img₃ (hfiTold i name told e iaid duid)
+  objects-are : objects ≡ toldFaults (envOf s) img₃ (hfiTold i name told e iaid duid)
   objects-are =
       en ∙ ap₂ (λ (t : Bool) (y : List ℕ). hfiFault name (ownNeed t y) iaid duid) there-is told₁₀
       ∙ fault-is told (eqb (getD img₇ 3 0) 2) refl

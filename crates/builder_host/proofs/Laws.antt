@@ -12,7 +12,7 @@ use Rattle.table.specs.Layout.{text}
 use Rattle.table.specs.FixedLayouts.{layoutOf, host}
 use Rattle.table.specs.Objects.{sizeOf, heapOf, patched}
 use Rattle.table.specs.Rules.{firstFail}
-use Rattle.table.specs.Builder.{waits, ended, toldImage, toldSlots}
+use Rattle.table.specs.Builder.{envOf, waits, ended, toldImage, toldSlots}
 use Rattle.laws.specs.Fields.{imageIn}
 use Rattle.builder_writers.specs.Written.{recordWith}
 use Rattle.builder_writers.proofs.WriterLaws.{record-is}
@@ -38,7 +38,7 @@ host-heap u nqn = sym (append-nil nqn)
 
 module _ (s : State) (buf x b nqn : List ℕ) (a : Answer) (eb : b ≡ marked (layoutOf 2 .shape) (s .position) x)
     (ea : a ≡ firstFail (judgeTests (layoutOf 2) s (imageIn (layoutOf 2) b 0) 0 (toldFault Required text nqn))) where
-  host-fault : toldFault Required text nqn ≡ toldFaults (s .position) (toldImage (host .shape) (s .position) x) (hostTold nqn)
+  host-fault : toldFault Required text nqn ≡ toldFaults (envOf s) (toldImage (host .shape) (s .position) x) (hostTold nqn)
   unfolding host hostTold
   host-fault = sym (first-zero (toldFault Required text nqn))
 

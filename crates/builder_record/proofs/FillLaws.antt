@@ -12,14 +12,14 @@ use Rattle.table.specs.declared.Need.the-variants.{Ignored, Optional, Required}
 use Rattle.table.specs.declared.Answer.{Answer}
 use Rattle.table.specs.declared.State.{State}
 use Rattle.table.specs.Bytes.{pick}
-use Rattle.table.specs.Layout.{Layout, Content, Env, env, Refs, none, plain, nest, Slots, nil, bytes, gone, rec, pairsRight}
+use Rattle.table.specs.Layout.{Layout, Content, anything, positions, text, Env, env, Refs, none, plain, nest, Slots, nil, bytes, gone, rec, pairsRight}
 use Rattle.table.specs.FixedLayouts.{host, ssns, security, discovery, extended}
 use Rattle.table.specs.Objects.{sizeOf, under}
 use Rattle.table.specs.Rules.{Test, test, answer, firstFail, firstOf, ruled}
 use Rattle.table.specs.Builder.{Outcome, outcome, ended, envOf, fill, fillAnswer, fitsNeed, isShort, mayLack, nestsRight, next, placeOf, placed, roomTests, slotsRule, toldImage, toldSlots, waits}
 use Rattle.laws.specs.Fields.{imageIn}
 use Rattle.laws.specs.RefWalk.{first-zero}
-use Rattle.laws.specs.TextLaws.{toldFault, told-fault}
+use Rattle.laws.specs.TextLaws.{toldFault, toldIn, told-fault}
 use Rattle.builder_told.specs.Marks.{marked}
 use Rattle.builder_told.proofs.Laws.{image-is}
 use Rattle.builder_record.specs.Steps.{laid, judgeTests}
@@ -27,29 +27,32 @@ use Rattle.builder_record.specs.Steps.{laid, judgeTests}
 -- ---- the objects
 
 -- the first fault by field, of what is told: a dropped heap record has none
-abbrev pub toldFaults : {rs : Refs} → ℕ → List ℕ → Slots rs → ℕ
-toldFaults n img nil = 0
-toldFaults n img (bytes {need = need} {content = content} b ss) = firstOf (toldFault (need img) content b) (toldFaults n img ss)
-toldFaults n img (gone {need = need} ss) = firstOf (pick (mayLack (need img)) 0 11) (toldFaults n img ss)
-toldFaults n img (rec {need = need} {shape = shape} x own ss) = firstOf (under (need img) 0 (toldFaults n (toldImage shape n x) own)) (toldFaults n img ss)
+abbrev pub toldFaults : {rs : Refs} → Env → List ℕ → Slots rs → ℕ
+toldFaults e img nil = 0
+toldFaults e img (bytes {need = need} {content = content} b ss) = firstOf (toldIn e (need img) content b) (toldFaults e img ss)
+toldFaults e img (gone {need = need} ss) = firstOf (pick (mayLack (need img)) 0 11) (toldFaults e img ss)
+toldFaults e img (rec {need = need} {shape = shape} x own ss) = firstOf (under (need img) 0 (toldFaults e (toldImage shape (e .position) x) own)) (toldFaults e img ss)
 
 -- it is that of the objects as they are kept
-pub faults-told : {rs : Refs} (e : Env) (n : ℕ) (img : List ℕ) (ss : Slots rs) → slotsRule e img (toldSlots n img ss) ≡ toldFaults n img ss
+pub faults-told : {rs : Refs} (e : Env) (img : List ℕ) (ss : Slots rs) → slotsRule e img (toldSlots (e .position) img ss) ≡ toldFaults e img ss
 unfolding slotsRule toldSlots
-faults-told e n img nil = refl
-faults-told e n img (bytes {need = need} {content = content} b ss) = ap₂ firstOf (told-fault e (need img) content b) (faults-told e n img ss)
-faults-told e n img (gone {need = need} ss) = ap (firstOf (pick (mayLack (need img)) 0 11)) (faults-told e n img ss)
-faults-told e n img (rec {p = p} {need = need} {shape = shape} x own ss) =
-    go (need img) refl (faults-told e n (toldImage shape n x) own) (faults-told e n img ss)
+faults-told e img nil = refl
+faults-told e img (bytes {need = need} {content = content} b ss) = ap₂ firstOf (told-fault e (need img) content b) (faults-told e img ss)
+faults-told e img (gone {need = need} ss) = ap (firstOf (pick (mayLack (need img)) 0 11)) (faults-told e img ss)
+faults-told e img (rec {p = p} {need = need} {shape = shape} x own ss) =
+    go (need img) refl (faults-told e (toldImage shape (e .position) x) own) (faults-told e img ss)
   where
+    n : ℕ
+    n = e .position
+
     y : List ℕ
     y = toldImage shape n x
 
     -- under the need m
-    go : (m : Need) → need img ≡ m → slotsRule e y (toldSlots n y own) ≡ toldFaults n y own → slotsRule e img (toldSlots n img ss) ≡ toldFaults n img ss
+    go : (m : Need) → need img ≡ m → slotsRule e y (toldSlots n y own) ≡ toldFaults e y own → slotsRule e img (toldSlots n img ss) ≡ toldFaults e img ss
         → slotsRule e img
         (under m (gone {p = p} {need = need} {shape = shape} (toldSlots n img ss)) (rec {p = p} {need = need} {shape = shape} y (toldSlots n y own) (toldSlots n img ss)))
-        ≡ firstOf (under m 0 (toldFaults n y own)) (toldFaults n img ss)
+        ≡ firstOf (under m 0 (toldFaults e y own)) (toldFaults e img ss)
     go Ignored q i r = rw q r
     go Optional q i r = rw q (ap₂ firstOf i r)
     go Required q i r = rw q (ap₂ firstOf i r)
@@ -125,12 +128,12 @@ module _ (l : Layout) (s : State) (buf x b : List ℕ) (objects : Slots (l .refs
   img-is : imageIn l b 0 ≡ img
   img-is = image-is l (s .position) x b eb
 
-  module _ (eo : own ≡ pick (nestsRight img kept) 0 12) (en : n ≡ toldFaults (s .position) img objects) where
+  module _ (eo : own ≡ pick (nestsRight img kept) 0 12) (en : n ≡ toldFaults (envOf s) img objects) where
     answer-is : a ≡ firstFail (judgeTests l s img (pick (nestsRight img kept) 0 12) n)
     answer-is = ea ∙ ap₂ (λ (y : List ℕ) (o : ℕ). firstFail (judgeTests l s y o n)) img-is eo
 
     number : slotsRule (envOf s) img kept ≡ n
-    number = faults-told (envOf s) (s .position) img objects ∙ sym en
+    number = faults-told (envOf s) img objects ∙ sym en
 
     rests : List Test
     rests = roomTests (s .used + sizeOf kept) (length buf)
@@ -174,8 +177,9 @@ first-none x y e = go (eqb x 0) refl e
     go true q z = (eqb-true x 0 q, z)
     go false q z = absurd (unlike x q z)
 
-pub fault-short : (n : Need) (c : Content) (o : List ℕ) → toldFault n c o ≡ 0 → length (under n [] (ended c o)) ≤ 65535
-fault-short n c o e =
+-- an object without a fault, in a build of no records
+kept-short : (n : Need) (c : Content) (o : List ℕ) → toldIn (env (λ i. 0) 0) n c o ≡ 0 → length (under n [] (ended c o)) ≤ 65535
+kept-short n c o e =
     let k = under n [] (ended c o) in
     let none = env (λ i. 0) 0 in
     go (fitsNeed n k) (isShort k) refl (first-none (pick (fitsNeed n k && isShort k) 0 11) (ruled c none k) (told-fault none n c o ∙ e) .0)
@@ -184,6 +188,18 @@ fault-short n c o e =
     go true true q z = leb-true (length (under n [] (ended c o))) 65535 q
     go true false q z = absurd (omega arith)
     go false d q z = absurd (omega arith)
+
+-- but for the number that they alone can have, positions are any bytes
+as-anything : (n : Need) (o : List ℕ) → toldFault n positions o ≡ toldFault n anything o
+as-anything Ignored o = refl
+as-anything Optional o = refl
+as-anything Required [] = refl
+as-anything Required (x ∷ o) = refl
+
+pub fault-short : (n : Need) (c : Content) (o : List ℕ) → toldFault n c o ≡ 0 → length (under n [] (ended c o)) ≤ 65535
+fault-short n anything o e = kept-short n anything o e
+fault-short n text o e = kept-short n text o e
+fault-short n positions o e = kept-short n anything o (sym (as-anything n o) ∙ e)
 
 -- a heap record that may be there, whose only object has the fault f
 pub nested-fault : (f : ℕ) → f ≡ firstOf (firstOf f 0) 0

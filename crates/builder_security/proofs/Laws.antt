@@ -13,7 +13,7 @@ use Rattle.table.specs.FixedLayouts.{layoutOf, security}
 use Rattle.table.specs.Objects.{under, sizeOf, heapOf, patched}
 use Rattle.table.specs.Reads.{needAt}
 use Rattle.table.specs.Rules.{firstOf, firstFail}
-use Rattle.table.specs.Builder.{waits, toldImage, toldSlots}
+use Rattle.table.specs.Builder.{envOf, waits, toldImage, toldSlots}
 use Rattle.laws.specs.Fields.{imageIn}
 use Rattle.bytes_writer.proofs.StoreLaws.{concat}
 use Rattle.builder_writers.specs.Written.{recordWith}
@@ -71,7 +71,7 @@ module _ (s : State) (buf x b o₁ o₂ o₃ o₄ o₅ o₆ : List ℕ) (a : Ans
     unfolding layoutOf
     told₅ = image-is security (s .position) x b eb
 
-    security-fault : securityFault (imageIn security b 0) o₁ o₂ o₃ o₄ o₅ o₆ ≡ toldFaults (s .position) img₅ (securityTold o₁ o₂ o₃ o₄ o₅ o₆)
+    security-fault : securityFault (imageIn security b 0) o₁ o₂ o₃ o₄ o₅ o₆ ≡ toldFaults (envOf s) img₅ (securityTold o₁ o₂ o₃ o₄ o₅ o₆)
     unfolding security securityTold
     security-fault = ap (λ (y : List ℕ). securityFault y o₁ o₂ o₃ o₄ o₅ o₆) told₅ ∙ rw (first-zero (toldFault (needAt 36 (security .refs) img₅) anything o₆)) refl
 

@@ -12,11 +12,11 @@ use Rattle.table.specs.declared.Need.the-variants.{Ignored, Optional, Required}
 use Rattle.table.specs.declared.Answer.{Answer}
 use Rattle.table.specs.declared.State.{State}
 use Rattle.table.specs.Bytes.{pick, num, bits}
-use Rattle.table.specs.Layout.{Slots, nil, bytes, gone, rec, anything, text}
-use Rattle.table.specs.FixedLayouts.{layoutOf, ssns, info, extended}
+use Rattle.table.specs.Layout.{Slots, nil, bytes, gone, rec, anything, text, positions, arePositions}
+use Rattle.table.specs.FixedLayouts.{layoutOf, hfi, ssns, info, extended}
 use Rattle.table.specs.Objects.{under, sizeOf, heapOf, patched}
 use Rattle.table.specs.Rules.{firstOf, firstFail}
-use Rattle.table.specs.Builder.{waits, ended, toldImage, toldSlots}
+use Rattle.table.specs.Builder.{envOf, waits, ended, toldImage, toldSlots}
 use Rattle.laws.specs.Fields.{imageIn}
 use Rattle.bytes_writer.proofs.StoreLaws.{concat}
 use Rattle.builder_writers.specs.Written.{recordWith}
@@ -26,7 +26,7 @@ use Rattle.builder_told.proofs.Laws.{image-is}
 use Rattle.builder_record.specs.Steps.{laid, judgeTests}
 use Rattle.builder_record.proofs.JudgeLaws.{judge-passed}
 use Rattle.builder_record.specs.Calls.{pathTold, ssnsTold, tellSsns}
-use Rattle.builder_ssns.specs.SsnsParts.{ownNeed, ssnsFault, ssnsSlots, extendedSize, extendedPart, namedPart, laidSsns}
+use Rattle.builder_ssns.specs.SsnsParts.{ownNeed, othersFault, ssnsFault, ssnsSlots, extendedSize, extendedPart, namedPart, laidSsns}
 use Rattle.builder_record.proofs.FillLaws.{nested-fault, toldFaults, unruled, ssns-free, fill-refused, fill-done, first-none, fault-short}
 use Rattle.laws.specs.TextLaws.{toldFault}
 
@@ -127,7 +127,7 @@ module _ (b c address service others nqn path : List ℕ) (u : ℕ) where
 
 module _ (s : State) (buf x b address service others nqn e c path : List ℕ) (a : Answer) (eb : b ≡ marked (layoutOf 4 .shape) (s .position) x)
     (ec : c ≡ marked (layoutOf 9 .shape) (s .position) e)
-    (ea : a ≡ firstFail (judgeTests (layoutOf 4) s (imageIn (layoutOf 4) b 0) 0 (ssnsFault (imageIn ssns b 0) address service others nqn path)))
+    (ea : a ≡ firstFail (judgeTests (layoutOf 4) s (imageIn (layoutOf 4) b 0) 0 (ssnsFault (imageIn ssns b 0) (s .hfi) address service others nqn path)))
   where
     abbrev img₄ : List ℕ
     img₄ = toldImage (ssns .shape) (s .position) x
@@ -144,19 +144,19 @@ module _ (s : State) (buf x b address service others nqn e c path : List ℕ) (a
     told₉ = image-is extended (s .position) e c ec
 
     last-fault : (f : Bool) → eqb (bits 3 2 4 4 img₄) 0 ≡ f → toldFault (ownNeed img₄) text path
-        ≡ firstOf (under (pick f Ignored Required) 0 (toldFaults (s .position) img₉ (pathTold path))) 0
+        ≡ firstOf (under (pick f Ignored Required) 0 (toldFaults (envOf s) img₉ (pathTold path))) 0
     unfolding ownNeed extended pathTold
     last-fault true q = ap (λ (g : Bool). toldFault (pick g Ignored Optional) text path) q
     last-fault false q = ap (λ (g : Bool). toldFault (pick g Ignored Optional) text path) q ∙ nested-fault (toldFault Optional text path)
 
     abbrev fault₄ : List ℕ → ℕ
-    fault₄ img = ssnsFault img address service others nqn path
+    fault₄ img = ssnsFault img (s .hfi) address service others nqn path
 
-    ssns-fault : fault₄ (imageIn ssns b 0) ≡ toldFaults (s .position) img₄ (ssnsTold address service others nqn e path)
-    unfolding ssns extended ssnsTold pathTold
+    ssns-fault : fault₄ (imageIn ssns b 0) ≡ toldFaults (envOf s) img₄ (ssnsTold address service others nqn e path)
+    unfolding hfi ssns extended ssnsTold pathTold
     ssns-fault =
         ap fault₄ told₄
-        ∙ ap (λ (f : ℕ). firstOf (toldFault Required anything address) (firstOf (toldFault Required anything service) (firstOf (toldFault Optional anything others) (firstOf (toldFault
+        ∙ ap (λ (f : ℕ). firstOf (toldFault Required anything address) (firstOf (toldFault Required anything service) (firstOf (othersFault (s .hfi) others) (firstOf (toldFault
         Required text nqn) f))))
         (last-fault (eqb (bits 3 2 4 4 img₄) 0) refl)
 
@@ -171,18 +171,19 @@ module _ (s : State) (buf x b address service others nqn e c path : List ℕ) (a
     ssns-passed z =
         let f₁ : ℕ = toldFault Required anything address in
         let f₂ : ℕ = toldFault Required anything service in
-        let f₃ : ℕ = toldFault Optional anything others in
+        let f₃ : ℕ = othersFault (s .hfi) others in
         let f₄ : ℕ = toldFault Required text nqn in
         let f₅ : ℕ = toldFault (ownNeed (imageIn ssns b 0)) text path in
         let p = judge-passed (layoutOf 4) s (imageIn (layoutOf 4) b 0) 0 (fault₄ (imageIn ssns b 0)) a ea z in
         let a₁ = first-none f₁ (firstOf f₂ (firstOf f₃ (firstOf f₄ f₅))) (p .1) in
         let a₂ = first-none f₂ (firstOf f₃ (firstOf f₄ f₅)) (a₁ .1) in
         let a₃ = first-none f₃ (firstOf f₄ f₅) (a₂ .1) in
-        let a₄ = first-none f₄ f₅ (a₃ .1) in (
+        let a₄ = first-none f₄ f₅ (a₃ .1) in
+        let a₅ = first-none (toldFault Optional positions others) (pick (arePositions (s .hfi) others) 0 20) (a₃ .0) in (
           p .0,
           fault-short Required anything address (a₁ .0),
           fault-short Required anything service (a₂ .0),
-          fault-short Optional anything others (a₃ .0),
+          fault-short Optional positions others (a₅ .0),
           fault-short Required text nqn (a₄ .0),
           fault-short (ownNeed (imageIn ssns b 0)) text path (a₄ .1),
         )

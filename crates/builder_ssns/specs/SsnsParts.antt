@@ -7,7 +7,7 @@ use Rattle.table.specs.declared.Need.{Need}
 use Rattle.table.specs.declared.Need.the-variants.{Ignored, Optional, Required}
 use Rattle.table.specs.declared.State.{State}
 use Rattle.table.specs.Bytes.{pick, bits}
-use Rattle.table.specs.Layout.{Slots, nil, bytes, gone, rec, baseOf, anything, text}
+use Rattle.table.specs.Layout.{Slots, nil, bytes, gone, rec, baseOf, anything, text, positions, arePositions}
 use Rattle.table.specs.FixedLayouts.{whenSet, ssns, extended}
 use Rattle.table.specs.Objects.{under}
 use Rattle.table.specs.Rules.{firstOf}
@@ -23,12 +23,16 @@ use Rattle.builder_record.specs.Calls.{pathTold}
 unfoldable pub ownNeed : List ℕ → Need
 ownNeed img = pick (eqb (bits 3 2 4 4 img) 0) Ignored Optional
 
+-- the fault of the secondary HFI indexes, where so many HFIs are told
+abbrev pub othersFault : (hfis : ℕ) (others : List ℕ) → ℕ
+othersFault hfis others = firstOf (toldFault Optional positions others) (pick (arePositions hfis others) 0 20)
+
 -- the first fault of its objects
-abbrev pub ssnsFault : (img address service others nqn path : List ℕ) → ℕ
-ssnsFault img address service others nqn path =
+abbrev pub ssnsFault : (img : List ℕ) (hfis : ℕ) (address service others nqn path : List ℕ) → ℕ
+ssnsFault img hfis address service others nqn path =
     firstOf (toldFault Required anything address)
     (firstOf (toldFault Required anything service)
-    (firstOf (toldFault Optional anything others) (firstOf (toldFault Required text nqn) (toldFault (ownNeed img) text path))))
+    (firstOf (othersFault hfis others) (firstOf (toldFault Required text nqn) (toldFault (ownNeed img) text path))))
 
 -- what it names: own is the image of the extended info
 unfoldable pub ssnsSlots : (img address service others nqn own path : List ℕ) → Slots (ssns .refs)

@@ -13,6 +13,7 @@ use builder_told::objects::first_of;
 use builder_told::objects::fits;
 use builder_told::objects::fits_text;
 use builder_told::objects::kept;
+use builder_told::objects::positions_fault;
 use builder_writers::write_extended;
 use builder_writers::write_ssns;
 use bytes_room::room_fault;
@@ -59,9 +60,10 @@ fn own_size(need: Need) -> usize
     }
 }
 
-// The first fault of the objects of an SSNS record, by the needs for them.
+// The first fault of the objects of an SSNS record, by the needs for them and by how many HFIs are told.
 fn ssns_fault(
     marked: &[u8],
+    hfis: usize,
     address: &[u8],
     service: &[u8],
     others: &[u8],
@@ -69,13 +71,14 @@ fn ssns_fault(
     path: &[u8],
 ) -> u8
     requires { ⌜ 128 ≤ length (now marked) ⌝ }
-    ensures { λ r. ⌜ r ≡ ssnsFault (imageIn layouts.ssns (now (marked .entry)) 0) (now (address .entry)) (now (service .entry)) (now (others .entry)) (now (nqn .entry)) (now (path .entry)) ⌝ }
+    ensures { λ r. ⌜ r ≡ ssnsFault (imageIn layouts.ssns (now (marked .entry)) 0) hfis (now (address .entry)) (now (service .entry)) (now (others .entry)) (now (nqn .entry)) (now (path .entry)) ⌝ }
 {
     let last = first_of(
         fits_text(Need::Required, nqn),
         fits_text(own_need(marked), path),
     );
-    let rest = first_of(fits(Need::Optional, others), last);
+    let listed = first_of(fits(Need::Optional, others), positions_fault(others, hfis));
+    let rest = first_of(listed, last);
     first_of(
         fits(Need::Required, address),
         first_of(fits(Need::Required, service), rest),
@@ -191,7 +194,8 @@ pub fn ssns(
     let marked = mark_128(bytes, Ssns::ID, state.position as usize);
     let extended_bytes = extended.bytes;
     let marked_extended = mark_18(extended_bytes, Extended::ID, state.position as usize);
-    let fault = ssns_fault(&marked, address, service, others, nqn, path);
+    let hfis = state.hfi as usize;
+    let fault = ssns_fault(&marked, hfis, address, service, others, nqn, path);
     let answer = judged(state, Ssns::ID, &marked, 0, fault);
     if answer.number != 0 {
         return refused(answer, state);

@@ -1,12 +1,12 @@
 // Objects under the need for them: an ignored one is dropped before any test. Text is told without its terminator and kept with it.
+use bytes_positions::are_positions;
 use bytes_text::has_zero;
 use table::Need;
 ghost use mathlib.Core.Path.{_≡_};
 ghost use mathlib.Core.List.{[]};
-ghost use lib.Dec.{leb};
 ghost use lib.ListN.{length};
 ghost use Rattle.table.specs.Bytes.{pick};
-ghost use Rattle.table.specs.Layout.{anything, text};
+ghost use Rattle.table.specs.Layout.{anything, text, arePositions};
 ghost use Rattle.table.specs.Objects.{under};
 ghost use Rattle.table.specs.Rules.{firstOf};
 ghost use Rattle.table.specs.Builder.{ended};
@@ -91,6 +91,16 @@ pub fn fits_text(need: Need, object: &[u8]) -> u8
     ensures { λ r. ⌜ r ≡ toldFault need text (now (object .entry)) ⌝ }
 {
     fault_under(need, object.len(), text_fault(object))
+}
+
+// 20 where there are more positions in the list of HFIs than HFIs, or one is there twice.
+pub fn positions_fault(object: &[u8], hfis: usize) -> u8
+    ensures { λ r. ⌜ r ≡ pick (arePositions hfis (now (object .entry))) 0 20 ⌝ }
+{
+    if !are_positions(object, hfis) {
+        return 20;
+    }
+    0
 }
 
 // The first of two faults, 0 where there is none.

@@ -8,7 +8,7 @@ use Rattle.table.specs.declared.Field.{Field}
 use Rattle.table.specs.declared.Place.{Place}
 use Rattle.table.specs.declared.Rewritten.{Rewritten}
 use Rattle.table.specs.Bytes.{pick}
-use Rattle.c_answers.specs.Packed.{packed, packedField, packedPlace, packedRewritten, packedCompacted}
+use Rattle.c_answers.specs.Packed.{packed, packedField, packedPlace, packedRewritten, packedCounted}
 
 -- numbers and kinds are bytes, and so is every position of a record
 abbrev pub Small : Answer → Type 0
@@ -33,9 +33,9 @@ unfolding packedRewritten
 rewritten-same r q s t e = above (r .answer) (q .answer) (r .len) (q .len) s t e
 
 -- of a closing: the answer, and how many bytes moved
-pub compacted-same : (a b : Answer) (m n : ℕ) → Small a → Small b → packedCompacted a m ≡ packedCompacted b n → (a ≡ b) × (m ≡ n)
-unfolding packedCompacted
-compacted-same a b m n s t e = above a b m n s t e
+pub counted-same : (a b : Answer) (m n : ℕ) → Small a → Small b → packedCounted a m ≡ packedCounted b n → (a ≡ b) × (m ≡ n)
+unfolding packedCounted
+counted-same a b m n s t e = above a b m n s t e
 
 -- one bit, and what stands eight bits above it
 bits : (c d : Bool) (m n : ℕ) → pick c 1 0 + 256 * m ≡ pick d 1 0 + 256 * n → (c ≡ d) × (m ≡ n)

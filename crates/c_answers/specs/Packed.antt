@@ -1,4 +1,4 @@
--- Answers, fields, places, rewrites and closings as numbers, for callers in C. Definitions only.
+-- Answers, with fields, places, lengths and counts, as numbers, for callers in C. Definitions only.
 use mathlib.Core.List.{List}
 use Prim.Native.Nat.{ℕ, _+_, _*_, _^_}
 use lib.Dec.{eqb}
@@ -28,6 +28,6 @@ packedPlace p = packed (p .answer) + 2 ^ 32 * p .len + 2 ^ 48 * pick (p .present
 unfoldable pub packedRewritten : Rewritten → ℕ
 packedRewritten r = packed (r .answer) + 2 ^ 32 * r .len
 
--- 64 bits: the answer, from bit 32 on how many bytes of the heap moved
-unfoldable pub packedCompacted : Answer → ℕ → ℕ
-packedCompacted a moved = packed a + 2 ^ 32 * moved
+-- 64 bits: the answer, from bit 32 on a count: of heap bytes that moved, or of looks at records
+unfoldable pub packedCounted : Answer → ℕ → ℕ
+packedCounted a count = packed a + 2 ^ 32 * count

@@ -1,4 +1,4 @@
-// Answers, fields, places, rewrites and closings as numbers, and a field's bytes stored for the caller: what the C functions hand back.
+// Answers, with fields, places, lengths and counts, as numbers, and a field's bytes stored for the caller: what the C functions hand back.
 use table::Answer;
 use table::Field;
 use table::Place;
@@ -8,7 +8,7 @@ ghost use Prim.Native.Nat.{_<_, _≤_};
 ghost use lib.Dec.{eqb};
 ghost use Rattle.table.specs.Bytes.{pick};
 ghost use Rattle.table.specs.Meaning.{limit};
-ghost use Rattle.c_answers.specs.Packed.{packed, packedField, packedPlace, packedRewritten, packedCompacted};
+ghost use Rattle.c_answers.specs.Packed.{packed, packedField, packedPlace, packedRewritten, packedCounted};
 
 // A list has at most 255 records, so no half of the number runs into the next.
 pub fn pack(a: Answer) -> u32
@@ -48,12 +48,12 @@ pub fn pack_rewritten(r: Rewritten) -> u64
     answer + 4294967296 * (r.len as u64)
 }
 
-pub fn pack_compacted(answer: Answer, moved: usize) -> u64
-    requires { ⌜ (answer .position < 256) × (moved < 4294967296) ⌝ }
-    ensures { λ r. ⌜ r ≡ packedCompacted answer moved ⌝ }
+pub fn pack_counted(answer: Answer, count: usize) -> u64
+    requires { ⌜ (answer .position < 256) × (count < 4294967296) ⌝ }
+    ensures { λ r. ⌜ r ≡ packedCounted answer count ⌝ }
 {
     let low = pack(answer) as u64;
-    low + 4294967296 * (moved as u64)
+    low + 4294967296 * (count as u64)
 }
 
 // A refused read stores nothing.

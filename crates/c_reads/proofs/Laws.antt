@@ -9,7 +9,7 @@ use borrow.Author.Tests.{eqb-true, eqb-false}
 use Rattle.table.specs.declared.Field.{Field}
 use Rattle.table.specs.declared.Place.{Place}
 use Rattle.table.specs.Bytes.{pick, part, padded}
-use Rattle.table.specs.Layout.{Content, anything, text, Layout}
+use Rattle.table.specs.Layout.{Content, anything, text, positions, Layout}
 use Rattle.table.specs.FixedLayouts.{layoutOf}
 use Rattle.table.specs.Rules.{answer, done}
 use Rattle.table.specs.Numbers.{check}
@@ -55,6 +55,7 @@ field-fits t b k n q = go (eqb (check t .number) 0) refl where
 -- what is handed back is no longer
 handed-fits : (c : Content) (p : Place) → PlaceFits p → PlaceFits (handed c p)
 handed-fits anything p f = f
+handed-fits positions p f = f
 handed-fits text p f = (f .0, omega (arith, f .1), f .2)
 
 handed-seat : (t : List ℕ) → Bytes t → (q : ℕ) (s : Seat) → PlaceFits (placeAt t q s)

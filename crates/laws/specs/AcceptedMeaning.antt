@@ -10,7 +10,7 @@ use lib.Dec.{T, leb, eqb, leb→le, eqb·suc-zero}
 use mir.Facts.{and-yes}
 use Rattle.table.specs.declared.Region.{Region}
 use Rattle.table.specs.Bytes.{num, pick}
-use Rattle.table.specs.Layout.{Entry, Env, Layout, Slots, env, image, isRight, isValid, low, region, unused, used}
+use Rattle.table.specs.Layout.{Entry, Env, Layout, Slots, env, image, isRight, isValid, low, region, unused, used, namesUsed}
 use Rattle.table.specs.FixedLayouts.{discovery, header, hfi, host, listKinds, security, ssns}
 use Rattle.table.specs.Objects.{countIn, isUsed, readBody, readEntry, readList, readSlots, usedIn}
 use Rattle.table.specs.Rules.{answer, bodyRule, consIf, done, entryRule, first, firstFail, firstOf, inside, listRegions, listRule, longEnough, refsRule, usedRule}
@@ -113,8 +113,8 @@ module _ (t : List ℕ) (b : (i : ℕ) → getD t i 0 < 256) (ok : check t ≡ d
       go : (c : Bool) → T (isUsed {l = l} (pick c (used img ss) unused)) → entryRule l named h v t a (pick c (used img ss) unused) ≡ 0
           → refsRule h v t a (image (l .shape .keep) (drop a t)) (l .refs) ≡ 0
       go true y z =
-          let w = first-of (pick (isRight (l .shape) v img) 0 10) (firstOf (refsRule h v t a img (l .refs)) (pick (l .names named img ss) 0 13)) z in
-          first-of (refsRule h v t a img (l .refs)) (pick (l .names named img ss) 0 13) (w .1) .0
+          let w = first-of (pick (isRight (l .shape) v img) 0 10) (firstOf (refsRule h v t a img (l .refs)) (pick (namesUsed named (l .indexes img ss)) 0 13)) z in
+          first-of (refsRule h v t a img (l .refs)) (pick (namesUsed named (l .indexes img ss)) 0 13) (w .1) .0
       go false y z = absurd y
 
   -- position pos + i of a list that passes, `step` bytes behind the last

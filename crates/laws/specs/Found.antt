@@ -12,7 +12,7 @@ use Rattle.table.specs.declared.Region.{Region}
 use Rattle.table.specs.declared.Need.{Need}
 use Rattle.table.specs.declared.Need.the-variants.{Ignored, Optional, Required}
 use Rattle.table.specs.Bytes.{le, num, odd, part, pick, val}
-use Rattle.table.specs.Layout.{Entry, Env, Keep, Layout, Refs, Shape, Slots, baseOf, env, gone, image, isRight, nest, none, plain, rec, region, unused, used}
+use Rattle.table.specs.Layout.{Entry, Env, Keep, Layout, Refs, Shape, Slots, baseOf, env, gone, image, isRight, nest, none, plain, rec, region, unused, used, namesUsed}
 use Rattle.table.specs.Objects.{readBody, readEntry, readList, readSlots, ref6, under}
 use Rattle.table.specs.Rules.{bodyRule, consIf, done, entryRule, firstOf, inside, isSound, listRegions, listRule, longEnough, reaches, refRule, refsRule, usedRule}
 use Rattle.laws.specs.Lawful.{allOk, okLayout, okRefs}
@@ -228,8 +228,8 @@ module _ (t : List ℕ) (b : (i : ℕ) → getD t i 0 < 256) where
       → refsRule heap v t a img (l .refs) ≡ 0
   unfolding usedRule
   used-refs l valid heap v a img ss e =
-      first-of (refsRule heap v t a img (l .refs)) (pick (l .names valid img ss) 0 13)
-      (first-of (pick (isRight (l .shape) v img) 0 10) (firstOf (refsRule heap v t a img (l .refs)) (pick (l .names valid img ss) 0 13)) e .1) .0
+      first-of (refsRule heap v t a img (l .refs)) (pick (namesUsed valid (l .indexes img ss)) 0 13)
+      (first-of (pick (isRight (l .shape) v img) 0 10) (firstOf (refsRule heap v t a img (l .refs)) (pick (namesUsed valid (l .indexes img ss)) 0 13)) e .1) .0
 
   pub entry-found : (l : Layout) → OkLayout l → (valid : ℕ → ℕ → Bool) (heap : Region) → Bounded t b heap → (v : Env) (a : ℕ) → a + baseOf l ≤ length t
       → entryRule l valid heap v t a (readEntry l t a) ≡ 0 → EntryAt t heap a (readEntry l t a)

@@ -6,35 +6,7 @@ use Prim.Native.Nat.{ℕ, suc, _+_, _*_, _%_, _<_}
 use lib.ListN.{length, getD, take, drop}
 use lib.Dec.{T, leb, ltb, eqb}
 use Rattle.table.specs.declared.Need.{Need}
-use Rattle.table.specs.Layout.{
-  Body,
-  Content,
-  Entry,
-  Env,
-  Keep,
-  Layout,
-  Refs,
-  Shape,
-  Slots,
-  baseOf,
-  bytes,
-  env,
-  gone,
-  image,
-  isRight,
-  isValid,
-  low,
-  more,
-  nest,
-  nil,
-  none,
-  plain,
-  rec,
-  sel,
-  stop,
-  unused,
-  used,
-}
+use Rattle.table.specs.Layout.{Body, Content, Entry, Env, Keep, Layout, Refs, Shape, Slots, baseOf, bytes, env, gone, image, isRight, isValid, low, more, nest, nil, none, plain, rec, sel, stop, unused, used, namesUsed}
 use Rattle.table.specs.Objects.{countIn, isUsed, usedIn}
 use Rattle.table.specs.Rules.{isSound, ruled}
 use Rattle.table.specs.Meaning.{Meaning}
@@ -119,7 +91,7 @@ FitBody count (more es rest) = FitList count 1 es × (length es < 256) × FitBod
 -- the indexes name used records
 abbrev pub NamesEntry : {l : Layout} → (ℕ → ℕ → Bool) → Entry l → Type 0
 NamesEntry named unused = Unit {0}
-NamesEntry {l} named (used img ss) = T (l .names named img ss)
+NamesEntry {l} named (used img ss) = T (namesUsed named (l .indexes img ss))
 
 abbrev pub NamesList : {l : Layout} → (ℕ → ℕ → Bool) → List (Entry l) → Type 0
 NamesList named [] = Unit {0}

@@ -37,3 +37,5 @@ pub mod TextReads
 pub mod ListWalk
 pub mod Positions
 pub mod RecordKinds
+pub mod IndexLaws
+pub mod LookLaws

@@ -15,8 +15,8 @@ use Rattle.table.specs.declared.Need.{Need}
 use Rattle.table.specs.declared.Need.the-variants.{Ignored, Optional, Required}
 use Rattle.table.specs.declared.State.{State}
 use Rattle.table.specs.Bytes.{num, pick}
-use Rattle.table.specs.Layout.{Body, Content, Entry, Env, Layout, Refs, Slots, anything, bytes, env, gone, image, isRight, isText, more, namedAt, nest, nil, none}
-use Rattle.table.specs.Layout.{pairsRight, plain, rec, stop, text, unused, used}
+use Rattle.table.specs.Layout.{arePositions, Body, Content, Entry, Env, Layout, Refs, Slots, anything, bytes, env, gone, image, isRight, isText, more, namedAt, nest, nil, none, namesUsed}
+use Rattle.table.specs.Layout.{pairsRight, plain, rec, stop, positions, text, unused, used}
 use Rattle.table.specs.FixedLayouts.{discovery, header, hfi, host, listKinds, security, ssns}
 use Rattle.table.specs.Objects.{countIn, sizeOf, under, usedIn}
 use Rattle.table.specs.Rules.{Test, answer, bodyRule, done, entryRule, first, firstFail, firstOf, isSound, listRule, reaches, refRule, refsRule, ruled, usedRule}
@@ -60,11 +60,12 @@ under-need Ignored t = nothing
 under-need Optional t = t
 under-need Required t = t
 
--- what a content asks for: 18 of text
-asked : {ns : List ℕ} → T (oneOf 18 ns || eqb 18 0) → (content : Content) (e : Env) (b : List ℕ) → ZeroOr ns (ruled content e b)
-asked t content e [] = nothing
-asked t anything e (b ∷ bs) = nothing
-asked t text e (b ∷ bs) = either-of (isText (b ∷ bs)) nothing (is 18 t)
+-- what a content asks for: 18 of text, 20 of positions
+asked : {ns : List ℕ} → T (oneOf 18 ns || eqb 18 0) → T (oneOf 20 ns || eqb 20 0) → (content : Content) (e : Env) (b : List ℕ) → ZeroOr ns (ruled content e b)
+asked t u content e [] = nothing
+asked t u anything e (b ∷ bs) = nothing
+asked t u text e (b ∷ bs) = either-of (isText (b ∷ bs)) nothing (is 18 t)
+asked t u positions e (b ∷ bs) = either-of (arePositions (e .count 3) (b ∷ bs)) nothing (is 20 u)
 
 either-answer : {ns : List ℕ} (c : Bool) (x y : Answer) → ZeroOr ns (x .number) → ZeroOr ns (y .number) → ZeroOr ns (pick c x y .number)
 either-answer true x y t u = t
@@ -75,20 +76,20 @@ first-answer x y t u = either-answer (eqb (x .number) 0) y x u t
 
 -- what a told object can be refused with
 abbrev pub objectNumbers : List ℕ
-objectNumbers = 11 ∷ 18 ∷ []
+objectNumbers = 11 ∷ 18 ∷ 20 ∷ []
 
 slots-number : {rs : Refs} (e : Env) (img : List ℕ) (ss : Slots rs) → ZeroOr objectNumbers (slotsRule e img ss)
 unfolding slotsRule
 slots-number e img nil = nothing
 slots-number e img (bytes {need = need} {content = content} b ss) =
-    first-of (first-of (either-of (fitsNeed (need img) b && isShort b) nothing (is 11 tt)) (asked tt content e b)) (slots-number e img ss)
+    first-of (first-of (either-of (fitsNeed (need img) b && isShort b) nothing (is 11 tt)) (asked tt tt content e b)) (slots-number e img ss)
 slots-number e img (gone {need = need} ss) = first-of (either-of (mayLack (need img)) nothing (is 11 tt)) (slots-number e img ss)
 slots-number e img (rec {need = need} img′ own ss) =
     first-of (first-of (either-of (mayHave (need img)) nothing (is 11 tt)) (slots-number e img′ own)) (slots-number e img ss)
 
 -- what the reader can refuse with
 abbrev pub readerNumbers : List ℕ
-readerNumbers = 1 ∷ 2 ∷ 3 ∷ 4 ∷ 5 ∷ 6 ∷ 7 ∷ 8 ∷ 9 ∷ 10 ∷ 11 ∷ 12 ∷ 13 ∷ 18 ∷ []
+readerNumbers = 1 ∷ 2 ∷ 3 ∷ 4 ∷ 5 ∷ 6 ∷ 7 ∷ 8 ∷ 9 ∷ 10 ∷ 11 ∷ 12 ∷ 13 ∷ 18 ∷ 20 ∷ []
 
 abbrev FromReader : ℕ → Type 0
 FromReader r = ZeroOr readerNumbers r
@@ -102,7 +103,7 @@ refs-number : (heap : Region) (e : Env) (t : List ℕ) (a : ℕ) (img : List ℕ
 unfolding refsRule
 refs-number heap e t a img none = nothing
 refs-number heap e t a img (plain p need content rest) =
-    first-of (first-of (ref-number heap (need img) (num t (a + p) 4) (num t (a + p + 4) 2)) (under-need (need img) (asked tt content e (namedAt t (a + p)))))
+    first-of (first-of (ref-number heap (need img) (num t (a + p) 4) (num t (a + p + 4) 2)) (under-need (need img) (asked tt tt content e (namedAt t (a + p)))))
     (refs-number heap e t a img rest)
 refs-number heap e t a img (nest p need shape own rest) =
     first-of
@@ -117,7 +118,7 @@ refs-number heap e t a img (nest p need shape own rest) =
 used-number : (l : Layout) (named : ℕ → ℕ → Bool) (heap : Region) (e : Env) (t : List ℕ) (a : ℕ) (img : List ℕ) (ss : Slots (l .refs)) → FromReader (usedRule l named heap e t a img ss)
 unfolding usedRule
 used-number l named heap e t a img ss =
-    first-of (either-of (isRight (l .shape) e img) nothing (is 10 tt)) (first-of (refs-number heap e t a img (l .refs)) (either-of (l .names named img ss) nothing (is 13 tt)))
+    first-of (either-of (isRight (l .shape) e img) nothing (is 10 tt)) (first-of (refs-number heap e t a img (l .refs)) (either-of (namesUsed named (l .indexes img ss)) nothing (is 13 tt)))
 
 list-number : (l : Layout) (named : ℕ → ℕ → Bool) (count : ℕ → ℕ) (heap : Region) (pos : ℕ) (t : List ℕ) (a step : ℕ) (es : List (Entry l))
     → FromReader (listRule l named count heap pos t a step es .number)

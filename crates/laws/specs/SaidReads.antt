@@ -13,7 +13,7 @@ use Rattle.table.specs.declared.Need.{Need}
 use Rattle.table.specs.declared.Need.the-variants.{Ignored, Optional, Required}
 use Rattle.table.specs.declared.Place.{Place}
 use Rattle.table.specs.Bytes.{num, part, pick}
-use Rattle.table.specs.Layout.{Content, Entry, Env, Layout, Refs, Slots, anything, bytes, env, gone, image, isValid, rec, slotAt, text, unused, used}
+use Rattle.table.specs.Layout.{Content, Entry, Env, Layout, Refs, Slots, anything, bytes, env, gone, image, isValid, rec, slotAt, positions, text, unused, used}
 use Rattle.table.specs.FixedLayouts.{discovery, extended, hfi, hfiExtended, host, info, listKinds, security, ssns}
 use Rattle.table.specs.Objects.{countIn, readBody, readEntry, readList, readSlots, under}
 use Rattle.table.specs.Rules.{answer, done, firstOf, isSound, nestRule, plainRule, refRule, refsRule}
@@ -213,6 +213,8 @@ kept-there : (m : Need) (c : Content) (x : List ℕ) → isThere (under m [] (en
 kept-there Ignored c x = refl
 kept-there Optional anything x = refl
 kept-there Required anything x = refl
+kept-there Optional positions x = refl
+kept-there Required positions x = refl
 kept-there Optional text [] = refl
 kept-there Required text [] = refl
 kept-there Optional text (y ∷ ys) = refl
@@ -253,6 +255,11 @@ module _ (t : List ℕ) (b : (i : ℕ) → getD t i 0 < 256) (ok : check t ≡ d
         answers anything true k Optional false = refl
         answers anything true k Required true = refl
         answers anything true k Required false = refl
+        answers positions true k Ignored d = refl
+        answers positions true k Optional true = refl
+        answers positions true k Optional false = refl
+        answers positions true k Required true = refl
+        answers positions true k Required false = refl
         answers text true k Ignored d = refl
         answers text true k Optional true = refl
         answers text true k Optional false = refl

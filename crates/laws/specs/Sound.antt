@@ -14,7 +14,7 @@ use Rattle.table.specs.declared.Region.{Region}
 use Rattle.table.specs.declared.Need.{Need}
 use Rattle.table.specs.declared.Need.the-variants.{Ignored, Optional, Required}
 use Rattle.table.specs.Bytes.{num, odd, part, pick, val}
-use Rattle.table.specs.Layout.{Content, Entry, Env, Keep, Layout, Refs, Shape, Slots, env, gone, image, isRight, nest, none, plain, rec, unused, used}
+use Rattle.table.specs.Layout.{Content, Entry, Env, Keep, Layout, Refs, Shape, Slots, env, gone, image, isRight, nest, none, plain, rec, unused, used, namesUsed}
 use Rattle.table.specs.Objects.{readBody, readEntry, readList, readSlots, under}
 use Rattle.table.specs.Rules.{answer, bodyRule, done, entryRule, first, firstOf, isSound, listRule, reaches, refRule, refsRule, ruled, usedRule}
 use Rattle.table.specs.Builder.{fitsNeed, mayHave}
@@ -147,7 +147,7 @@ module _ (t : List ℕ) (b : (i : ℕ) → getD t i 0 < 256) where
       → T (odd (getD (image (l .shape .keep) (drop a t)) (l .shape .flags .at) 0))
       → usedRule l valid heap e t a (image (l .shape .keep) (drop a t)) (readSlots t a (image (l .shape .keep) (drop a t)) (l .refs)) ≡ 0
       → FitUsed l e (image (l .shape .keep) (drop a t)) (readSlots t a (image (l .shape .keep) (drop a t)) (l .refs))
-      × T (l .names valid (image (l .shape .keep) (drop a t)) (readSlots t a (image (l .shape .keep) (drop a t)) (l .refs)))
+      × T (namesUsed valid (l .indexes (image (l .shape .keep) (drop a t)) (readSlots t a (image (l .shape .keep) (drop a t)) (l .refs))))
   unfolding usedRule
   used-fit l o valid heap k e a v z =
       let img : List ℕ = image (l .shape .keep) (drop a t) in
@@ -159,7 +159,7 @@ module _ (t : List ℕ) (b : (i : ℕ) → getD t i 0 < 256) where
           right = pick-of (isRight (l .shape) e img) 10 (lit< tt) (u .0);
           objects = refs-fit heap k (l .shape .keep) 0 a e img (l .refs) (o .refsOk) (x .0);
         },
-        pick-of (l .names valid img (readSlots t a img (l .refs))) 13 (lit< tt) (x .1),
+        pick-of (namesUsed valid (l .indexes img (readSlots t a img (l .refs)))) 13 (lit< tt) (x .1),
       )
 
   pub entry-fit : (l : Layout) → OkLayout l → (valid : ℕ → ℕ → Bool) (heap : Region) → Bounded heap → (v : Env) (a : ℕ)

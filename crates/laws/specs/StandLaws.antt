@@ -12,7 +12,7 @@ use Rattle.table.specs.declared.Region.{Region}
 use Rattle.table.specs.declared.Need.{Need}
 use Rattle.table.specs.declared.Need.the-variants.{Ignored, Optional, Required}
 use Rattle.table.specs.Bytes.{le, num, odd, part, pick}
-use Rattle.table.specs.Layout.{Body, Entry, Env, Layout, Refs, Slots, bytes, env, gone, image, isRight, more, nil, rec, stop, unused, used}
+use Rattle.table.specs.Layout.{Body, Entry, Env, Layout, Refs, Slots, bytes, env, gone, image, isRight, more, nil, rec, stop, unused, used, namesUsed}
 use Rattle.table.specs.Objects.{readBody, readEntry, readList, readSlots, ref6, under}
 use Rattle.table.specs.Rules.{bodyRule, done, entryRule, first, firstOf, isSound, listRule, reaches, refRule, refsRule, ruled, usedRule}
 use Rattle.table.specs.Builder.{fitsNeed, mayHave, mayLack}
@@ -178,11 +178,11 @@ pass-at t heap a v img (rec {p = p} {need = need} {shape = shape} {own = own} im
     (pass-at t heap a v img ss (f .2) (s .1))
 
 module _ (valid : ℕ → ℕ → Bool) (count : ℕ → ℕ) (t : List ℕ) (heap : Region) where
-  pub pass-used : (l : Layout) (a : ℕ) (v : Env) (img : List ℕ) (ss : Slots (l .refs)) → FitUsed l v img ss → T (l .names valid img ss) → At t heap a img ss → usedRule l valid heap v t a img ss ≡ 0
+  pub pass-used : (l : Layout) (a : ℕ) (v : Env) (img : List ℕ) (ss : Slots (l .refs)) → FitUsed l v img ss → T (namesUsed valid (l .indexes img ss)) → At t heap a img ss → usedRule l valid heap v t a img ss ≡ 0
   unfolding usedRule
   pass-used l a v img ss f n s =
       first-zero _ _ (pick-yes (isRight (l .shape) v img) 0 10 (f .right))
-      (first-zero _ _ (pass-at t heap a v img ss (f .objects) s) (pick-yes (l .names valid img ss) 0 13 n))
+      (first-zero _ _ (pass-at t heap a v img ss (f .objects) s) (pick-yes (namesUsed valid (l .indexes img ss)) 0 13 n))
 
   pass-entry : (l : Layout) (a : ℕ) (v : Env) (e : Entry l) → FitEntry v e → NamesEntry valid e → EntryAt t heap a e → entryRule l valid heap v t a e ≡ 0
   unfolding entryRule

@@ -5,7 +5,7 @@ use mathlib.Core.List.{List, [], _∷_, _++_}
 use Prim.Native.Nat.{ℕ, zero, suc, _+_, _-_, _≤_, _<_}
 use native.Mathlib.Omega.{arith}
 use lib.ListN.{length, take, drop, length-append, length-take, length-drop}
-use lib.Dec.{T, leb, eqb, eqb→eq, leb→le, lit<}
+use lib.Dec.{T, leb, eqb, eqb→eq, leb→le, lit<, leb·zero}
 use borrow.Author.Tests.{eqb-false, le-leb, leb-true}
 use mir.Facts.{and-yes, eqb-no}
 use Rattle.table.specs.declared.Answer.{Answer}
@@ -14,7 +14,7 @@ use Rattle.table.specs.declared.Need.{Need}
 use Rattle.table.specs.declared.Need.the-variants.{Ignored, Optional, Required}
 use Rattle.table.specs.declared.Place.{Place}
 use Rattle.table.specs.Bytes.{every, num, part, pick}
-use Rattle.table.specs.Layout.{Content, Env, Layout, Refs, Shape, Slots, anything, bytes, gone, image, isText, nest, nil, none, plain, rec, slotAt, text}
+use Rattle.table.specs.Layout.{arePositions, Content, Env, Layout, Refs, Shape, Slots, anything, bytes, gone, image, isText, nest, nil, none, plain, rec, slotAt, positions, text}
 use Rattle.table.specs.FixedLayouts.{discovery, extended, header, hfi, hfiExtended, host, info, security, ssns}
 use Rattle.table.specs.Objects.{readSlots, under}
 use Rattle.table.specs.Rules.{answer, done, firstOf, nestRule, plainRule, reaches, refRule, refsRule, ruled}
@@ -37,6 +37,7 @@ cut (b ∷ c ∷ cs) = b ∷ cut (c ∷ cs)
 -- an object without its terminator, if it is text
 abbrev pub bare : Content → List ℕ → List ℕ
 bare anything b = b
+bare positions b = b
 bare text b = cut b
 
 -- ---- kept
@@ -72,6 +73,7 @@ text-split (suc i) (b ∷ c ∷ cs) k =
 abbrev pub textsOf : Refs → List ℕ
 textsOf none = []
 textsOf (plain p need anything rest) = textsOf rest
+textsOf (plain p need positions rest) = textsOf rest
 textsOf (plain p need text rest) = p ∷ textsOf rest
 textsOf (nest p need shape own rest) = textsOf rest
 
@@ -135,9 +137,10 @@ text-fault {x} {y} {r} {s} e f = ap₂ (λ (c : Bool) (n : ℕ). firstOf (pick c
     go true = refl
     go false = refl
 
--- a told object's fault by the bytes told
+-- a told object's fault by the bytes told, and nothing else: how many positions there may be is not asked here
 abbrev pub bytesFault : Content → List ℕ → ℕ
 bytesFault anything b = pick (leb (length b) 65535) 0 11
+bytesFault positions b = pick (leb (length b) 65535) 0 11
 bytesFault text b = pick (leb (length b) 65534) (pick (noZero b) 0 18) 11
 
 abbrev pub toldFault : Need → Content → List ℕ → ℕ
@@ -146,9 +149,15 @@ toldFault Optional content b = bytesFault content b
 toldFault Required content [] = 11
 toldFault Required content (b ∷ bs) = bytesFault content (b ∷ bs)
 
+-- with what is asked of positions where so many HFIs are told
+abbrev pub toldIn : Env → Need → Content → List ℕ → ℕ
+toldIn e m anything b = toldFault m anything b
+toldIn e m text b = toldFault m text b
+toldIn e m positions b = firstOf (toldFault m positions b) (under m 0 (pick (arePositions (e .count 3) b) 0 20))
+
 -- it is what the builder finds of the object as it is kept
 pub told-fault : (e : Env) (m : Need) (content : Content) (b : List ℕ) → let x = under m [] (ended content b) in
-    firstOf (pick (fitsNeed m x && isShort x) 0 11) (ruled content e x) ≡ toldFault m content b
+    firstOf (pick (fitsNeed m x && isShort x) 0 11) (ruled content e x) ≡ toldIn e m content b
 told-fault e Ignored anything b = refl
 told-fault e Ignored text b = refl
 told-fault e Required anything [] = refl
@@ -157,6 +166,11 @@ told-fault e Optional anything [] = refl
 told-fault e Optional text [] = refl
 told-fault e Optional anything (b ∷ bs) = first-zero (pick (isShort (b ∷ bs)) 0 11)
 told-fault e Required anything (b ∷ bs) = first-zero (pick (isShort (b ∷ bs)) 0 11)
+told-fault e Ignored positions b = refl
+told-fault e Required positions [] = refl
+told-fault e Optional positions [] = rw (leb·zero (e .count 3))
+told-fault e Optional positions (b ∷ bs) = refl
+told-fault e Required positions (b ∷ bs) = refl
 told-fault e Optional text (b ∷ bs) = text-fault (told-short b bs) (told-eighteen e (b ∷ bs))
 told-fault e Required text (b ∷ bs) = text-fault (told-short b bs) (told-eighteen e (b ∷ bs))
 
@@ -168,12 +182,14 @@ cut-end (b ∷ c ∷ cs) = ap (λ (x : List ℕ). b ∷ x) (cut-end (c ∷ cs))
 -- what was told comes back
 pub bare-ended : (content : Content) (s : List ℕ) → bare content (ended content s) ≡ s
 bare-ended anything s = refl
+bare-ended positions s = refl
 bare-ended text [] = refl
 bare-ended text (b ∷ bs) = cut-end (b ∷ bs)
 
 -- and an object that is no empty text can be told again
 pub ended-bare : (e : Env) (b : ℕ) (bs : List ℕ) (content : Content) → ruled content e (b ∷ bs) ≡ 0 → (bare content (b ∷ bs) ≡ [] → ⊥) → ended content (bare content (b ∷ bs)) ≡ b ∷ bs
 ended-bare e b bs anything r n = refl
+ended-bare e b bs positions r n = refl
 ended-bare e b bs text r n = go (isText (b ∷ bs)) refl r
   where
     again : (x : List ℕ) → (x ≡ [] → ⊥) → ended text x ≡ x ++ (0 ∷ [])
@@ -291,6 +307,7 @@ told-back {rs} n img ss q k = ap (bare (contentAt q rs)) (told-slot n img ss q k
   where
     go : (m : Need) (c : Content) → bare c (under m [] (ended c (slotAt q ss))) ≡ under m [] (slotAt q ss)
     go Ignored anything = refl
+    go Ignored positions = refl
     go Ignored text = refl
     go Optional c = bare-ended c (slotAt q ss)
     go Required c = bare-ended c (slotAt q ss)
@@ -346,6 +363,7 @@ cut-take (suc (suc n)) (b ∷ c ∷ cs) k =
 -- a part that lies in the table, as it is handed back
 handed-part : (t : List ℕ) (content : Content) (x : Place) → x .at + x .len ≤ length t → part t (handed content x .at) (handed content x .len) ≡ bare content (part t (x .at) (x .len))
 handed-part t anything x k = refl
+handed-part t positions x k = refl
 handed-part t text x k = cut-take (x .len) (drop (x .at) t) (simp (length-drop) (omega arith))
 
 -- the record at a of kind l, its reference q to an object
@@ -442,6 +460,7 @@ module _ (t : List ℕ) (l : Layout) (a q : ℕ) (h : T (hasPlain q (l .refs))) 
     -- what is handed back is present exactly where the slot is not empty: an empty text is present
     handed-present : (content : Content) (x : Place) → handed content x .present ≡ x .present
     handed-present anything x = refl
+    handed-present positions x = refl
     handed-present text x = refl
 
     same-present : given .present ≡ whole .present

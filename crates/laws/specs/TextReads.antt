@@ -12,7 +12,7 @@ use Rattle.table.specs.declared.Need.{Need}
 use Rattle.table.specs.declared.Need.the-variants.{Ignored, Optional, Required}
 use Rattle.table.specs.declared.Place.{Place}
 use Rattle.table.specs.Bytes.{num, part, pick}
-use Rattle.table.specs.Layout.{Content, Env, Layout, anything, env, image, isValid, text}
+use Rattle.table.specs.Layout.{Content, Env, Layout, anything, env, image, isValid, positions, text}
 use Rattle.table.specs.FixedLayouts.{control, discovery, header, hfi, layoutOf, listKinds, security, ssns}
 use Rattle.table.specs.Objects.{countIn, readBody, under}
 use Rattle.table.specs.Rules.{answer, done, refsRule}
@@ -34,6 +34,7 @@ wholeObject t k n q = part t (wholeAt t q (seatOf t k n) .at) (wholeAt t q (seat
 -- what was handed back, ended again if it is a text that is present
 abbrev pub again : Content → Bool → List ℕ → List ℕ
 again anything present b = b
+again positions present b = b
 again text false b = []
 again text true b = b ++ (0 ∷ [])
 
@@ -126,6 +127,7 @@ module _ (t : List ℕ) (b : (i : ℕ) → getD t i 0 < 256) (ok : check t ≡ d
 
         none : (c : Content) → let x = handed c (noPlace r) in (again c (x .present) (bytesOf x) ≡ []) × (T (x .present) → ⊥)
         none anything = (refl, λ y. y)
+        none positions = (refl, λ y. y)
         none text = (refl, λ y. y)
 
     handed-back : T (distinctRefs (l .refs)) → (s : Seat) → Sits t l s → Handed l q s
@@ -133,6 +135,7 @@ module _ (t : List ℕ) (b : (i : ℕ) → getD t i 0 < 256) (ok : check t ≡ d
       where
         none-handed : (c : Content) → noPlace (answer 16 0 0) ≡ handed c (noPlace (answer 16 0 0))
         none-handed anything = refl
+        none-handed positions = refl
         none-handed text = refl
     handed-back f s (idle a) = go (hasPlain q (l .refs)) refl
       where
@@ -152,6 +155,7 @@ module _ (t : List ℕ) (b : (i : ℕ) → getD t i 0 < 256) (ok : check t ≡ d
 
         ended : T (hasPlain q (l .refs)) → (c : Content) → contentAt q (l .refs) ≡ c → (d : Bool) → given .present ≡ d → bytesOf whole ≡ again c d (bytesOf given)
         ended h anything e d g = ap (λ (c : Content). bytesOf (handed c whole)) (sym e)
+        ended h positions e d g = ap (λ (c : Content). bytesOf (handed c whole)) (sym e)
         ended h text e true g = let n = plain-alone q (l .refs) f h in whole-read t l a q h n ∙ sym (text-read t l a q h n (heapIn t) v (heap-in t b ok) z e (rw g tt) .1)
         ended h text e false g = let n = plain-alone q (l .refs) f h in whole-read t l a q h n ∙ absent-slot t l a q h n (heapIn t) v (heap-in t b ok) z (rw g tt)
 

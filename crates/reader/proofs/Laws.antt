@@ -5,22 +5,25 @@ use mathlib.Core.List.{List}
 use Prim.Native.Nat.{ℕ, zero, suc, _+_, _%_, _≤_, _<_}
 use native.Mathlib.Omega.{arith}
 use lib.ListN.{length, getD, length-take, length-drop}
-use borrow.Author.Tests.{eq-eqb, ne-eqb}
+use lib.Dec.{eqb}
+use borrow.Author.Tests.{eq-eqb, ne-eqb, eqb-true, eqb-false}
 use Rattle.table.specs.declared.Region.{Region}
 use Rattle.table.specs.declared.Answer.{Answer}
 use Rattle.table.specs.Bytes.{pick, part, num, odd}
-use Rattle.table.specs.Layout.{isValid, region, used, unused}
+use Rattle.table.specs.Layout.{Layout, env, isValid, region, used, unused}
 use Rattle.table.specs.FixedLayouts.{layoutOf, header, host, listKinds}
 use Rattle.table.specs.Objects.{readBody, readEntry, readSlots}
 use Rattle.table.specs.Rules.{answer, done, first, firstFail, refsRule, bodyRule}
 use Rattle.table.specs.Meaning.{meaning}
 use Rattle.table.specs.Numbers.{heapIn, tests, driverRule, hostRule, records, check}
+use Rattle.table.specs.Looks.{behind, looks, looksBody, looksEntry, looksRecords, upTo}
 use Rattle.laws.specs.Fields.{imageIn}
-use Rattle.laws.specs.ListWalk.{validIn, envIn, usedIt, flag-is, walk}
+use Rattle.laws.specs.ListWalk.{validIn, envIn, usedIt, flag-is, recordRule, walk, walk-more, walk-none, walk-stop}
+use Rattle.laws.specs.LookLaws.{looks-record, looksRecord, looksWalk, up-more, up-stop}
 use Rattle.reader_rules.specs.Rules.{IsHeap}
 use Rattle.reader_indexes.specs.Indexes.{refsFault}
-use Rattle.reader_lists.specs.Lists.{usedFault, counts, listFrom, listFault}
-use Rattle.reader.specs.Stages.{numbered, hostFault}
+use Rattle.reader_lists.specs.Lists.{usedFault, counts, listFrom, listFault, usedLooks, fromLooks, listLooks}
+use Rattle.reader.specs.Stages.{numbered, hostFault, hostLooks}
 -- passed on to the crates above, which walk the same lists
 pub use Rattle.reader_lists.proofs.Laws.{flag-within, flags-stand, next-start}
 
@@ -57,6 +60,90 @@ records-are : (t : List ℕ)
 unfolding records meaning validIn counts
 records-are t = refl
 
+-- a list that gives 0 is done
+walk-done : (l : Layout) (named : ℕ → ℕ → Bool) (count : ℕ → ℕ) (heap : Region) (t : List ℕ) (step n pos a : ℕ)
+    → walk l named count heap t step pos a n .number ≡ 0 → walk l named count heap t step pos a n ≡ done
+walk-done l named count heap t step zero pos a z = walk-none l named count heap t step pos a
+walk-done l named count heap t step (suc n) pos a z =
+    go (eqb (recordRule l named heap (env count pos) t a) 0) refl (walk-done l named count heap t step n (suc pos) (a + step))
+  where
+    r : ℕ
+    r = recordRule l named heap (env count pos) t a
+
+    go : (c : Bool) → eqb r 0 ≡ c → (walk l named count heap t step (suc pos) (a + step) n .number ≡ 0 → walk l named count heap t step (suc pos) (a + step) n ≡ done)
+        → walk l named count heap t step pos a (suc n) ≡ done
+    go true e rest =
+        let w = walk-more l named count heap t step pos a n r refl (eqb-true r 0 e) in
+        w ∙ rest (sym (ap (λ (x : Answer). x .number) w) ∙ z)
+    go false e rest =
+        let k = eqb-false r 0 e in
+        absurd (k (sym (ap (λ (x : Answer). x .number) (walk-stop l named count heap t step pos a n r refl k)) ∙ z))
+
+-- so that nothing is behind the last list
+pub last-list : (k : ℕ) (heap : Region) (t : List ℕ) (c : ℕ) → listFault k heap t c ≡ first (listFault k heap t c) done
+unfolding listFault listFrom
+last-list k heap t c = go (eqb (x .number) 0) refl
+  where
+    x : Answer
+    x = walk (layoutOf k) (validIn t) (counts t) heap t (num t (c + 4) 2) 1 (num t c 4) (getD t (c + 7) 0)
+
+    go : (b : Bool) → eqb (x .number) 0 ≡ b → x ≡ pick b done x
+    go true e = walk-done (layoutOf k) (validIn t) (counts t) heap t (num t (c + 4) 2) (getD t (c + 7) 0) 1 (num t c 4) (eqb-true (x .number) 0 e)
+    go false e = refl
+
+-- ---- their looks
+
+pub body-looks : (t : List ℕ) (heap : Region)
+    → upTo (listLooks 3 heap t 80) (listFault 3 heap t 80 .number)
+    (upTo (listLooks 4 heap t 88) (listFault 4 heap t 88 .number)
+    (upTo (listLooks 5 heap t 96) (listFault 5 heap t 96 .number) (upTo (listLooks 6 heap t 104) (listFault 6 heap t 104 .number) 0)))
+    ≡ looksBody (validIn t) (counts t) heap t 80 (readBody listKinds t 80)
+unfolding listLooks fromLooks looksWalk listFault listFrom walk layoutOf looksBody readBody
+body-looks t heap = refl
+
+-- the last list, whatever it answers
+pub last-looks : (n l : ℕ) → upTo l n 0 ≡ l
+last-looks n l = go (eqb n 0) where
+  go : (c : Bool) → l + pick c 0 0 ≡ l
+  go true = omega arith
+  go false = omega arith
+
+host-looks : (t : List ℕ) → hostLooks (heapIn t) t ≡ looksEntry host (validIn t) (heapIn t) (envIn t 0) t (num t 72 4) (readEntry host t (num t 72 4))
+unfolding hostLooks usedLooks layoutOf looksRecord host
+host-looks t = sym (looks-record host (validIn t) (heapIn t) (envIn t 0) t (num t 72 4) tt)
+
+records-look : (t : List ℕ)
+    → behind (driverRule t (counts t) .number)
+    (upTo (looksEntry host (validIn t) (heapIn t) (envIn t 0) t (num t 72 4) (readEntry host t (num t 72 4)))
+    (hostRule t (validIn t) (counts t) (readEntry host t (num t 72 4)) .number)
+    (looksBody (validIn t) (counts t) (heapIn t) t 80 (readBody listKinds t 80)))
+    ≡ looksRecords t (meaning t)
+unfolding looksRecords meaning validIn counts envIn
+records-look t = refl
+
+pub parts-look : (t : List ℕ) (heap : Region) → heap ≡ heapIn t
+    → behind (numbered (refsFault 0 heap t 0 0) 0 .number)
+    (upTo (hostLooks heap t) (hostFault heap t .number) (looksBody (validIn t) (counts t) heap t 80 (readBody listKinds t 80)))
+    ≡ looksRecords t (meaning t)
+parts-look t heap e =
+    let after : Region → ℕ = λ h. looksBody (validIn t) (counts t) h t 80 (readBody listKinds t 80) in
+    ap (λ (h : Region). behind (numbered (refsFault 0 h t 0 0) 0 .number) (upTo (hostLooks h t) (hostFault h t .number) (after h))) e
+    ∙ ap₂ (λ (x y : Answer). behind (x .number) (upTo (hostLooks (heapIn t) t) (y .number) (after (heapIn t)))) (driver-is t) (host-is t)
+    ∙ ap (λ (n : ℕ). behind (driverRule t (counts t) .number)
+    (upTo n (hostRule t (validIn t) (counts t) (readEntry host t (num t 72 4)) .number) (after (heapIn t)))) (host-looks t)
+    ∙ records-look t
+
+pub looks-are : (t : List ℕ) → behind (firstFail (tests t) .number) (looksRecords t (meaning t)) ≡ looks t
+unfolding looks
+looks-are t = refl
+
+-- none behind a test that fails
+pub looks-stop : (n rest : ℕ) → (n ≡ 0 → ⊥) → 0 ≡ behind n rest
+looks-stop n rest h = sym (ap (λ (c : Bool). pick c rest 0) (ne-eqb n 0 h))
+
+pub looks-more : (n rest : ℕ) → n ≡ 0 → rest ≡ behind n rest
+looks-more n rest e = sym (ap (λ (c : Bool). pick c rest 0) (eq-eqb n 0 e))
+
 -- ---- the first of two answers
 
 pub answer-stop : {r x : Answer} (y : Answer) → r ≡ x → (r .number ≡ 0 → ⊥) → r ≡ first x y
@@ -64,6 +151,14 @@ answer-stop {r} {x} y e z = rw (← e) (sym (ap (λ (c : Bool). pick c y r) (ne-
 
 pub answer-more : {r x s y : Answer} → r ≡ x → r .number ≡ 0 → s ≡ y → s ≡ first x y
 answer-more {r} {x} {s} {y} e z f = rw (← e) (f ∙ sym (ap (λ (c : Bool). pick c y r) (eq-eqb (r .number) 0 z)))
+
+-- the looks of a part that answered r, and of the rest
+module _ {r x : Answer} {l m : ℕ} (e : r ≡ x) (f : l ≡ m) where
+  pub look-stop : (rest : ℕ) → (r .number ≡ 0 → ⊥) → l ≡ upTo m (x .number) rest
+  look-stop rest n = f ∙ sym (up-stop m (x .number) rest (λ z. n (ap (λ (y : Answer). y .number) e ∙ z)))
+
+  pub look-more : {k rest : ℕ} → r .number ≡ 0 → k ≡ rest → l + k ≡ upTo m (x .number) rest
+  look-more {k} {rest} z g = ap₂ _+_ f g ∙ sym (up-more m (x .number) rest (sym (ap (λ (y : Answer). y .number) e) ∙ z))
 
 -- ---- the host's valid bit, as code reads it
 
@@ -74,6 +169,14 @@ host-off heap t a e z = rw (← e, ne-eqb (getD t (a + 1) 0 % 2) 1 z)
 pub host-on : (heap : Region) (t : List ℕ) (a n : ℕ) → a ≡ num t 72 4 → getD t (a + 1) 0 % 2 ≡ 1 → n ≡ usedFault 2 heap t a 0 → numbered n 2 ≡ hostFault heap t
 unfolding hostFault
 host-on heap t a n e z f = rw (← e, eq-eqb (getD t (a + 1) 0 % 2) 1 z, f)
+
+pub looks-off : (heap : Region) (t : List ℕ) (a : ℕ) → a ≡ num t 72 4 → (getD t (a + 1) 0 % 2 ≡ 1 → ⊥) → 1 ≡ hostLooks heap t
+unfolding hostLooks
+looks-off heap t a e z = rw (← e, ne-eqb (getD t (a + 1) 0 % 2) 1 z)
+
+pub looks-on : (heap : Region) (t : List ℕ) (a n : ℕ) → a ≡ num t 72 4 → getD t (a + 1) 0 % 2 ≡ 1 → n ≡ usedLooks 2 heap t a 0 → n ≡ hostLooks heap t
+unfolding hostLooks
+looks-on heap t a n e z f = rw (← e, eq-eqb (getD t (a + 1) 0 % 2) 1 z, f)
 
 -- ---- the parts behind the tests
 

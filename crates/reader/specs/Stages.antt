@@ -7,7 +7,7 @@ use Rattle.table.specs.declared.Answer.{Answer}
 use Rattle.table.specs.declared.Region.{Region}
 use Rattle.table.specs.Bytes.{pick, num, odd}
 use Rattle.table.specs.Rules.{answer, done}
-use Rattle.reader_lists.specs.Lists.{usedFault}
+use Rattle.reader_lists.specs.Lists.{usedFault, usedLooks}
 
 -- a number with its kind, outside lists
 abbrev pub numbered : ℕ → ℕ → Answer
@@ -16,3 +16,7 @@ numbered n k = pick (eqb n 0) done (answer n k 0)
 -- the host, wherever it stands
 unfoldable pub hostFault : Region → List ℕ → Answer
 hostFault heap t = pick (odd (getD t (num t 72 4 + 1) 0)) (numbered (usedFault 2 heap t (num t 72 4) 0) 2) (answer 10 2 0)
+
+-- its looks: one where it is not valid
+unfoldable pub hostLooks : Region → List ℕ → ℕ
+hostLooks heap t = pick (odd (getD t (num t 72 4 + 1) 0)) (usedLooks 2 heap t (num t 72 4) 0) 1

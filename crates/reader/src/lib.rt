@@ -8,6 +8,7 @@ use table::Discovery;
 use table::Header;
 use table::Hfi;
 use table::Host;
+use table::Looked;
 use table::Security;
 use table::Ssns;
 ghost use mathlib.Core.Path.{_≡_};
@@ -20,11 +21,12 @@ ghost use Rattle.table.specs.Objects.{readBody};
 ghost use Rattle.table.specs.Rules.{bodyRule};
 ghost use Rattle.table.specs.Meaning.{meaning};
 ghost use Rattle.table.specs.Numbers.{records, check};
+ghost use Rattle.table.specs.Looks.{looks, looksBody, looksRecords};
 ghost use Rattle.laws.specs.ListWalk.{validIn};
 ghost use Rattle.reader_frame.specs.Bounds.{LaidOut};
 ghost use Rattle.reader_rules.specs.Rules.{IsHeap};
 ghost use Rattle.reader_lists.specs.Lists.{counts};
-ghost use Rattle.reader.specs.Stages.{hostFault, numbered};
+ghost use Rattle.reader.specs.Stages.{hostFault, hostLooks, numbered};
 
 // The heap, lent to the readers of records as the part of the table that it is; an empty one has no place.
 fn heap_of(t: &[u8], at: usize, len: usize) -> &[u8]
@@ -47,60 +49,81 @@ fn answer_of(number: u8, kind: u8) -> Answer
     table::refuse(number, kind, 0)
 }
 
-fn host_fault(t: &[u8], heap: &[u8], from: usize) -> Answer
+// What is found behind `looks` others.
+fn behind(looks: usize, rest: Looked) -> Looked
+    requires { ⌜ (looks ≤ 8796093022208) × (rest .looks ≤ 8796093022208) ⌝ }
+    ensures { λ r. ⌜ (r .answer ≡ rest .answer) × (r .looks ≡ looks + rest .looks) ⌝ }
+{
+    let answer = rest.answer;
+    Looked {
+        answer: answer,
+        looks: looks + rest.looks,
+    }
+}
+
+fn host_fault(t: &[u8], heap: &[u8], from: usize) -> Looked
     requires { ⌜ LaidOut (now t) × IsHeap (now t) (now heap) from ⌝ }
-    ensures { λ r. ⌜ r ≡ hostFault (region from (length (now (heap .entry)))) (now (t .entry)) ⌝ }
+    ensures { λ r. ⌜ (r .answer ≡ hostFault (region from (length (now (heap .entry)))) (now (t .entry))) × (r .looks ≡ hostLooks (region from (length (now (heap .entry)))) (now (t .entry))) × (r .looks ≤ 8589934596) ⌝ }
 {
     let r = bytes_wire::reference_at(t, Control::HOST);
     let a = r.at;
     let flag = layout_kinds::flags_at(Host::ID);
     if t[a + flag] % 2 != 1 {
-        return table::refuse(10, Host::ID, 0);
+        return Looked {
+            answer: table::refuse(10, Host::ID, 0),
+            looks: 1,
+        };
     }
-    answer_of(used_fault(t, Host::ID, a, 0, heap, from), Host::ID)
+    let used = used_fault(t, Host::ID, a, 0, heap, from);
+    Looked {
+        answer: answer_of(used.number, Host::ID),
+        looks: used.looks,
+    }
 }
 
-fn lists_fault(t: &[u8], heap: &[u8], from: usize) -> Answer
+fn lists_fault(t: &[u8], heap: &[u8], from: usize) -> Looked
     requires { ⌜ LaidOut (now t) × IsHeap (now t) (now heap) from ⌝ }
-    ensures { λ r. ⌜ r ≡ bodyRule (validIn (now (t .entry))) (counts (now (t .entry))) (region from (length (now (heap .entry)))) (now (t .entry)) 80 (readBody listKinds (now (t .entry)) 80) ⌝ }
+    ensures { λ r. ⌜ (r .answer ≡ bodyRule (validIn (now (t .entry))) (counts (now (t .entry))) (region from (length (now (heap .entry)))) (now (t .entry)) 80 (readBody listKinds (now (t .entry)) 80)) × (r .looks ≡ looksBody (validIn (now (t .entry))) (counts (now (t .entry))) (region from (length (now (heap .entry)))) (now (t .entry)) 80 (readBody listKinds (now (t .entry)) 80)) × (r .looks ≤ 8796093022208) ⌝ }
 {
     let hfi = list_fault(t, Hfi::ID, Control::HFI_LIST, heap, from);
-    if hfi.number != 0 {
+    if hfi.answer.number != 0 {
         return hfi;
     }
-    let ssns = list_fault(t, Ssns::ID, Control::SSNS_LIST, heap, from);
-    if ssns.number != 0 {
+    let second = list_fault(t, Ssns::ID, Control::SSNS_LIST, heap, from);
+    let ssns = behind(hfi.looks, second);
+    if ssns.answer.number != 0 {
         return ssns;
     }
-    let security = list_fault(t, Security::ID, Control::SECURITY_LIST, heap, from);
-    if security.number != 0 {
+    let third = list_fault(t, Security::ID, Control::SECURITY_LIST, heap, from);
+    let security = behind(ssns.looks, third);
+    if security.answer.number != 0 {
         return security;
     }
-    let discovery = list_fault(t, Discovery::ID, Control::DISCOVERY_LIST, heap, from);
-    if discovery.number != 0 {
-        return discovery;
-    }
-    table::done()
+    let last = list_fault(t, Discovery::ID, Control::DISCOVERY_LIST, heap, from);
+    behind(security.looks, last)
 }
 
-fn parts_fault(t: &[u8], heap: &[u8], from: usize) -> Answer
+fn parts_fault(t: &[u8], heap: &[u8], from: usize) -> Looked
     requires { ⌜ LaidOut (now t) × IsHeap (now t) (now heap) from × (from ≡ num (now t) 36 4) × (length (now heap) ≡ num (now t) 40 4) ⌝ }
-    ensures { λ r. ⌜ r ≡ records (now (t .entry)) (meaning (now (t .entry))) ⌝ }
+    ensures { λ r. ⌜ (r .answer ≡ records (now (t .entry)) (meaning (now (t .entry)))) × (r .looks ≡ looksRecords (now (t .entry)) (meaning (now (t .entry)))) ⌝ }
 {
     let driver = answer_of(refs_fault(t, Header::ID, 0, 0, heap, from), Header::ID);
     if driver.number != 0 {
-        return driver;
+        return Looked {
+            answer: driver,
+            looks: 0,
+        };
     }
     let host = host_fault(t, heap, from);
-    if host.number != 0 {
+    if host.answer.number != 0 {
         return host;
     }
-    lists_fault(t, heap, from)
+    behind(host.looks, lists_fault(t, heap, from))
 }
 
-fn records_fault(t: &[u8]) -> Answer
+fn records_fault(t: &[u8]) -> Looked
     requires { ⌜ LaidOut (now t) ⌝ }
-    ensures { λ r. ⌜ r ≡ records (now (t .entry)) (meaning (now (t .entry))) ⌝ }
+    ensures { λ r. ⌜ (r .answer ≡ records (now (t .entry)) (meaning (now (t .entry)))) × (r .looks ≡ looksRecords (now (t .entry)) (meaning (now (t .entry)))) ⌝ }
 {
     let region = reader_head::region_at(t, 36);
     let from = region.at;
@@ -108,13 +131,25 @@ fn records_fault(t: &[u8]) -> Answer
     parts_fault(t, heap_of(t, from, len), from)
 }
 
-// The answer to any bytes: number, kind and position of the first fault, or 0.
-pub fn check(t: &[u8]) -> Answer
-    ensures { λ r. ⌜ r ≡ check (now (t .entry)) ⌝ }
+// The answer to any bytes, and how many looks at records it took: none where the frame has a fault.
+pub fn check_looks(t: &[u8]) -> Looked
+    ensures { λ r. ⌜ (r .answer ≡ check (now (t .entry))) × (r .looks ≡ looks (now (t .entry))) ⌝ }
 {
     let fault = reader_frame::frame_fault(t);
     if fault.number != 0 {
-        return fault;
+        return Looked {
+            answer: fault,
+            looks: 0,
+        };
     }
     records_fault(t)
+}
+
+// The answer alone: number, kind and position of the first fault, or 0.
+pub fn check(t: &[u8]) -> Answer
+    ensures { λ r. ⌜ r ≡ check (now (t .entry)) ⌝ }
+{
+    let looked = check_looks(t);
+    let answer = looked.answer;
+    answer
 }

@@ -3,19 +3,22 @@ pub mod names; // the indexes of a record, by kind
 
 use table::Control;
 use table::Discovery;
+use table::Found;
 use table::Hfi;
 use table::Security;
 use table::Ssns;
 ghost use mathlib.Core.Path.{_≡_};
 ghost use Prim.Native.Nat.{_+_, _*_, _≤_, _<_};
 ghost use lib.ListN.{length, getD};
-ghost use Rattle.table.specs.Bytes.{num, pick, every};
-ghost use Rattle.table.specs.Layout.{region};
-ghost use Rattle.table.specs.FixedLayouts.{zeroOr};
+ghost use lib.Dec.{eqb};
+ghost use mathlib.Core.List.{[], _∷_};
+ghost use Rattle.table.specs.Bytes.{num};
+ghost use Rattle.table.specs.Layout.{each, index, namedAt, region, unless};
+ghost use Rattle.laws.specs.IndexLaws.{after, foundBy};
 ghost use Rattle.laws.specs.ListWalk.{validIn, flagged};
 ghost use Rattle.reader_frame.specs.Bounds.{ListIn, LaidOut};
 ghost use Rattle.reader_rules.specs.Rules.{IsHeap};
-ghost use Rattle.reader_indexes.specs.Indexes.{secondaryRule, RefsPass};
+ghost use Rattle.reader_indexes.specs.Indexes.{RefsPass};
 
 // Position n of a list is one of it, and its valid bit is set.
 fn listed(t: &[u8], at: usize, step: usize, count: usize, flag: usize, n: usize) -> bool
@@ -72,44 +75,71 @@ pub fn valid_at(t: &[u8], kind: u8, n: usize) -> bool
     }
 }
 
-pub fn index_fault(t: &[u8], kind: u8, n: usize) -> u8
-    requires { ⌜ LaidOut (now t) ⌝ }
-    ensures { λ r. ⌜ r ≡ pick (validIn (now (t .entry)) kind n) 0 13 ⌝ }
+// What is found behind `looks` others.
+pub fn behind(looks: usize, rest: Found) -> Found
+    requires { ⌜ (looks ≤ 8589934600) × (rest .looks ≤ 8589934600) ⌝ }
+    ensures { λ r. ⌜ r ≡ after looks rest ⌝ }
 {
-    if valid_at(t, kind, n) { 0 } else { 13 }
+    Found {
+        number: rest.number,
+        looks: looks + rest.looks,
+    }
 }
 
-// An index that may be 0.
-pub fn optional_index(t: &[u8], kind: u8, n: usize) -> u8
+// An index takes a look at the record that it names, whether it is valid or not.
+pub fn index_fault(t: &[u8], kind: u8, n: usize) -> Found
     requires { ⌜ LaidOut (now t) ⌝ }
-    ensures { λ r. ⌜ r ≡ pick (zeroOr (validIn (now (t .entry)) kind) n) 0 13 ⌝ }
+    ensures { λ r. ⌜ (r ≡ foundBy (validIn (now (t .entry))) (index kind n ∷ [])) × (r .looks ≤ 1) ⌝ }
+{
+    if valid_at(t, kind, n) {
+        return Found {
+            number: 0,
+            looks: 1,
+        };
+    }
+    Found {
+        number: 13,
+        looks: 1,
+    }
+}
+
+// An index that may be 0, which names nothing and takes no look.
+pub fn optional_index(t: &[u8], kind: u8, n: usize) -> Found
+    requires { ⌜ LaidOut (now t) ⌝ }
+    ensures { λ r. ⌜ (r ≡ foundBy (validIn (now (t .entry))) (unless (eqb n 0) (index kind n) [])) × (r .looks ≤ 1) ⌝ }
 {
     if n == 0 {
-        return 0;
+        return Found {
+            number: 0,
+            looks: 0,
+        };
     }
     index_fault(t, kind, n)
 }
 
 // Each byte of the list names a valid HFI, never 0.
-fn secondaries_fault(x: &[u8], t: &[u8]) -> u8
-    requires { ⌜ LaidOut (now t) ⌝ }
-    ensures { λ r. ⌜ r ≡ pick (every (validIn (now (t .entry)) 3) (now (x .entry))) 0 13 ⌝ }
+fn secondaries_fault(x: &[u8], t: &[u8]) -> Found
+    requires { ⌜ LaidOut (now t) × (length (now x) ≤ 8589934592) ⌝ }
+    ensures { λ r. ⌜ (r ≡ foundBy (validIn (now (t .entry))) (each 3 (now (x .entry)))) × (r .looks ≤ length (now (x .entry))) ⌝ }
 {
     let mut i: usize = 0;
     while i < x.len() {
-        let fault = index_fault(t, Hfi::ID, bytes_wire::wide(x[i]));
-        if fault != 0 {
-            return fault;
+        let named = index_fault(t, Hfi::ID, bytes_wire::wide(x[i]));
+        if named.number != 0 {
+            return behind(i, named);
         }
         i += 1;
     }
-    0
+    Found {
+        number: 0,
+        looks: i,
+    }
 }
 
 // The secondary list is a part of the heap, whose reference has passed.
-pub fn secondary_names(t: &[u8], a: usize, position: usize, heap: &[u8], from: usize) -> u8
+pub fn secondary_names(t: &[u8], a: usize, position: usize, heap: &[u8], from: usize) -> Found
     requires { ⌜ LaidOut (now t) × (a + 128 ≤ length (now t)) × IsHeap (now t) (now heap) from × RefsPass 4 (region from (length (now heap))) (now t) a position ⌝ }
-    ensures { λ r. ⌜ r ≡ secondaryRule (now (t .entry)) a ⌝ }
+    ensures { λ r. ⌜ (r ≡ foundBy (validIn (now (t .entry))) (each 3 (namedAt (now (t .entry)) (a + 48)))) × (r .looks ≤ 8589934592) ⌝ }
 {
     secondaries_fault(reader_references::part_at(t, a + 48, heap, from), t)
 }

@@ -8,6 +8,7 @@ use Rattle.table.specs.Bytes.{num}
 use Rattle.table.specs.FixedLayouts.{layoutOf, listKinds}
 use Rattle.table.specs.Objects.{readBody, countIn}
 use Rattle.laws.specs.ListWalk.{validIn, envIn, usedIt, recordRule, walk}
+use Rattle.laws.specs.LookLaws.{looksIt, looksRecord, looksWalk}
 
 -- a used record, a record, and a list of them
 unfoldable pub usedFault : ℕ → Region → List ℕ → ℕ → ℕ → ℕ
@@ -25,3 +26,17 @@ listFrom k heap t step pos a n = walk (layoutOf k) (validIn t) (counts t) heap t
 -- the list whose entry in the control record stands at c
 unfoldable pub listFault : ℕ → Region → List ℕ → ℕ → Answer
 listFault k heap t c = listFrom k heap t (num t (c + 4) 2) 1 (num t c 4) (getD t (c + 7) 0)
+
+-- ---- how many looks they take
+
+unfoldable pub usedLooks : ℕ → Region → List ℕ → ℕ → ℕ → ℕ
+usedLooks k heap t a pos = looksIt (layoutOf k) (validIn t) heap (envIn t pos) t a
+
+unfoldable pub recordLooks : ℕ → Region → List ℕ → ℕ → ℕ → ℕ
+recordLooks k heap t a pos = looksRecord (layoutOf k) (validIn t) heap (envIn t pos) t a
+
+unfoldable pub fromLooks : ℕ → Region → List ℕ → ℕ → ℕ → ℕ → ℕ → ℕ
+fromLooks k heap t step pos a n = looksWalk (layoutOf k) (validIn t) (counts t) heap t step pos a n
+
+unfoldable pub listLooks : ℕ → Region → List ℕ → ℕ → ℕ
+listLooks k heap t c = fromLooks k heap t (num t (c + 4) 2) 1 (num t c 4) (getD t (c + 7) 0)

@@ -1,5 +1,8 @@
 // Records: their fields, their references in a loop over the kind's table of offsets, their indexes; and lists, walked by their stated record length.
-use table::Answer;
+use reader_indexes::behind;
+use reader_indexes::names::names_fault;
+use table::Found;
+use table::Looked;
 ghost use mathlib.Core.Path.{_≡_};
 ghost use Prim.Native.Nat.{_+_, _*_, _≤_, _<_};
 ghost use lib.ListN.{length};
@@ -8,7 +11,7 @@ ghost use Rattle.table.specs.FixedLayouts.{layoutOf};
 ghost use Rattle.reader_frame.specs.Bounds.{ListIn, LaidOut};
 ghost use Rattle.reader_rules.specs.Rules.{IsHeap};
 ghost use Rattle.reader_indexes.specs.Indexes.{refsFault};
-ghost use Rattle.reader_lists.specs.Lists.{usedFault, recordFault, listFrom, listFault};
+ghost use Rattle.reader_lists.specs.Lists.{usedFault, recordFault, listFrom, listFault, usedLooks, recordLooks, fromLooks, listLooks};
 
 // The first fault of a record's references, by ascending field offset.
 pub fn refs_fault(t: &[u8], kind: u8, a: usize, position: usize, heap: &[u8], from: usize) -> u8
@@ -29,30 +32,46 @@ pub fn refs_fault(t: &[u8], kind: u8, a: usize, position: usize, heap: &[u8], fr
     0
 }
 
-// A valid record, host or one of a list: 10, then 11 and 12 by reference, then 13.
-pub fn used_fault(t: &[u8], kind: u8, a: usize, position: usize, heap: &[u8], from: usize) -> u8
+// A valid record, host or one of a list: 10, then 11, 12, 18 and 20 by reference, then 13. It is looked at once, and its indexes behind all else.
+pub fn used_fault(t: &[u8], kind: u8, a: usize, position: usize, heap: &[u8], from: usize) -> Found
     requires { ⌜ LaidOut (now t) × (2 ≤ kind) × (kind ≤ 6) × (a + baseOf (layoutOf kind) ≤ length (now t)) × IsHeap (now t) (now heap) from ⌝ }
-    ensures { λ r. ⌜ r ≡ usedFault kind (region from (length (now (heap .entry)))) (now (t .entry)) a position ⌝ }
+    ensures { λ r. ⌜ (r .number ≡ usedFault kind (region from (length (now (heap .entry)))) (now (t .entry)) a position) × (r .looks ≡ usedLooks kind (region from (length (now (heap .entry)))) (now (t .entry)) a position) × (r .looks ≤ 8589934596) ⌝ }
 {
     let wrong = reader_rules::own_fields::right_fault(t, kind, a, position);
     if wrong != 0 {
-        return wrong;
+        return Found {
+            number: wrong,
+            looks: 1,
+        };
     }
     let fault = refs_fault(t, kind, a, position, heap, from);
     if fault != 0 {
-        return fault;
+        return Found {
+            number: fault,
+            looks: 1,
+        };
     }
-    reader_indexes::names::names_fault(t, kind, a, position, heap, from)
+    behind(1, names_fault(t, kind, a, position, heap, from))
 }
 
-// A record of a list: where it is unused, nothing else in it is looked at.
-pub fn record_fault(t: &[u8], kind: u8, a: usize, position: usize, heap: &[u8], from: usize) -> u8
+// A record of a list: where it is unused, nothing else in it is read.
+pub fn record_fault(
+    t: &[u8],
+    kind: u8,
+    a: usize,
+    position: usize,
+    heap: &[u8],
+    from: usize,
+) -> Found
     requires { ⌜ LaidOut (now t) × (2 ≤ kind) × (kind ≤ 6) × (a + baseOf (layoutOf kind) ≤ length (now t)) × IsHeap (now t) (now heap) from ⌝ }
-    ensures { λ r. ⌜ r ≡ recordFault kind (region from (length (now (heap .entry)))) (now (t .entry)) a position ⌝ }
+    ensures { λ r. ⌜ (r .number ≡ recordFault kind (region from (length (now (heap .entry)))) (now (t .entry)) a position) × (r .looks ≡ recordLooks kind (region from (length (now (heap .entry)))) (now (t .entry)) a position) × (r .looks ≤ 8589934596) ⌝ }
 {
     let flag = layout_kinds::flags_at(kind);
     if t[a + flag] % 2 != 1 {
-        return 0;
+        return Found {
+            number: 0,
+            looks: 1, // unused positions are looked at too
+        };
     }
     used_fault(t, kind, a, position, heap, from)
 }
@@ -66,29 +85,37 @@ fn list_from(
     count: usize,
     heap: &[u8],
     from: usize,
-) -> Answer
+) -> Looked
     requires { ⌜ LaidOut (now t) × (2 ≤ kind) × (kind ≤ 6) × IsHeap (now t) (now heap) from ⌝ }
     requires { ⌜ (0 < count → at + count * step ≤ length (now t)) × (0 < count → baseOf (layoutOf kind) ≤ step) × (count < 256) × (at < 4294967296) ⌝ }
-    ensures { λ r. ⌜ r ≡ listFrom kind (region from (length (now (heap .entry)))) (now (t .entry)) step 1 at count ⌝ }
+    ensures { λ r. ⌜ (r .answer ≡ listFrom kind (region from (length (now (heap .entry)))) (now (t .entry)) step 1 at count) × (r .looks ≡ fromLooks kind (region from (length (now (heap .entry)))) (now (t .entry)) step 1 at count) × (r .looks ≤ 2199023255552) ⌝ }
 {
     let mut base = at;
+    let mut looks: usize = 0;
     let mut i: usize = 0;
     while i < count {
-        let fault = record_fault(t, kind, base, i + 1, heap, from);
-        if fault != 0 {
-            return table::refuse(fault, kind, i + 1);
+        let found = record_fault(t, kind, base, i + 1, heap, from);
+        looks += found.looks;
+        if found.number != 0 {
+            return Looked {
+                answer: table::refuse(found.number, kind, i + 1),
+                looks: looks,
+            };
         }
         base += step;
         i += 1;
     }
-    table::done()
+    Looked {
+        answer: table::done(),
+        looks: looks,
+    }
 }
 
 // The list whose entry in the control record stands at c.
-pub fn list_fault(t: &[u8], kind: u8, c: usize, heap: &[u8], from: usize) -> Answer
+pub fn list_fault(t: &[u8], kind: u8, c: usize, heap: &[u8], from: usize) -> Looked
     requires { ⌜ LaidOut (now t) × (2 ≤ kind) × (kind ≤ 6) × IsHeap (now t) (now heap) from ⌝ }
     requires { ⌜ (c + 8 ≤ length (now t)) × ListIn (now t) c (baseOf (layoutOf kind)) ⌝ }
-    ensures { λ r. ⌜ r ≡ listFault kind (region from (length (now (heap .entry)))) (now (t .entry)) c ⌝ }
+    ensures { λ r. ⌜ (r .answer ≡ listFault kind (region from (length (now (heap .entry)))) (now (t .entry)) c) × (r .looks ≡ listLooks kind (region from (length (now (heap .entry)))) (now (t .entry)) c) × (r .looks ≤ 2199023255552) ⌝ }
 {
     list_from(
         t,

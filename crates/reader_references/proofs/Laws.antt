@@ -5,7 +5,7 @@ use mathlib.Core.List.{List, [], _∷_}
 use Prim.Native.Nat.{ℕ, _+_, _-_, _≤_, _<_}
 use native.Mathlib.Omega.{arith}
 use lib.ListN.{length, length-take, length-drop}
-use lib.Dec.{T, eqb, leb, leb→le}
+use lib.Dec.{T, eqb, leb, leb→le, leb·zero}
 use mir.Facts.{and-yes, eqb-no}
 use borrow.Author.Tests.{ne-eqb, le-leb, lt-leb}
 use Rattle.table.specs.declared.Region.{Region}
@@ -18,7 +18,7 @@ use Rattle.table.specs.Rules.{firstOf, reaches, refRule}
 use Rattle.laws.specs.RefWalk.{first-zero}
 use Rattle.reader_references.specs.declared.Ref.{Ref}
 use Rattle.reader_references.specs.declared.Ref.the-variants.{Absent, Wrong, Part}
-use Rattle.reader_references.specs.References.{refOf, refNumber, partIn, textRule, objectRule}
+use Rattle.reader_references.specs.References.{refOf, refNumber, partIn, askedRule, textRule, objectRule, positionsRule}
 
 -- a reference's number is the rule's
 pub ref-rule : (heap : Region) (n : Need) (off len : ℕ) → refNumber n (refOf heap off len) ≡ refRule heap n off len
@@ -145,43 +145,58 @@ module _ (n m : Need) (c b : Bool) (heap : List ℕ) (from : ℕ) (r : Region) (
   pub as-bytes : c ≡ false → x ≡ refRule (region from (length heap)) n (r .at) (r .len) → x ≡ objectRule m b heap from r
   as-bytes e q = q ∙ plain-object n heap from r ∙ ap₂ (λ (k : Need) (d : Bool). objectRule k d heap from r) en (sym e ∙ ec)
 
-text-some : (bs : List ℕ) (c : Bool) → (length bs ≡ 0 → ⊥) → isText bs ≡ c → pick c 0 18 ≡ textRule bs
-text-some [] c n e = absurd (n refl)
-text-some (b ∷ bs) c n e = ap (λ (d : Bool). pick {X = ℕ} d 0 18) (sym e)
-
--- a text that is not there has the number of its reference
-module _ (n : Need) (heap : List ℕ) (from : ℕ) (r : Region) where
+-- one that is not there has the number of its reference: nothing is asked of no bytes
+module _ (n : Need) (asks : List ℕ → ℕ) (free : asks [] ≡ 0) (heap : List ℕ) (from : ℕ) (r : Region) where
   abbrev here : Region
   here = region from (length heap)
 
-  text-by : (x : ℕ) → refRule here n (r .at) (r .len) ≡ x → (b : List ℕ) → partIn heap from (r .at) (r .len) ≡ b → objectRule n true heap from r ≡ firstOf x (under n 0 (textRule b))
-  unfolding objectRule
-  text-by x e b f = ap₂ (λ (y : ℕ) (c : List ℕ). firstOf y (under n 0 (textRule c))) e f
+  asked-by : (x : ℕ) → refRule here n (r .at) (r .len) ≡ x → (b : List ℕ) → partIn heap from (r .at) (r .len) ≡ b → askedRule n asks heap from r ≡ firstOf x (under n 0 (asks b))
+  asked-by x e b f = ap₂ (λ (y : ℕ) (c : List ℕ). firstOf y (under n 0 (asks c))) e f
 
-  pub text-nowhere : (x : Ref) → x ≡ refOf here (r .at) (r .len) → reaches here (r .at) (r .len) ≡ false → refNumber n x ≡ objectRule n true heap from r
-  text-nowhere x e f =
-      sym (text-by (refNumber n x) (sym (ref-rule here n (r .at) (r .len)) ∙ ap (refNumber n) (sym e)) [] (sym (part-no heap from (r .at) (r .len) f)) ∙ go n)
+  pub asked-nowhere : (x : Ref) → x ≡ refOf here (r .at) (r .len) → reaches here (r .at) (r .len) ≡ false → refNumber n x ≡ askedRule n asks heap from r
+  asked-nowhere x e f =
+      sym (asked-by (refNumber n x) (sym (ref-rule here n (r .at) (r .len)) ∙ ap (refNumber n) (sym e)) [] (sym (part-no heap from (r .at) (r .len) f))
+      ∙ ap (λ (m : ℕ). firstOf (refNumber n x) (under n 0 m)) free ∙ go n)
     where
-      go : (m : Need) → firstOf (refNumber n x) (under m 0 (textRule [])) ≡ refNumber n x
+      go : (m : Need) → firstOf (refNumber n x) (under m 0 0) ≡ refNumber n x
       go Ignored = first-zero (refNumber n x)
       go Optional = first-zero (refNumber n x)
       go Required = first-zero (refNumber n x)
 
-  -- one that is there has its own: the bytes b are those that it names
-  pub text-there : (at len : ℕ) → refOf here (r .at) (r .len) ≡ Part at len → _≡_ {A = ℕ} (under n 0 1) 1 → pick (isText (part heap (at - from) len)) 0 18 ≡ objectRule n true heap from r
+  -- one that is there has its own
+  pub asked-there : (at len : ℕ) → refOf here (r .at) (r .len) ≡ Part at len → _≡_ {A = ℕ} (under n 0 1) 1 → asks (part heap (at - from) len) ≡ askedRule n asks heap from r
   unfolding refNumber
-  text-there at len e k =
+  asked-there at len e k =
       let f = ref-part here (r .at) (r .len) at len e in
       let b : List ℕ = part heap (r .at - from) (r .len) in
-      let some : length b ≡ 0 → ⊥ = λ z. absurd (omega (arith, reached from (length heap) (r .at) (r .len) (f .0), long (reached from (length heap) (r .at) (r .len) (f .0)), z)) in
-      ap₂ (λ (i j : ℕ). pick {X = ℕ} (isText (part heap (i - from) j)) 0 18) (f .1) (f .2)
-      ∙ text-some b (isText b) some refl
-      ∙ sym (text-by (refNumber n (Part at len)) (sym (ref-rule here n (r .at) (r .len)) ∙ ap (refNumber n) e) b (sym (part-yes heap from (r .at) (r .len) (f .0))) ∙ go n k)
+      ap₂ (λ (i j : ℕ). asks (part heap (i - from) j)) (f .1) (f .2)
+      ∙ sym (asked-by (refNumber n (Part at len)) (sym (ref-rule here n (r .at) (r .len)) ∙ ap (refNumber n) e) b (sym (part-yes heap from (r .at) (r .len) (f .0))) ∙ go n k)
     where
-      long : Inside from (length heap) (r .at) (r .len) → length (part heap (r .at - from) (r .len)) ≡ r .len
-      long i = simp (length-take, length-drop) (omega (arith, i))
-
-      go : (m : Need) → _≡_ {A = ℕ} (under m 0 1) 1 → firstOf (refNumber m (Part at len)) (under m 0 (textRule (part heap (r .at - from) (r .len)))) ≡ textRule (part heap (r .at - from) (r .len))
+      go : (m : Need) → _≡_ {A = ℕ} (under m 0 1) 1 → firstOf (refNumber m (Part at len)) (under m 0 (asks (part heap (r .at - from) (r .len)))) ≡ asks (part heap (r .at - from) (r .len))
       go Ignored q = absurd (omega (arith, q))
       go Optional q = refl
       go Required q = refl
+
+text-some : (bs : List ℕ) (c : Bool) → (length bs ≡ 0 → ⊥) → isText bs ≡ c → pick c 0 18 ≡ textRule bs
+text-some [] c n e = absurd (n refl)
+text-some (b ∷ bs) c n e = ap (λ (d : Bool). pick {X = ℕ} d 0 18) (sym e)
+
+module _ (n : Need) (heap : List ℕ) (from : ℕ) (r : Region) where
+  pub text-nowhere : (x : Ref) → x ≡ refOf (region from (length heap)) (r .at) (r .len) → reaches (region from (length heap)) (r .at) (r .len) ≡ false
+      → refNumber n x ≡ objectRule n true heap from r
+  unfolding objectRule
+  text-nowhere = asked-nowhere n textRule refl heap from r
+
+  pub text-there : (at len : ℕ) → refOf (region from (length heap)) (r .at) (r .len) ≡ Part at len → _≡_ {A = ℕ} (under n 0 1) 1
+      → pick (isText (part heap (at - from) len)) 0 18 ≡ objectRule n true heap from r
+  unfolding objectRule
+  text-there at len e k =
+      let i = part-inside from (length heap) (r .at) (r .len) at len e in
+      let b : List ℕ = part heap (at - from) len in
+      let long : length b ≡ len = simp (length-take, length-drop) (omega (arith, i)) in
+      text-some b (isText b) (λ z. absurd (omega (arith, i, long, z))) refl
+      ∙ asked-there n textRule refl heap from r at len e k
+
+-- nothing is asked of a list that is not there
+pub positions-free : (most : ℕ) → positionsRule most [] ≡ 0
+positions-free most = rw (leb·zero most)

@@ -1,4 +1,5 @@
 // A reference: offset and length of an object, which must lie in the heap. The heap is the bytes from `from` on, `n` of them.
+use bytes_positions::are_positions;
 use bytes_text::is_text;
 use table::Need;
 ghost use mathlib.Core.Path.{_≡_};
@@ -8,7 +9,7 @@ ghost use lib.ListN.{length};
 ghost use Rattle.table.specs.Bytes.{pick, part};
 ghost use Rattle.table.specs.Layout.{isText, region, referenceAt};
 ghost use Rattle.table.specs.Rules.{refRule};
-ghost use Rattle.reader_references.specs.References.{refOf, refNumber, partIn, objectRule};
+ghost use Rattle.reader_references.specs.References.{refOf, refNumber, partIn, askedRule, objectRule, positionsRule};
 
 // What a reference names.
 pub enum Ref {
@@ -150,5 +151,30 @@ pub fn text_fault(t: &[u8], r: usize, need: Need, heap: &[u8], from: usize) -> u
         Need::Ignored => 0,
         Need::Optional => optional_text(t, r, heap, from),
         Need::Required => required_text(t, r, heap, from),
+    }
+}
+
+// 0 or 20 by the bytes of the heap from `start` on: positions, of which there are `most`.
+fn positions_number(heap: &[u8], start: usize, len: usize, most: usize) -> u8
+    requires { ⌜ start + len ≤ length (now heap) ⌝ }
+    ensures { λ r. ⌜ r ≡ positionsRule most (part (now (heap .entry)) start len) ⌝ }
+{
+    let end = start + len;
+    if are_positions(&heap[start..end], most) {
+        return 0;
+    }
+    20
+}
+
+// The reference at `r` to a list of positions, which need not be there: 11 by the reference, then 20 by the bytes.
+pub fn positions_fault(t: &[u8], r: usize, most: usize, heap: &[u8], from: usize) -> u8
+    requires { ⌜ (r + 6 ≤ length (now t)) × (from + length (now heap) < 8589934592) ⌝ }
+    ensures { λ x. ⌜ x ≡ askedRule Need.Optional (positionsRule most) (now (heap .entry)) from (referenceAt (now (t .entry)) r) ⌝ }
+{
+    let x = ref_at(t, r, from, heap.len());
+    match x {
+        Ref::Absent => 0,
+        Ref::Wrong => 11,
+        Ref::Part { at, len } => positions_number(heap, at - from, len, most),
     }
 }

@@ -6,14 +6,14 @@ use Prim.Native.Nat.{ℕ, zero, suc, _+_, _-_, _/_, _%_, _≤_, _<_}
 use native.Mathlib.Omega.{arith}
 use lib.ListN.{length, getD, drop, length-take, length-drop}
 use lib.Seq.{getD-drop, getD-take}
-use lib.Dec.{T, eqb, eqb→eq}
+use lib.Dec.{T, eqb, eqb→eq, leb·zero}
 use mir.Facts.{and-yes}
 use borrow.Author.Tests.{ne-eqb, eqb-true}
 use Rattle.table.specs.declared.Region.{Region}
 use Rattle.table.specs.declared.Need.{Need}
 use Rattle.table.specs.declared.Need.the-variants.{Ignored, Optional, Required}
 use Rattle.table.specs.Bytes.{pick, part, num}
-use Rattle.table.specs.Layout.{region, referenceAt, namedAt, image, isRight, offsets, Content, anything, text, Env, Refs, none, plain, nest, Shape}
+use Rattle.table.specs.Layout.{region, referenceAt, namedAt, image, isRight, offsets, Content, anything, text, positions, Env, Refs, none, plain, nest, Shape}
 use Rattle.table.specs.Objects.{under}
 use Rattle.table.specs.FixedLayouts.{layoutOf, header, control, host, hfi, ssns, security, discovery, info, extended, hfiExtended, whenIs}
 use Rattle.table.specs.Rules.{firstOf, nestRule, reaches, refRule, refsRule, ruled}
@@ -21,11 +21,12 @@ use Rattle.table.specs.Reads.{contentAt, needAt}
 use Rattle.laws.specs.Fields.{Bytes, imageIn, image-part, part-part, whole}
 use Rattle.laws.specs.RefWalk.{firstOver, ruleAt, nestAt, plain-at, plainBy, allPlain, partOk, soundRule, reference-part, own-refs, plain-refs, nest-required, nest-optional}
 use Rattle.laws.specs.ListWalk.{envIn}
+use Rattle.laws.specs.LookLaws.{hfi-count}
 pub use Rattle.reader_references.proofs.Laws.{Inside, reached}
 use Rattle.reader_rules.specs.Rules.{IsHeap, refFault}
-use Rattle.reader_references.specs.References.{partIn, textRule, objectRule}
+use Rattle.reader_references.specs.References.{partIn, askedRule, textRule, objectRule, positionsRule}
 use Rattle.layout_fields.specs.Texts.{isOfText}
-use Rattle.layout_fields.proofs.Laws.{no-text}
+use Rattle.layout_fields.proofs.Laws.{no-text, no-list, isUnlisted, allUnlisted}
 use Rattle.reader_heap_records.specs.HeapRecords.{spot, objectIn, flatPart, identityBy, identityFault, infoFault, infoFaults, infoPart}
 use Rattle.layout_needs.specs.Needs.{ssnsNeed, plainNeed}
 use Rattle.layout_needs.proofs.Laws.{ssns-need, info-need}
@@ -48,41 +49,51 @@ module _ (t heap : List ℕ) (from : ℕ) (h : IsHeap t heap from) where
       ∙ part-part t from (length heap) (off - from) len (omega arith)
       ∙ ap (λ (m : ℕ). part t m len) a
 
-  -- what is asked of an object in the lent heap is what is asked of it in the table
-  pub object-is : (e : Env) (n : Need) (content : Content) (r : Region)
-      → objectRule n (isOfText content) heap from r ≡ plainBy (region from (length heap)) n content e r (part t (r .at) (r .len))
-  unfolding objectRule partIn
-  object-is e n anything r = ap (λ (m : ℕ). firstOf (refRule (region from (length heap)) n (r .at) (r .len)) m) (zero-under n (part t (r .at) (r .len)))
+  -- what is asked of an object in the lent heap is what is asked of it in the table: `asks` is the rule of its content
+  asked-is : (e : Env) (n : Need) (content : Content) (asks : List ℕ → ℕ) → ((b : List ℕ) → asks b ≡ ruled content e b) → (r : Region)
+      → askedRule n asks heap from r ≡ plainBy (region from (length heap)) n content e r (part t (r .at) (r .len))
+  unfolding partIn
+  asked-is e n content asks same r = go n (eqb (r .at) 0 && eqb (r .len) 0) (reaches (region from (length heap)) (r .at) (r .len)) refl refl
     where
-      none-ruled : (b : List ℕ) → 0 ≡ ruled anything e b
-      none-ruled [] = refl
-      none-ruled (b ∷ bs) = refl
+      there : reaches (region from (length heap)) (r .at) (r .len) ≡ true → asks (part heap (r .at - from) (r .len)) ≡ ruled content e (part t (r .at) (r .len))
+      there z = ap asks (object-part (r .at) (r .len) z) ∙ same (part t (r .at) (r .len))
 
-      zero-under : (n : Need) (b : List ℕ) → under n 0 0 ≡ under n 0 (ruled anything e b)
-      zero-under Ignored b = refl
-      zero-under Optional b = none-ruled b
-      zero-under Required b = none-ruled b
-  object-is e n text r = go n (eqb (r .at) 0 && eqb (r .len) 0) (reaches (region from (length heap)) (r .at) (r .len)) refl refl
-    where
-      same-rule : (b : List ℕ) → textRule b ≡ ruled text e b
-      same-rule [] = refl
-      same-rule (b ∷ bs) = refl
-
-      there : reaches (region from (length heap)) (r .at) (r .len) ≡ true → textRule (part heap (r .at - from) (r .len)) ≡ ruled text e (part t (r .at) (r .len))
-      there z = ap textRule (object-part (r .at) (r .len) z) ∙ same-rule (part t (r .at) (r .len))
-
-      absent : (eqb (r .at) 0 && eqb (r .len) 0) ≡ true → 0 ≡ ruled text e (part t (r .at) (r .len))
-      absent z = let u = and-yes (eqb (r .at) 0) (eqb (r .len) 0) (rw z tt) in sym (ap (λ (l : ℕ). ruled text e (part t (r .at) l)) (eqb→eq (r .len) 0 (u .1)))
+      absent : (eqb (r .at) 0 && eqb (r .len) 0) ≡ true → asks [] ≡ ruled content e (part t (r .at) (r .len))
+      absent z =
+          let u = and-yes (eqb (r .at) 0) (eqb (r .len) 0) (rw z tt) in
+          same [] ∙ sym (ap (λ (l : ℕ). ruled content e (part t (r .at) l)) (eqb→eq (r .len) 0 (u .1)))
 
       go : (n : Need) (c d : Bool) → (eqb (r .at) 0 && eqb (r .len) 0) ≡ c → reaches (region from (length heap)) (r .at) (r .len) ≡ d
-          → firstOf (refRule (region from (length heap)) n (r .at) (r .len)) (under n 0 (textRule (pick d (part heap (r .at - from) (r .len)) [])))
-          ≡ firstOf (refRule (region from (length heap)) n (r .at) (r .len)) (under n 0 (ruled text e (part t (r .at) (r .len))))
+          → firstOf (refRule (region from (length heap)) n (r .at) (r .len)) (under n 0 (asks (pick d (part heap (r .at - from) (r .len)) [])))
+          ≡ firstOf (refRule (region from (length heap)) n (r .at) (r .len)) (under n 0 (ruled content e (part t (r .at) (r .len))))
       go Ignored c d x y = refl
       go Optional c true x y = ap (λ (m : ℕ). firstOf (refRule (region from (length heap)) Optional (r .at) (r .len)) m) (there y)
       go Optional true false x y = ap (λ (m : ℕ). firstOf (refRule (region from (length heap)) Optional (r .at) (r .len)) m) (absent x)
       go Optional false false x y = rw (x, y) refl
       go Required c true x y = ap (λ (m : ℕ). firstOf (refRule (region from (length heap)) Required (r .at) (r .len)) m) (there y)
       go Required c false x y = rw y refl
+
+  -- text and any bytes, by their own bytes alone
+  pub object-is : (e : Env) (n : Need) (content : Content) → T (isUnlisted content) → (r : Region)
+      → objectRule n (isOfText content) heap from r ≡ plainBy (region from (length heap)) n content e r (part t (r .at) (r .len))
+  unfolding objectRule
+  object-is e n anything u r = asked-is e n anything (λ b. 0) none r where
+    none : (b : List ℕ) → 0 ≡ ruled anything e b
+    none [] = refl
+    none (b ∷ bs) = refl
+  object-is e n text u r = asked-is e n text textRule same r where
+    same : (b : List ℕ) → textRule b ≡ ruled text e b
+    same [] = refl
+    same (b ∷ bs) = refl
+  object-is e n positions u r = absurd u
+
+  -- positions, by the number of HFIs
+  pub positions-are : (e : Env) (n : Need) (r : Region)
+      → askedRule n (positionsRule (e .count 3)) heap from r ≡ plainBy (region from (length heap)) n positions e r (part t (r .at) (r .len))
+  positions-are e n r = asked-is e n positions (positionsRule (e .count 3)) same r where
+    same : (b : List ℕ) → positionsRule (e .count 3) b ≡ ruled positions e b
+    same [] = rw (leb·zero (e .count 3))
+    same (b ∷ bs) = refl
 
 -- where counts do not matter
 spot-sound : (t : List ℕ) (pos : ℕ) (shape : Shape) (owner x : List ℕ) (inner : ℕ) → soundRule (envIn t pos) shape owner x inner ≡ soundRule (spot pos) shape owner x inner
@@ -165,7 +176,8 @@ abbrev bytesOf : List ℕ → List ℕ → ℕ → ℕ → List ℕ
 bytesOf t heap from r = partIn heap from (referenceAt t r .at) (referenceAt t r .len)
 
 -- one that names objects alone, by its own bytes
-module _ (t heap : List ℕ) (from pos : ℕ) (h : IsHeap t heap from) (shape : Shape) (rs : Refs) (k : T (partOk shape rs)) (o : T (allPlain rs)) (r : ℕ) where
+module _ (t heap : List ℕ) (from pos : ℕ) (h : IsHeap t heap from) (shape : Shape) (rs : Refs) (k : T (partOk shape rs)) (o : T (allPlain rs)) (u : T (allUnlisted rs))
+    (r : ℕ) where
   abbrev at : ℕ
   at = referenceAt t r .at
 
@@ -181,7 +193,7 @@ module _ (t heap : List ℕ) (from pos : ℕ) (h : IsHeap t heap from) (shape : 
       let x = part t at size in
       let img = image (shape .keep) x in
       ap own (object-part t heap from h at size e)
-      ∙ over-each (λ q. object-is t heap from h (envIn t pos) (needAt q rs img) (contentAt q rs) (referenceAt x q)) (offsets rs)
+      ∙ over-each (λ q. object-is t heap from h (envIn t pos) (needAt q rs img) (contentAt q rs) (no-list rs u q) (referenceAt x q)) (offsets rs)
       ∙ plain-refs (region from (length heap)) (envIn t pos) shape rs t k o at size l
 
 identity-optional : (t heap : List ℕ) (from pos : ℕ) (h : IsHeap t heap from) (owner : List ℕ) (r : ℕ)
@@ -193,7 +205,7 @@ identity-optional : (t heap : List ℕ) (from pos : ℕ) (h : IsHeap t heap from
 unfolding flatPart partIn hfiExtended
 identity-optional t heap from pos h owner r =
     nested-optional t heap from pos h (hfiExtended .shape) (hfiExtended .refs) tt owner r _
-    (λ e l. rw e (plain-inner t heap from pos h (hfiExtended .shape) (hfiExtended .refs) tt tt r e l))
+    (λ e l. rw e (plain-inner t heap from pos h (hfiExtended .shape) (hfiExtended .refs) tt tt tt r e l))
 
 -- the rule of an info's reference to its extended info, and of those to objects
 at-identity : (heap : Region) (t : List ℕ) (a pos : ℕ) (img : List ℕ) (q : ℕ) → eqb q 110 ≡ true
@@ -208,7 +220,7 @@ at-object : (t heap : List ℕ) (from : ℕ) (h : IsHeap t heap from) (a pos : �
 unfolding info
 at-object t heap from h a pos img q e =
     ap (λ (n : Need). objectRule n (isOfText (contentAt q (info .refs))) heap from (referenceAt t (a + q))) (info-need img q e)
-    ∙ object-is t heap from h (envIn t pos) (needAt q (info .refs) img) (contentAt q (info .refs)) (referenceAt t (a + q))
+    ∙ object-is t heap from h (envIn t pos) (needAt q (info .refs) img) (contentAt q (info .refs)) (no-list (info .refs) tt q) (referenceAt t (a + q))
     ∙ sym (plain-at (region from (length heap)) (envIn t pos) t a img (info .refs) q (rw e tt))
 
 -- ---- an info's references, by its own bytes
@@ -299,13 +311,22 @@ module _ (t heap : List ℕ) (from a pos : ℕ) (h : IsHeap t heap from) where
   extended-yes f e =
       rw f
       (nested-yes t heap from pos h (extended .shape) (extended .refs) tt (imageIn ssns t a) (a + 60) _
-      (plain-inner t heap from pos h (extended .shape) (extended .refs) tt tt (a + 60)) e)
+      (plain-inner t heap from pos h (extended .shape) (extended .refs) tt tt tt (a + 60)) e)
 
 -- ---- plain references
 
 pub hfi-other : (heap : Region) (t : List ℕ) (a pos q : ℕ) → eqb q 16 ≡ false → 0 ≡ refFault 3 heap t a pos q
 unfolding refFault layoutOf ruleAt hfi
 hfi-other heap t a pos q e = rw e
+
+-- the list of SSNS 48
+pub ssns-list : (t heap : List ℕ) (from a pos : ℕ) (h : IsHeap t heap from)
+    → askedRule Optional (positionsRule (getD t 87 0)) heap from (referenceAt t (a + 48)) ≡ refFault 4 (region from (length heap)) t a pos 48
+unfolding refFault layoutOf ssns
+ssns-list t heap from a pos h =
+    ap (λ (n : ℕ). askedRule Optional (positionsRule n) heap from (referenceAt t (a + 48))) (sym (hfi-count t pos))
+    ∙ positions-are t heap from h (envIn t pos) Optional (referenceAt t (a + 48))
+    ∙ sym (plain-at (region from (length heap)) (envIn t pos) t a (imageIn ssns t a) (ssns .refs) 48 tt)
 
 -- one to an object, by its need and by what its object holds
 module _ (t heap : List ℕ) (from a pos : ℕ) (h : IsHeap t heap from) (q : ℕ) where
@@ -316,29 +337,37 @@ module _ (t heap : List ℕ) (from a pos : ℕ) (h : IsHeap t heap from) (q : �
     abbrev refs : Refs
     refs = layoutOf k .refs
 
-    plain-is : T (not (nestAt q refs)) → asked (needAt q refs (imageIn (layoutOf k) t a)) (isOfText (contentAt q refs)) ≡ refFault k (region from (length heap)) t a pos q
+    plain-is : T (not (nestAt q refs)) → T (isUnlisted (contentAt q refs)) → asked (needAt q refs (imageIn (layoutOf k) t a)) (isOfText (contentAt q refs)) ≡ refFault k (region from (length heap)) t a pos q
     unfolding refFault
-    plain-is n =
-        object-is t heap from h (envIn t pos) (needAt q refs (imageIn (layoutOf k) t a)) (contentAt q refs) (referenceAt t (a + q))
+    plain-is n u =
+        object-is t heap from h (envIn t pos) (needAt q refs (imageIn (layoutOf k) t a)) (contentAt q refs) u (referenceAt t (a + q))
         ∙ sym (plain-at (region from (length heap)) (envIn t pos) t a (imageIn (layoutOf k) t a) refs q n)
 
     -- where the need is known by another name
-    plain-by : (n : Need) → n ≡ needAt q refs (imageIn (layoutOf k) t a) → T (not (nestAt q refs)) → asked n (isOfText (contentAt q refs)) ≡ refFault k (region from (length heap)) t a pos q
-    plain-by n e m = ap (λ (x : Need). asked x (isOfText (contentAt q refs))) e ∙ plain-is m
+    plain-by : (n : Need) → n ≡ needAt q refs (imageIn (layoutOf k) t a) → T (not (nestAt q refs)) → T (isUnlisted (contentAt q refs))
+        → asked n (isOfText (contentAt q refs)) ≡ refFault k (region from (length heap)) t a pos q
+    plain-by n e m u = ap (λ (x : Need). asked x (isOfText (contentAt q refs))) e ∙ plain-is m u
 
-  pub ssns-plain : eqb q 60 ≡ false → asked (ssnsNeed (num (imageIn ssns t a) 3 2) q) (isOfText (contentAt q (layoutOf 4 .refs))) ≡ refFault 4 (region from (length heap)) t a pos q
+  pub ssns-plain : eqb q 60 ≡ false → eqb q 48 ≡ false
+      → asked (ssnsNeed (num (imageIn ssns t a) 3 2) q) (isOfText (contentAt q (layoutOf 4 .refs))) ≡ refFault 4 (region from (length heap)) t a pos q
   unfolding layoutOf ssns
-  ssns-plain e = plain-by 4 (ssnsNeed (num (imageIn ssns t a) 3 2) q) (ssns-need (imageIn ssns t a) q) (rw e tt)
+  ssns-plain e f = plain-by 4 (ssnsNeed (num (imageIn ssns t a) 3 2) q) (ssns-need (imageIn ssns t a) q) (rw e tt) (rw f (go (eqb q 10) (eqb q 16) (eqb q 54))) where
+    go : (x y z : Bool) → T (isUnlisted (pick x anything (pick y anything (pick z text anything))))
+    go true y z = tt
+    go false true z = tt
+    go false false true = tt
+    go false false false = tt
 
   pub security-plain : asked (needAt q (security .refs) (imageIn security t a)) false ≡ refFault 5 (region from (length heap)) t a pos q
   unfolding layoutOf security
-  security-plain = ap (asked (needAt q (security .refs) (imageIn security t a))) (no-text (security .refs) tt q) ∙ plain-is 5 tt
+  security-plain = ap (asked (needAt q (security .refs) (imageIn security t a))) (no-text (security .refs) tt q) ∙ plain-is 5 tt (no-list (security .refs) tt q)
 
   -- kinds all of whose objects are text: what is not theirs is ignored
   abbrev allText : Refs → Bool
   allText none = true
   allText (plain p need anything rest) = false
   allText (plain p need text rest) = allText rest
+  allText (plain p need positions rest) = false
   allText (nest p need shape own rest) = false
 
   all-text : (rs : Refs) → T (allText rs) → (img : List ℕ) → asked (needAt q rs img) true ≡ asked (needAt q rs img) (isOfText (contentAt q rs))
@@ -350,22 +379,23 @@ module _ (t heap : List ℕ) (from a pos : ℕ) (h : IsHeap t heap from) (q : �
         → asked (pick b (need img) (needAt q rest img)) true ≡ asked (pick b (need img) (needAt q rest img)) (isOfText (pick b text (contentAt q rest)))
     go true e = refl
     go false e = e
+  all-text (plain p need positions rest) c img = absurd c
   all-text (nest p need shape own rest) c img = absurd c
 
   pub host-texts : asked (plainNeed 2 q) true ≡ refFault 2 (region from (length heap)) t a pos q
   unfolding layoutOf plainNeed host
-  host-texts = all-text (host .refs) tt (imageIn host t a) ∙ plain-by 2 (plainNeed 2 q) refl tt
+  host-texts = all-text (host .refs) tt (imageIn host t a) ∙ plain-by 2 (plainNeed 2 q) refl tt (no-list (host .refs) tt q)
 
   pub discovery-texts : asked (plainNeed 6 q) true ≡ refFault 6 (region from (length heap)) t a pos q
   unfolding layoutOf plainNeed discovery
-  discovery-texts = all-text (discovery .refs) tt (imageIn discovery t a) ∙ plain-by 6 (plainNeed 6 q) refl tt
+  discovery-texts = all-text (discovery .refs) tt (imageIn discovery t a) ∙ plain-by 6 (plainNeed 6 q) refl tt (no-list (discovery .refs) tt q)
 
   -- the kinds that are left name no text
   pub plain-left : (k : ℕ) → k ≤ 6 → (k ≡ 2 → ⊥) → (k ≡ 3 → ⊥) → (k ≡ 4 → ⊥) → (k ≡ 5 → ⊥) → (k ≡ 6 → ⊥)
       → asked (plainNeed k q) false ≡ refFault k (region from (length heap)) t a pos q
   unfolding layoutOf plainNeed header control
-  plain-left zero l u x y z w = ap (asked (plainNeed 0 q)) (no-text (header .refs) tt q) ∙ plain-by 0 (plainNeed 0 q) refl tt
-  plain-left (suc zero) l u x y z w = ap (asked (plainNeed 1 q)) (no-text (control .refs) tt q) ∙ plain-by 1 (plainNeed 1 q) refl tt
+  plain-left zero l u x y z w = ap (asked (plainNeed 0 q)) (no-text (header .refs) tt q) ∙ plain-by 0 (plainNeed 0 q) refl tt (no-list (header .refs) tt q)
+  plain-left (suc zero) l u x y z w = ap (asked (plainNeed 1 q)) (no-text (control .refs) tt q) ∙ plain-by 1 (plainNeed 1 q) refl tt (no-list (control .refs) tt q)
   plain-left (suc (suc zero)) l u x y z w = absurd (u refl)
   plain-left (suc (suc (suc zero))) l u x y z w = absurd (x refl)
   plain-left (suc (suc (suc (suc zero)))) l u x y z w = absurd (y refl)

@@ -8,7 +8,7 @@ use native.Mathlib.Omega.{arith}
 use lib.ListN.{length}
 use Rattle.table.specs.declared.Place.{Place}
 use Rattle.table.specs.Bytes.{part, pick}
-use Rattle.table.specs.Layout.{Content, anything, text, Layout}
+use Rattle.table.specs.Layout.{Content, anything, text, positions, Layout}
 use Rattle.table.specs.FixedLayouts.{layoutOf}
 use Rattle.table.specs.Reads as reads
 use Rattle.table.specs.Reads.{contentAt, handed, placeAt, seat, seatOf, wholeAt}
@@ -27,6 +27,7 @@ shortened w m = record { answer = w .answer; present = w .present; at = w .at; l
 
 by-content : (c : Content) (w : Place) → handed c w ≡ shortened w (pick (isOfText c) (w .len - 1) (w .len))
 by-content anything w = refl
+by-content positions w = refl
 by-content text w = refl
 
 module _ (t : List ℕ) (ok : Accepted t) (k n q : ℕ) where

@@ -1,11 +1,11 @@
--- Rules 9 (docs/RULES.md): K1 to K10, K12, K13 and further tables, shown of rules, meaning and the one form by one statement over one list; then reads,
--- rewrites, closings and a short build. Assumes nothing.
+-- Rules 9 (docs/RULES.md): K1 to K10, K12, K13 and further tables, shown of rules, meaning and the one form by one statement over one list; then looks at records,
+-- reads, rewrites, closings and a short build. Assumes nothing.
 use mathlib.Core.Bool.{true}
 use mathlib.Core.List.{List, [], _∷_, _++_}
 use Prim.Native.Nat.{ℕ}
-use lib.ListN.{take, drop, replicate}
+use lib.ListN.{length, take, drop, replicate}
 use lib.Dec.{T}
-use Rattle.table.specs.Bytes.{checksum, splice, Edit, edit, apply}
+use Rattle.table.specs.Bytes.{every, checksum, splice, Edit, edit, apply}
 use Rattle.table.specs.Builder.{empty}
 use Rattle.table.proofs.Cases.{
   Case,
@@ -14,6 +14,11 @@ use Rattle.table.proofs.Cases.{
   sheet,
   fine,
   allFine,
+  Look,
+  look,
+  looked,
+  allLooked,
+  reachesMost,
   ReadCase,
   whole,
   field,
@@ -333,6 +338,69 @@ samples-fine = tt
 pub texts-fine : T (allFine texts)
 unfolding fine
 texts-fine = tt
+
+-- ---- looks at records, and 20
+
+-- all kinds with these bytes, at most five, as secondary list: they take the place of the security record's objects, which may be any bytes
+abbrev listing : List ℕ → List Edit → List ℕ
+listing b es = fullWith (edit 272 (0x61 ∷ 2 ∷ 0 ∷ 0 ∷ length b ∷ 0 ∷ []) ∷ edit 609 b ∷ es)
+
+-- HFI 1 is used too. Its info starts 16 bytes behind that of HFI 2 and lies over it, so that the table gets no longer
+abbrev both : List Edit
+both = edit 160 (3 ∷ 1 ∷ 1 ∷ 3 ∷ []) ∷ edit 176 (0xD4 ∷ 1 ∷ 0 ∷ 0 ∷ 0x80 ∷ []) ∷ edit 468 (7 ∷ 1 ∷ 3 ∷ 1 ∷ 1 ∷ 0 ∷ 1 ∷ []) ∷ []
+
+-- three HFIs, all unused, in the place of security and discovery record
+abbrev three : List Edit
+three = edit 80 (0x60 ∷ 1 ∷ 0 ∷ 0 ∷ 0x20 ∷ 0 ∷ 1 ∷ 3 ∷ []) ∷ edit 103 (0 ∷ []) ∷ edit 111 (0 ∷ []) ∷ edit 352 (replicate 96 0) ∷ []
+
+-- with as many looks as the bound of their counts: K1, which has no lists; two HFIs, both in the secondary list
+abbrev reaching : List Look
+reaching = look 0 0 0 1 k1 ∷ look 0 0 0 13 (listing (2 ∷ 1 ∷ []) both) ∷ []
+
+-- Secondary lists, in order: as many indexes as HFIs, the second unused; one too many, for two HFIs and for none; an index twice, at once and behind another; twice and
+-- unused, with a wrong index before it; twice before an absent NQN, and behind an absent service; two zero bytes before the heap, which is 11
+abbrev secondaries : List Look
+secondaries =
+    look 13 4 1 9 (listing (2 ∷ 1 ∷ []) [])
+    ∷ look 20 4 1 4 (listing (2 ∷ 1 ∷ 3 ∷ []) both)
+    ∷ look 20 4 1 2 (fullWith (edit 87 (0 ∷ []) ∷ []))
+    ∷ look 20 4 1 4 (listing (2 ∷ 2 ∷ []) [])
+    ∷ look 20 4 1 5 (listing (2 ∷ 1 ∷ 2 ∷ []) three)
+    ∷ look 20 4 1 4 (listing (1 ∷ 1 ∷ []) (edit 232 (2 ∷ []) ∷ []))
+    ∷ look 20 4 1 4 (listing (2 ∷ 2 ∷ []) (edit 282 (0 ∷ []) ∷ []))
+    ∷ look 11 4 1 4 (listing (2 ∷ 2 ∷ []) (edit 244 (0 ∷ []) ∷ []))
+    ∷ look 11 4 1 4 (fullWith (edit 272 (0xBE ∷ 1 ∷ 0 ∷ 0 ∷ 2 ∷ []) ∷ []))
+    ∷ reaching
+
+-- Each with its answer and its looks, as the second program gives them. In order: K1 refused by tests 1, 8 and 9, for its driver signature, for a host that is not
+-- valid, for one without NQN; all kinds, with one HFI unused and with longer records; HFI 1 used and wrong; of the SSNS record a wrong index at 8, 45 and 46; of the
+-- discovery record one at 3 and 4; no index that may be left out; nor in K12 with flag 2 clear
+abbrev pub lookSamples : List Look
+lookSamples =
+    look 1 0 0 0 (take 159 k1)
+    ∷ look 8 1 0 0 (with (edit 36 (159 ∷ []) ∷ []))
+    ∷ look 9 1 0 0 (with (edit 78 (2 ∷ []) ∷ []))
+    ∷ look 11 0 0 0 (with (edit 44 (1 ∷ []) ∷ []))
+    ∷ look 10 2 0 1 (with (edit 129 (0 ∷ []) ∷ []))
+    ∷ look 11 2 0 1 (with (edit 150 (0 ∷ []) ∷ []))
+    ∷ look 0 0 0 12 longRecords
+    ∷ look 10 3 1 2 (fullWith (edit 162 (1 ∷ []) ∷ []))
+    ∷ look 13 4 1 5 (fullWith (edit 232 (2 ∷ []) ∷ []))
+    ∷ look 13 4 1 6 (fullWith (edit 269 (2 ∷ []) ∷ []))
+    ∷ look 13 4 1 7 (fullWith (edit 270 (1 ∷ []) ∷ []))
+    ∷ look 13 6 1 11 (fullWith (edit 419 (1 ∷ []) ∷ []))
+    ∷ look 13 6 1 12 (fullWith (edit 420 (2 ∷ []) ∷ []))
+    ∷ look 0 0 0 8 (fullWith (edit 227 (0x11 ∷ []) ∷ edit 232 (0 ∷ []) ∷ edit 272 (replicate 6 0) ∷ edit 420 (0 ∷ []) ∷ []))
+    ∷ look 0 0 0 5 (k12Like 1 0)
+    ∷ secondaries
+
+pub looks-fine : T (allLooked lookSamples)
+unfolding looked
+looks-fine = tt
+
+-- these are among the samples above, so that their looks are as they say: for their counts no lower bound holds
+pub bound-reached : T (every reachesMost reaching)
+bound-reached = tt
 
 -- of K1 its host's flags and name, without the byte that ends it; of K7 a name that is there and empty; a host has position 0 alone, and K1 has no HFI
 abbrev pub readSamples : List ReadCase

@@ -11,7 +11,7 @@ use Rattle.table.specs.declared.Answer.{Answer}
 use Rattle.table.specs.declared.State.{State}
 use Rattle.table.specs.declared.Step.{Step}
 use Rattle.table.specs.Bytes.{pick, le, checksum, splice, edit, apply}
-use Rattle.table.specs.Layout.{image, Shape, Env, env, pairsRight, Content, anything, text, Refs, Slots, nil, bytes, gone, rec, Layout, baseOf, unused, used, Body, stop, more}
+use Rattle.table.specs.Layout.{image, Shape, Env, env, pairsRight, Content, anything, text, positions, Refs, Slots, nil, bytes, gone, rec, Layout, baseOf, unused, used, Body, stop, more}
 use Rattle.table.specs.FixedLayouts.{header, hfi, ssns, security, discovery, listKinds}
 use Rattle.table.specs.Objects.{under, sizeOf, heapOf, patched}
 use Rattle.table.specs.Rules.{first, firstOf, ruled, Test, test, firstFail}
@@ -143,6 +143,7 @@ toldImage s n x =
 -- an object as it is kept: text is told without its terminator; empty text is absent
 abbrev pub ended : Content → List ℕ → List ℕ
 ended anything b = b
+ended positions b = b
 ended text [] = []
 ended text (b ∷ bs) = (b ∷ bs) ++ (0 ∷ [])
 

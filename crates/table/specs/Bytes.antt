@@ -1,5 +1,5 @@
 -- Bytes: a table is a list of bytes, a number in it is little endian (Rules 2, docs/RULES.md), and a store replaces a part. Definitions only.
-use mathlib.Core.Bool.{Bool, true, false, _&&_}
+use mathlib.Core.Bool.{Bool, true, false, not, _&&_}
 use mathlib.Core.List.{List, [], _∷_, _++_}
 use Prim.Native.Nat.{ℕ, zero, suc, _+_, _-_, _*_, _/_, _%_, _^_}
 use lib.ListN.{length, take, drop, replicate}
@@ -34,9 +34,14 @@ bits a n hi lo t = num t a n / 2 ^ lo % 2 ^ (hi + 1 - lo)
 abbrev pub odd : ℕ → Bool
 odd n = eqb (n % 2) 1
 
-abbrev pub every : (ℕ → Bool) → List ℕ → Bool
+abbrev pub every {ℓ} : {X : Type ℓ} → (X → Bool) → List X → Bool
 every g [] = true
 every g (x ∷ xs) = g x && every g xs
+
+-- no number is there twice
+abbrev pub once : List ℕ → Bool
+once [] = true
+once (x ∷ xs) = every (λ y. not (eqb x y)) xs && once xs
 
 abbrev pub same : List ℕ → List ℕ → Bool
 same [] [] = true

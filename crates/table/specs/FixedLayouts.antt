@@ -1,14 +1,15 @@
--- Rules 2.1 to 2.10, 3.7, 3.9 (docs/RULES.md): header, control, host, HFI, SSNS, security, discovery, info (7), extended (9), HFI extended (10), index rules.
+-- Rules 2.1 to 2.10, 3.7, 3.9 (docs/RULES.md): header, control, host, HFI, SSNS, security, discovery, info (7), extended (9), HFI extended (10), indexes.
 -- Definitions only.
-use mathlib.Core.Bool.{Bool, true, false, _&&_, _||_}
+use mathlib.Core.Bool.{Bool, false, _&&_, _||_}
 use mathlib.Core.List.{List, [], _∷_}
 use Prim.Native.Nat.{ℕ}
 use lib.ListN.{getD}
 use lib.Dec.{eqb}
 use Rattle.table.specs.declared.Need.{Need}
 use Rattle.table.specs.declared.Need.the-variants.{Ignored, Optional, Required}
-use Rattle.table.specs.Bytes.{pick, bits, every, edit}
-use Rattle.table.specs.Layout.{region, field, flags, flagsIf, onlyIf, reference, frame, reserved, at, nowhere, shaped, asking, anything, text, Refs, none, plain, nest, Slots, slotAt, recAt, Layout}
+use Rattle.table.specs.Bytes.{pick, bits, edit}
+use Rattle.table.specs.Layout.{region, field, flags, flagsIf, onlyIf, reference, frame, reserved, at, nowhere, shaped, asking, anything, text, positions}
+use Rattle.table.specs.Layout.{Refs, none, plain, nest, Slots, slotAt, recAt, Index, index, unless, each, Layout}
 
 -- ---- when a reference counts
 
@@ -26,13 +27,10 @@ whenSet a n hi lo img = pick (eqb (bits a n hi lo img) 0) Ignored Required
 abbrev pub whenIs : ℕ → ℕ → List ℕ → Need
 whenIs a v img = pick (eqb (getD img a 0) v) Optional Ignored
 
--- ---- index rules
+-- ---- indexes
 
-abbrev pub noNames : {rs : Refs} → (ℕ → ℕ → Bool) → List ℕ → Slots rs → Bool
-noNames used img ss = true
-
-abbrev pub zeroOr : (ℕ → Bool) → ℕ → Bool
-zeroOr named n = eqb n 0 || named n
+abbrev pub noIndexes : {rs : Refs} → List ℕ → Slots rs → List Index
+noIndexes img ss = []
 
 -- ---- the header minor
 
@@ -73,7 +71,7 @@ header = record {
     pairs = [];
   });
   refs = plain 44 optional anything none;
-  names = noNames;
+  indexes = noIndexes;
   newer = notNewer;
 }
 
@@ -119,7 +117,7 @@ control = record {
     pairs = [];
   });
   refs = none;
-  names = noNames;
+  indexes = noIndexes;
   newer = notNewer;
 }
 
@@ -140,7 +138,7 @@ host = record {
     pairs = 3 ∷ [];
   });
   refs = plain 18 required text none;
-  names = noNames;
+  indexes = noIndexes;
   newer = notNewer;
 }
 
@@ -175,7 +173,7 @@ hfiExtended = record {
     pairs = [];
   }));
   refs = plain 8 (whenSet 4 4 1 1) anything (plain 14 (whenSet 4 4 1 1) anything none);
-  names = noNames;
+  indexes = noIndexes;
   newer = notNewer;
 }
 
@@ -213,7 +211,7 @@ info = record {
     pairs = [];
   }));
   refs = plain 104 optional text (nest 110 (whenIs 3 2) (hfiExtended .shape) (hfiExtended .refs) none);
-  names = noNames;
+  indexes = noIndexes;
   newer = notNewer;
 }
 
@@ -236,7 +234,7 @@ extended = record {
     pairs = [];
   });
   refs = plain 12 optional text none;
-  names = noNames;
+  indexes = noIndexes;
   newer = notNewer;
 }
 
@@ -262,7 +260,7 @@ hfi = record {
     pairs = [];
   });
   refs = nest 16 required (info .shape) (info .refs) none;
-  names = noNames;
+  indexes = noIndexes;
   newer = λ ss. eqb (getD (recAt 16 ss) 3 0) 2;
 }
 
@@ -300,12 +298,12 @@ ssns = record {
   refs =
       plain 10 required anything
       (plain 16 required anything
-      (plain 48 optional anything
+      (plain 48 optional positions
       (plain 54 required text (nest 60 (whenSet 3 2 4 4) (extended .shape) (extended .refs) none))));
-  names = λ used img ss.
-      zeroOr (used 6) (getD img 8 0)
-      && ((eqb (bits 3 2 2 2 img) 0 || used 5 (getD img 45 0))
-      && (used 3 (getD img 46 0) && every (used 3) (slotAt 48 ss)));
+  indexes = λ img ss.
+      unless (eqb (getD img 8 0) 0) (index 6 (getD img 8 0))
+      (unless (eqb (bits 3 2 2 2 img) 0) (index 5 (getD img 45 0))
+      (index 3 (getD img 46 0) ∷ each 3 (slotAt 48 ss)));
   newer = notNewer;
 }
 
@@ -339,7 +337,7 @@ security = record {
       (plain 24 (whenSet 2 2 10 10) anything
       (plain 30 (whenSet 2 2 11 11) anything
       (plain 36 (whenSet 4 1 0 0) anything none)))));
-  names = noNames;
+  indexes = noIndexes;
   newer = notNewer;
 }
 
@@ -364,7 +362,7 @@ discovery = record {
     pairs = [];
   });
   refs = plain 6 optional text (plain 12 optional text none);
-  names = λ used img ss. used 3 (getD img 3 0) && zeroOr (used 5) (getD img 4 0);
+  indexes = λ img ss. index 3 (getD img 3 0) ∷ unless (eqb (getD img 4 0) 0) (index 5 (getD img 4 0)) [];
   newer = notNewer;
 }
 
@@ -380,7 +378,7 @@ noKind = record {
   kind = 16;
   shape = shaped (record { lines = []; fixed = []; index = nowhere; flags = nowhere; pairs = [] });
   refs = none;
-  names = noNames;
+  indexes = noIndexes;
   newer = notNewer;
 }
 

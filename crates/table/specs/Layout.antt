@@ -7,7 +7,7 @@ use lib.ListN.{length, getD, replicate}
 use lib.Dec.{leb, eqb}
 use Rattle.table.specs.declared.Need.{Need}
 use Rattle.table.specs.declared.Region.{Region}
-use Rattle.table.specs.Bytes.{pick, part, num, bits, odd, every, same, Edit}
+use Rattle.table.specs.Bytes.{pick, part, num, bits, odd, every, once, same, Edit}
 
 -- A byte's bits that count: those below the modulus n (256 all, 1 none); or modulo m₀ or m₁ as bit d (a power of two) of byte f is 0 or 1
 pub data Keep : Type 0 where
@@ -177,10 +177,11 @@ pairsRight s img = every (λ lo. not (eqb (bits (s .flags .at) (s .flags .len) (
 unfoldable pub isRight : Shape → Env → List ℕ → Bool
 isRight s e img = fixedRight (s .fixed) img && (eqb (num img (s .index .at) (s .index .len)) (e .position) && pairsRight s img)
 
--- What a present object holds: any bytes, or text
+-- What a present object holds: any bytes, text, or positions in the list of HFIs
 pub data Content : Type 0 where
   anything : Content
   text : Content
+  positions : Content
 
 -- exactly one zero byte, the last
 abbrev pub isText : List ℕ → Bool
@@ -188,10 +189,15 @@ isText [] = false
 isText (b ∷ []) = eqb b 0
 isText (b ∷ c ∷ cs) = not (eqb b 0) && isText (c ∷ cs)
 
+-- at most n of them, none twice
+abbrev pub arePositions : ℕ → List ℕ → Bool
+arePositions n b = leb (length b) n && once b
+
 -- what a content asks of the bytes of a present object: 0, or the number returned
 abbrev pub ruleOf : Content → Env → List ℕ → ℕ
 ruleOf anything e b = 0
 ruleOf text e b = pick (isText b) 0 18
+ruleOf positions e b = pick (arePositions (e .count 3) b) 0 20
 
 -- The references of a record kind, by ascending offset: to an object of plain bytes, or to a heap record with references of its own. `need img` says whether
 -- the reference counts, by the record's image
@@ -226,14 +232,35 @@ recAt q (bytes x ss) = recAt q ss
 recAt q (gone ss) = recAt q ss
 recAt q (rec {p = p} img own ss) = pick (eqb q p) img (recAt q ss)
 
--- A record kind: its own bytes, its references, the rule of its indexes (`used k n` says that position n of kind k is used), and whether a used record asks for
--- header minor 1
+-- An index that a record holds: it names a position in the list of a kind
+pub record Index : Type 0 where
+  pub kind : ℕ
+  pub position : ℕ
+
+abbrev pub index : ℕ → ℕ → Index
+index k n = record { kind = k; position = n }
+
+-- an index in front of others, unless it is not to be resolved
+abbrev pub unless : Bool → Index → List Index → List Index
+unless true x xs = xs
+unless false x xs = x ∷ xs
+
+-- the indexes of kind k that bytes are
+abbrev pub each : ℕ → List ℕ → List Index
+each k [] = []
+each k (n ∷ ns) = index k n ∷ each k ns
+
+-- A record kind: its own bytes, its references, the indexes that are resolved, in order, and whether a used record asks for header minor 1
 pub record Layout : Type 0 where
   pub kind : ℕ
   pub shape : Shape
   pub refs : Refs
-  pub names : (ℕ → ℕ → Bool) → List ℕ → Slots refs → Bool
+  pub indexes : List ℕ → Slots refs → List Index
   pub newer : Slots refs → Bool
+
+-- each index names a used position: `named k n` says that position n of kind k is used
+abbrev pub namesUsed : (ℕ → ℕ → Bool) → List Index → Bool
+namesUsed named xs = every (λ (x : Index). named (x .kind) (x .position)) xs
 
 abbrev pub baseOf : Layout → ℕ
 baseOf l = length (l .shape .keep)

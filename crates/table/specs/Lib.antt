@@ -5,6 +5,7 @@ pub mod Objects
 pub mod Rules
 pub mod Meaning
 pub mod Numbers
+pub mod Looks
 pub mod Reads
 pub mod Rewriting
 pub mod Closing

@@ -1,4 +1,4 @@
--- Rules 4 (docs/RULES.md), 0 to 13 and 18: the tests 1 to 9 in order, then driver signature, host and records by position; the first fault answers. Definitions only.
+-- Rules 4 (docs/RULES.md), 0 to 13, 18 and 20: the tests 1 to 9 in order, then driver signature, host and records by position; the first fault answers. Definitions only.
 use mathlib.Core.Bool.{Bool, not, _&&_}
 use mathlib.Core.List.{List, [], _∷_}
 use Prim.Native.Nat.{ℕ, _+_, _%_}

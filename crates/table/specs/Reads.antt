@@ -12,7 +12,7 @@ use Rattle.table.specs.declared.Image.{Image}
 use Rattle.table.specs.declared.Field.{Field}
 use Rattle.table.specs.declared.Place.{Place}
 use Rattle.table.specs.Bytes.{pick, part, num, padded}
-use Rattle.table.specs.Layout.{image, referenceAt, isValid, Content, anything, text, Refs, none, plain, nest, Layout, baseOf}
+use Rattle.table.specs.Layout.{image, referenceAt, isValid, Content, anything, text, positions, Refs, none, plain, nest, Layout, baseOf}
 use Rattle.table.specs.FixedLayouts.{header, control, host, hfi, ssns, security, discovery, info, extended, hfiExtended}
 use Rattle.table.specs.Objects.{under}
 use Rattle.table.specs.Rules.{answer, done}
@@ -124,6 +124,7 @@ wholeAt t q (seat l a on) =
 -- what is handed back of it: text without its terminator; `present` tells an empty text from an absent one
 abbrev pub handed : Content → Place → Place
 handed anything x = x
+handed positions x = x
 handed text x = record { answer = x .answer; present = x .present; at = x .at; len = x .len - 1 }
 
 abbrev pub placeAt : List ℕ → ℕ → Seat → Place

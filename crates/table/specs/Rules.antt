@@ -10,7 +10,7 @@ use Rattle.table.specs.declared.Need.{Need}
 use Rattle.table.specs.declared.Need.the-variants.{Ignored, Optional, Required}
 use Rattle.table.specs.Bytes.{pick, num}
 use Rattle.table.specs.Layout.{image, region, referenceAt, namedAt, Content, ruleOf, Shape, Env, env, isValid, isRight}
-use Rattle.table.specs.Layout.{Refs, none, plain, nest, Slots, Layout, baseOf, Entry, unused, used, Body, stop, more}
+use Rattle.table.specs.Layout.{Refs, none, plain, nest, Slots, Layout, namesUsed, baseOf, Entry, unused, used, Body, stop, more}
 use Rattle.table.specs.Objects.{under}
 
 abbrev pub answer : ℕ → ℕ → ℕ → Answer
@@ -126,7 +126,7 @@ refsRule heap e t a img (nest p need shape own rest) =
 -- a used record: 10, then its references, then 13
 unfoldable pub usedRule : (l : Layout) → (ℕ → ℕ → Bool) → Region → Env → List ℕ → ℕ → List ℕ → Slots (l .refs) → ℕ
 usedRule l named heap e t a img ss =
-    firstOf (pick (isRight (l .shape) e img) 0 10) (firstOf (refsRule heap e t a img (l .refs)) (pick (l .names named img ss) 0 13))
+    firstOf (pick (isRight (l .shape) e img) 0 10) (firstOf (refsRule heap e t a img (l .refs)) (pick (namesUsed named (l .indexes img ss)) 0 13))
 
 unfoldable pub entryRule : (l : Layout) → (ℕ → ℕ → Bool) → Region → Env → List ℕ → ℕ → Entry l → ℕ
 entryRule l named heap e t a unused = 0

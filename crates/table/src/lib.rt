@@ -53,6 +53,18 @@ pub fn refuse(number: u8, kind: u8, position: usize) -> Answer
     }
 }
 
+// What the rules of a record find: a number of Rules 4.2 or 0, and how many looks at records it took to say so.
+pub struct Found {
+    pub number: u8,
+    pub looks: usize,
+}
+
+// The same of whole lists, and of a table: an answer, and its looks.
+pub struct Looked {
+    pub answer: Answer,
+    pub looks: usize,
+}
+
 // Some bytes: where they start and how many they are.
 pub struct Region {
     pub at: usize,

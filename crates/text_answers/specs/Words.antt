@@ -30,7 +30,8 @@ meaningOf n =
     (cond (eqb n 17) "the output would pass 65536 bytes"
     (cond (eqb n 18) "a text does not end in its only zero byte"
     (cond (eqb n 19) "a heap record shares a byte with another object"
-    "a fault with no name")))))))))))))))))))
+    (cond (eqb n 20) "a secondary list is too long or names an HFI twice"
+    "a fault with no name"))))))))))))))))))))
 
 unfoldable pub kindOf : ℕ → String
 kindOf k =

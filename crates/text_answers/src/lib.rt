@@ -61,6 +61,7 @@ fn with_meaning(t: Text, number: u8) -> Text
         17 => with_limit(t, b"the output would pass ", b" bytes"),
         18 => with_bytes(t, b"a text does not end in its only zero byte"),
         19 => with_bytes(t, b"a heap record shares a byte with another object"),
+        20 => with_bytes(t, b"a secondary list is too long or names an HFI twice"),
         _ => with_bytes(t, b"a fault with no name"),
     }
 }

@@ -183,7 +183,7 @@ fn shown(call: &Call, kept: &Kept) -> String {
 #[cfg(test)]
 mod tests {
     use super::*;
-    use second::answer::number::TEXT;
+    use second::answer::number::{SECONDARY, TEXT};
     use std::collections::BTreeSet;
 
     /// The second program itself, as the library.
@@ -195,7 +195,7 @@ mod tests {
     fn runs_meet_every_number_that_a_call_can_give() {
         let line =
             compare(1000, 4, |call, state, buffer| Ok(by_itself(call, state, buffer))).expect("it agrees with itself");
-        for number in [0, 2, 6, 7, 8, 9, 10, 11, 12, 13, 14, 15, 17, 18] {
+        for number in [0, 2, 6, 7, 8, 9, 10, 11, 12, 13, 14, 15, 17, 18, 20] {
             assert!(line.contains(&format!(" {number}: ")), "{number} is missing: {line}");
         }
     }
@@ -261,6 +261,32 @@ mod tests {
             }
         }
         assert!(met.contains(&("finish", TEXT)));
+    }
+
+    /// How many bytes the secondary list has that is told.
+    fn told_secondary(call: &Call) -> Option<usize> {
+        match call {
+            Call::Ssns(_, _, objects) => Some(objects[2].len()),
+            _ => None,
+        }
+    }
+
+    #[test]
+    fn subsystems_meet_their_number_with_short_and_long_lists_and_so_does_finish() {
+        let (mut short, mut long, mut taken, mut finish) = (0, 0, 0, 0);
+        compare(1000, 8, |call, state, buffer| {
+            let outcome = by_itself(call, state, buffer);
+            match (outcome.answer.number, told_secondary(call)) {
+                (SECONDARY, Some(length)) if length < 256 => short += 1,
+                (SECONDARY, Some(_)) => long += 1,
+                (SECONDARY, None) => finish += u32::from(matches!(call, Call::Finish)),
+                (0, Some(1..)) => taken += 1,
+                _ => (),
+            }
+            Ok(outcome)
+        })
+        .expect("it agrees with itself");
+        assert!(short > 50 && long > 10 && taken > 100 && finish > 10, "{short} {long} {taken} {finish}");
     }
 
     #[test]

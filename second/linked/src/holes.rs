@@ -246,7 +246,7 @@ mod tests {
 
     #[test]
     fn every_sort_of_overlap_is_met_and_many_tables_have_none() {
-        let (mut random, mut sorts, mut numbers) = (Random::seeded(6), BTreeSet::new(), [0; 20]);
+        let (mut random, mut sorts, mut numbers) = (Random::seeded(6), BTreeSet::new(), [0; 21]);
         for _ in 0..4000 {
             let table = with_an_overlap(&mut random);
             let number = answer(&table);

@@ -25,6 +25,7 @@ use std::ptr::{null, null_mut, NonNull};
 
 extern "C" {
     fn nbft_check(table: *const u8, length: usize) -> u32;
+    fn nbft_check_looks(table: *const u8, length: usize) -> u64;
     fn nbft_field(table: *const u8, length: usize, kind: u8, position: u16, offset: u32, value: *mut [u8; 16]) -> u64;
     fn nbft_object(table: *const u8, length: usize, kind: u8, position: u16, offset: u32) -> u64;
     fn nbft_object_start(table: *const u8, length: usize, kind: u8, position: u16, offset: u32) -> u32;
@@ -38,11 +39,17 @@ pub fn check(lent: &[u8]) -> Answer {
     unpack(unsafe { nbft_check(lent.as_ptr(), lent.len()) })
 }
 
-/// What it answers to no bytes, lent where nothing can be read: at null, and at a place that dangles.
-pub fn check_nothing() -> [Answer; 2] {
+/// The same, and how often it looked at records.
+pub fn check_looks(lent: &[u8]) -> (Answer, u32) {
+    // SAFETY: as above.
+    unpack_looks(unsafe { nbft_check_looks(lent.as_ptr(), lent.len()) })
+}
+
+/// What both answer to no bytes, lent where nothing can be read: at null, and at a place that dangles.
+pub fn check_nothing() -> [(Answer, (Answer, u32)); 2] {
     let dangling: *const u8 = NonNull::dangling().as_ptr();
-    // SAFETY: no byte is lent, so the function reads none.
-    [null(), dangling].map(|place| unpack(unsafe { nbft_check(place, 0) }))
+    // SAFETY: no byte is lent, so the functions read none.
+    [null(), dangling].map(|place| unsafe { (unpack(nbft_check(place, 0)), unpack_looks(nbft_check_looks(place, 0))) })
 }
 
 /// Stands in a field's 16 bytes before they are read; a refused read leaves it.
@@ -134,6 +141,11 @@ fn first_difference(name: &str, given: &[u8], expected: &[u8]) -> String {
         Some((place, (is, should))) => format!("; byte {place} of the {name} is {is:02X} and not {should:02X}"),
         None => String::new(),
     }
+}
+
+/// Bits 0 to 31 the answer, 32 to 63 the looks.
+fn unpack_looks(packed: u64) -> (Answer, u32) {
+    (unpack(packed as u32), (packed >> 32) as u32)
 }
 
 /// Bits 0 to 7 number, 8 to 15 kind, 16 to 31 position.

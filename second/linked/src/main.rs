@@ -8,7 +8,7 @@ use std::process::ExitCode;
 const HELP: &str = "\
 linked: compares the static library's answers with the second program's
 
-  linked compare COUNT SEED    COUNT generated tables; the same SEED gives the same ones
+  linked compare COUNT SEED    answers and looks at records of COUNT generated tables; the same SEED gives the same ones
   linked reads COUNT SEED      every kind, position and offset of COUNT generated tables
   linked rewrite COUNT SEED    generated tables until COUNT of them have a form, each into outputs of many lengths
   linked close COUNT SEED      generated tables until COUNT of them are closed up, each with maps of many lengths

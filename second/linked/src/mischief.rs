@@ -12,6 +12,7 @@ use second::retell::Call;
 use second::state::{FINISHED, READY};
 use second::wire::set_two_bits;
 use second::State;
+use std::collections::BTreeSet;
 
 /// The objects of a call, in the order of their arguments but for the SSNS's, whose root path is the last.
 pub fn objects(call: &mut Call) -> Vec<&mut Vec<u8>> {
@@ -36,8 +37,9 @@ fn record_with_pairs(call: &mut Call) -> Option<(&mut [u8], &'static [(usize, us
 }
 
 /// The same call with one thing told in another way: a two-bit field wrong, what an info says of its version or its
-/// address, an object empty, with a zero byte, too long for its length field or as long as that can say, or all bytes
-/// of the records noise. Now and then that is so of several objects, so that their order shows.
+/// address, a secondary list with more bytes, an object empty, with a zero byte, too long for its length field or as
+/// long as that can say, or all bytes of the records noise. Now and then that is so of several objects, so that their
+/// order shows.
 pub fn spoiled(random: &mut Random, call: &Call) -> Call {
     let mut call = call.clone();
     let kind = random.below(6);
@@ -55,6 +57,12 @@ pub fn spoiled(random: &mut Random, call: &Call) -> Call {
             return call;
         }
     }
+    if let Call::Ssns(_, _, objects) = &mut call {
+        if random.one_in(3) {
+            spoil_secondary(random, &mut objects[SECONDARY]);
+            return call;
+        }
+    }
     let mut objects = objects(&mut call);
     if !objects.is_empty() {
         let times = if random.one_in(3) { objects.len() } else { 1 };
@@ -64,6 +72,19 @@ pub fn spoiled(random: &mut Random, call: &Call) -> Call {
         }
     }
     call
+}
+
+/// The place of the secondary list among the objects of an SSNS.
+const SECONDARY: usize = 2;
+
+/// One of its bytes once more, at any place; another byte more; or far more of them than there are HFIs.
+fn spoil_secondary(random: &mut Random, list: &mut Vec<u8>) {
+    let place = random.below(list.len() + 1);
+    match random.below(4) {
+        0 | 1 if !list.is_empty() => list.insert(place, *random.pick(list)),
+        2 => list.resize(list.len() + *random.pick(&[255, 256, 60_000]), 1),
+        _ => list.insert(place, random.byte()),
+    }
 }
 
 fn spoil_object(random: &mut Random, object: &mut Vec<u8>) {
@@ -139,7 +160,10 @@ pub fn call_of_noise(random: &mut Random, turn: u16) -> Call {
             noisy_hfi(random, objects)
         }
         4 => {
-            let objects = std::array::from_fn(|_| any_object(random));
+            let mut objects = std::array::from_fn(|_| any_object(random));
+            if !random.one_in(3) {
+                objects[SECONDARY] = any_secondary(random);
+            }
             Call::Ssns(Box::new(random.array()), random.array(), objects)
         }
         5 => Call::Security(random.array(), std::array::from_fn(|_| any_object(random))),
@@ -154,6 +178,14 @@ pub fn call_of_noise(random: &mut Random, turn: u16) -> Call {
 fn any_object(random: &mut Random) -> Vec<u8> {
     let length = random.below(8).saturating_sub(1);
     (0..length).map(|_| if random.one_in(40) { 0 } else { 1 + random.below(3) as u8 }).collect()
+}
+
+/// No byte twice, and few, so that the list may be no longer than the HFIs of a small count.
+fn any_secondary(random: &mut Random) -> Vec<u8> {
+    let mut list = vec![1, 2, 3];
+    random.shuffle(&mut list);
+    list.truncate(random.below(3));
+    list
 }
 
 /// A state that differs from this one, most often in one field alone.
@@ -221,9 +253,12 @@ pub fn overwrite(random: &mut Random, buffer: &mut [u8], used: usize) {
     }
 }
 
-/// The table with one fault of a known number.
+/// The table with one fault of a known number. That is chosen first, since some numbers have few faults, others many.
 pub fn damage(random: &mut Random, table: &[u8]) -> Vec<u8> {
-    let all = damages(table);
+    let mut all = damages(table);
+    let numbers: BTreeSet<u8> = all.iter().map(|damage| damage.answer.number).collect();
+    let number = *random.pick(&Vec::from_iter(numbers));
+    all.retain(|damage| damage.answer.number == number);
     let mut damaged = random.pick(&all).apply(table).table;
     damaged.resize(table.len(), 0);
     damaged

@@ -6,7 +6,8 @@ use crate::tally::Tally;
 use crate::{hex, tables, Object};
 use second::random::Random;
 use second::read::Reading;
-use second::Field;
+use second::secondary::{listing, named_twice};
+use second::{form, Field};
 use std::fmt::Debug;
 
 /// All kinds, and numbers that are none.
@@ -32,10 +33,23 @@ pub fn by_library_in_pages(pages: &mut Guarded, table: &[u8], tally: &mut Tally)
     all(table, pages.starting(table), tally)
 }
 
-pub fn compare(count: u64, seed: u64, read: impl Read) -> Result<String, String> {
+/// Secondary lists first, then generated tables.
+pub fn compare(count: u64, seed: u64, mut read: impl Read) -> Result<String, String> {
     let mut tally = Tally::default();
+    known(&mut tally, &mut read)?;
     generated(count, seed, &mut tally, read)?;
-    Ok(format!("{} reads of {count} tables agree (seed {seed})", tally.calls()))
+    let (reads, numbers) = (tally.calls(), tally.by_number());
+    Ok(format!("{reads} reads of {} tables agree (seed {seed}); by number {numbers}", count + 2))
+}
+
+/// A table that is taken with a full secondary list, and one that is refused for its list.
+pub fn known(tally: &mut Tally, mut read: impl Read) -> Result<(), String> {
+    let full = form(&listing(&[true, true], &[2, 1]));
+    [full, named_twice().table].iter().try_for_each(|table| told(table, read(table, tally)))
+}
+
+fn told(table: &[u8], compared: Result<(), String>) -> Result<(), String> {
+    compared.map_err(|difference| format!("{difference}, on\n{}", hex(table)))
 }
 
 /// Good tables in many layouts, and one in four of any sort.
@@ -43,7 +57,7 @@ pub fn generated(count: u64, seed: u64, tally: &mut Tally, mut read: impl Read) 
     let mut random = Random::seeded(seed);
     each(count, seed, || {
         let table = if random.one_in(4) { tables::next(&mut random) } else { tables::good(&mut random) };
-        read(&table, tally).map_err(|difference| format!("{difference}, on\n{}", hex(&table)))
+        told(&table, read(&table, tally))
     })
 }
 

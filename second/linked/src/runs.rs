@@ -208,8 +208,8 @@ impl<F: Make> Comparison<'_, F> {
     }
 }
 
-/// The run with so many bytes more in one of its objects: its first byte over and over, so that a list of indexes
-/// names what it named. An object that is ignored makes no difference.
+/// The run with so many bytes more in one of its objects: its first byte over and over, which a list of indexes is
+/// refused for. An object that is ignored makes no difference.
 fn lengthened(random: &mut Random, run: &[Call], more: usize) -> Vec<Call> {
     let mut longer = run.to_vec();
     let mut all: Vec<&mut Vec<u8>> = longer.iter_mut().flat_map(objects).filter(|object| !object.is_empty()).collect();

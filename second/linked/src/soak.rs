@@ -114,6 +114,7 @@ impl Soak {
     /// What does not depend on a seed, once.
     fn directed(&mut self) -> Result<(), String> {
         checks::known(checks::by_library)?;
+        reads::known(&mut self.tally, reads::by_library)?;
         rewrites::directed(&mut self.tally, rewrites::by_library)?;
         closings::directed(&mut self.tally, closings::by_library)?;
         builds::known(&mut self.tally, builder::by_library)
@@ -140,7 +141,8 @@ impl Soak {
     fn told(&self, taken: Duration) -> String {
         let sorts: String = self.by_sort().map(|(sort, cases)| format!("    {cases} {sort}\n")).collect();
         let (cases, calls, seconds) = (self.cases(), self.tally.calls(), taken.as_secs());
-        let answers = self.tally.by_call_number_and_kind();
-        format!("{cases} cases in {seconds} seconds, {calls} calls compared, 0 differences\n{sorts}{}", answers.trim_end())
+        let (looks, answers) = (self.tally.looks(), self.tally.by_call_number_and_kind());
+        let compared = format!("{calls} calls and {looks} looks at records compared");
+        format!("{cases} cases in {seconds} seconds, {compared}, 0 differences\n{sorts}{}", answers.trim_end())
     }
 }

@@ -1,9 +1,9 @@
 //! Tables to compare: directed ones, and an endless row of good ones in many
-//! layouts, damaged ones, ones with a wrong text, with a few bytes or the
-//! version of an info changed, cut ones, and plain noise.
+//! layouts, damaged ones, ones with a wrong text or secondary list, with a few
+//! bytes or the version of an info changed, cut ones, and plain noise.
 
-use second::answer::number::TEXT;
-use second::damage::{outer_damage, put_checksum_within_length};
+use second::answer::number::{SECONDARY, TEXT};
+use second::damage::{outer_damage, put_checksum_within_length, Damage};
 use second::faults::damages;
 use second::form::form;
 use second::frame::Frame;
@@ -14,13 +14,15 @@ use second::layout::{lay_out_freely, with_tail, Style};
 use second::random::Random;
 use second::record::Record;
 use second::samples::{dhcp, known, machine};
+use second::secondary::lists;
 use second::wire::u32_at;
 
-/// The samples, good tables that each show one thing, and every damage of two tables.
+/// The samples, good tables that each show one thing, secondary lists, and every damage of two tables.
 pub fn directed() -> Vec<Vec<u8>> {
     let (good, with_clients) = (form(&machine()), form(&dhcp()));
     let mut samples = known();
     samples.extend(goods());
+    samples.extend(lists());
     for table in [&good, &with_clients] {
         samples.extend(damages(table).iter().map(|damage| damage.apply(table)));
     }
@@ -31,14 +33,15 @@ pub fn directed() -> Vec<Vec<u8>> {
 /// The next table. The same seed gives the same tables.
 pub fn next(random: &mut Random) -> Vec<u8> {
     let table = good(random);
-    match random.below(10) {
+    match random.below(11) {
         0 | 1 => table,
         2 => with_tail(random, table),
         3 => damaged(random),
         4 | 5 => changed(random, table),
         6 => cut(random, table),
         7 => other_version(random, table),
-        8 => wrong_text(random),
+        8 => wrong_object(random, TEXT),
+        9 => wrong_object(random, SECONDARY),
         _ if random.one_in(50) => too_long(random, table),
         _ => noise(random),
     }
@@ -58,14 +61,23 @@ fn damaged(random: &mut Random) -> Vec<u8> {
     random.pick(&all).apply(&good).table
 }
 
-/// A text that is wrong, in a layout in which no two objects share bytes. Now and then a few bytes more are changed, so
-/// that another fault comes before it or behind it.
-fn wrong_text(random: &mut Random) -> Vec<u8> {
-    let meaning = random_meaning(random);
-    let good = lay_out_freely(random, &meaning, Style::SEPARATE);
-    let mut all = damages(&good);
-    all.retain(|damage| damage.answer.number == TEXT);
-    let table = random.pick(&all).apply(&good).table;
+/// A text or a secondary list that is wrong, by the number that this gives, in a layout in which no two objects share
+/// bytes. Often there is a fault behind it too, and now and then a few bytes more are changed, so that one may come
+/// before it.
+fn wrong_object(random: &mut Random, number: u8) -> Vec<u8> {
+    let (good, all, wrong) = loop {
+        let meaning = random_meaning(random);
+        let good = lay_out_freely(random, &meaning, Style::SEPARATE);
+        let all = damages(&good);
+        let wrong: Vec<Damage> = all.iter().filter(|damage| damage.answer.number == number).cloned().collect();
+        // Every table has a text, but not every one a subsystem.
+        if !wrong.is_empty() {
+            break (good, all, wrong);
+        }
+    };
+    let damage = random.pick(&wrong);
+    let behind = damage.before(random.pick(&all), &good);
+    let table = behind.unwrap_or_else(|| damage.apply(&good)).table;
     if random.one_in(4) {
         changed(random, table)
     } else {
@@ -161,6 +173,29 @@ mod tests {
         assert!(is_met(&client));
         for number in [11, 12] {
             assert!(is_met(&|table| check(table) == Answer::at(number, 3, 1)));
+        }
+    }
+
+    /// The secondary list of the first subsystem, in a table that is taken.
+    fn secondary(table: &[u8]) -> Option<Vec<u8>> {
+        let (answer, place) = Reading::of(table).object(4, 1, 48);
+        place.filter(|_| answer.is_done()).map(|place| table[place].to_vec())
+    }
+
+    #[test]
+    fn secondary_lists_come_full_and_with_the_primary_and_wrong() {
+        let mut random = Random::seeded(10);
+        let tables: Vec<Vec<u8>> = (0..4000).map(|_| next(&mut random)).collect();
+        let is_met = |has: &dyn Fn(&[u8]) -> bool| tables.iter().filter(|table| has(table)).count() >= 10;
+        let is_full = |table: &[u8]| secondary(table).is_some_and(|list| list.len() == usize::from(table[87]));
+        let has_primary = |table: &[u8]| {
+            let primary = Reading::of(table).field(4, 1, 46).bytes[0];
+            secondary(table).is_some_and(|list| list.contains(&primary))
+        };
+        assert!(is_met(&is_full) && is_met(&has_primary));
+        assert!(is_met(&|table| is_full(table) && table[87] > 1));
+        for position in [1, 2] {
+            assert!(is_met(&|table| check(table) == Answer::at(SECONDARY, 4, position)));
         }
     }
 

@@ -1,4 +1,5 @@
-//! What was compared: how many calls of each name gave which answer, and how many cases of each sort there were.
+//! What was compared: how many calls of each name gave which answer, how many cases of each sort there were, and how
+//! often checks looked at records.
 
 use second::Answer;
 use std::collections::BTreeMap;
@@ -9,6 +10,7 @@ pub struct Tally {
     /// Calls by name, and then by the answer's number and kind.
     answers: BTreeMap<&'static str, BTreeMap<(u8, u8), u64>>,
     cases: BTreeMap<&'static str, u64>,
+    looks: u64,
 }
 
 impl Tally {
@@ -24,6 +26,16 @@ impl Tally {
 
     pub fn cases(&self, sort: &str) -> u64 {
         self.cases.get(sort).copied().unwrap_or(0)
+    }
+
+    /// A check looked so often at records.
+    pub fn look(&mut self, looks: u32) {
+        self.looks += u64::from(looks);
+    }
+
+    /// All checks' looks.
+    pub fn looks(&self) -> u64 {
+        self.looks
     }
 
     pub fn calls(&self) -> u64 {

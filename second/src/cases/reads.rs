@@ -13,6 +13,7 @@ use crate::meaning::{Entry, Meaning};
 use crate::read::{Reading, LONGEST_RECORD};
 use crate::record::Record;
 use crate::samples::{host_only, known, small, smallest, unended};
+use crate::secondary::named_twice;
 use crate::security::Security;
 use crate::subsystem::{Extended, Subsystem};
 
@@ -392,7 +393,7 @@ fn refused() -> Vec<Inquiry> {
     let mut tables = known();
     tables.retain(|sample| numbers.contains(&sample.answer.number));
     tables.dedup_by_key(|sample| sample.answer);
-    tables.push(unended());
+    tables.extend([unended(), named_twice()]);
     let inquiry = |table| Inquiry {
         title: "a refused table",
         table,

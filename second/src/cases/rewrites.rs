@@ -8,6 +8,7 @@ use crate::identity::Identity;
 use crate::meaning::meaning;
 use crate::record::Record;
 use crate::samples::{host_only, known, small, unended};
+use crate::secondary::named_twice;
 use crate::security::Security;
 use crate::subsystem::Subsystem;
 use crate::{form_length, Answer};
@@ -39,7 +40,7 @@ fn case(shelf: &mut Shelf, table: &[u8], room: usize) -> String {
 /// Good tables in outputs of just their form's length, less and more; and
 /// refused ones.
 fn groups(shelf: &mut Shelf) -> [Group; 2] {
-    let samples = known().into_iter().chain([unended()]);
+    let samples = known().into_iter().chain([unended(), named_twice()]);
     let (good, refused): (Vec<_>, Vec<_>) = samples.partition(|s| s.answer.is_done());
     let mut tables: Vec<Vec<u8>> = good.into_iter().map(|sample| sample.table).collect();
     tables.push(noisy(&host_only()));

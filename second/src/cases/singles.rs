@@ -3,14 +3,17 @@
 
 use crate::cases::builds::{run, Step};
 use crate::cases::dirty;
+use crate::form::record_start;
 use crate::identity::Identity;
 use crate::interface::{Info, Interface};
 use crate::meaning::{meaning, Entry, Meaning};
 use crate::record::Record;
 use crate::retell::Call;
 use crate::samples::{small, smallest};
+use crate::secondary;
 use crate::state::{State, FINISHED, READY};
 use crate::subsystem::Subsystem;
+use crate::wire::u32_at;
 
 const fn at(turn: u16, position: u16, counts: [u8; 4], used: u32) -> State {
     State {
@@ -284,6 +287,73 @@ fn mixed_faults() -> Vec<Step> {
     steps
 }
 
+/// The turn of a subsystem in a table with so many interfaces.
+const fn behind_interfaces(interfaces: u8) -> State {
+    at(4, 1, [interfaces, 1, 0, 0], 288 + 32 * interfaces as u32)
+}
+
+/// A subsystem's objects with this secondary list.
+const fn listing(list: &[u8]) -> [&[u8]; 5] {
+    [b"a", b"b", list, b"n", b"r"]
+}
+
+/// Lists that are taken, whatever their indexes name, and lists that are too
+/// long or have a byte twice.
+fn secondary_lists() -> Vec<Step> {
+    let told: [(u8, &[u8]); 16] = [
+        (0, &[]),
+        (1, &[1]),
+        (3, &[3, 1, 2]),
+        (3, &[0, 255]),
+        (3, &[9, 8, 7]),
+        (2, &[2, 0]),
+        (0, &[1]),
+        (1, &[1, 2]),
+        (1, &[1, 1]),
+        (3, &[1, 2, 3, 4]),
+        (3, &[1, 1]),
+        (3, &[1, 1, 2]),
+        (3, &[1, 2, 2]),
+        (3, &[1, 2, 1]),
+        (3, &[0, 0]),
+        (255, &[7; 255]),
+    ];
+    told.map(|(interfaces, list)| {
+        let state = behind_interfaces(interfaces);
+        // Those that are taken need less, and others are refused before it.
+        let room = (state.end() + 40).min(500);
+        step(state, room, ssns([0, 0], listing(list)))
+    })
+    .into()
+}
+
+/// A list that is wrong, beside what is judged before it and behind it; and
+/// lists of about the greatest length that a reference can say.
+fn joint_list_faults() -> Vec<Step> {
+    let (wrong, zero) = (&[1, 1][..], &b"a\0"[..]);
+    let [longest, too_long] = [65_535, 65_536].map(|length| vec![1; length]);
+    let told = [
+        ssns([0x80, 1], listing(wrong)),
+        ssns([0, 0], [b"", b"b", wrong, b"n", b"r"]),
+        ssns([0, 0], [b"a", b"", wrong, zero, b"r"]),
+        ssns([0, 0], listing(&too_long)),
+        ssns([0, 0], listing(&longest)),
+        ssns([0, 0], [b"a", b"b", wrong, b"", b"r"]),
+        ssns([0, 0], [b"a", b"b", &[1, 2, 3, 4], zero, b"r"]),
+        ssns([0x10, 0], [b"a", b"b", wrong, b"n", zero]),
+        ssns([0x10, 0], [b"a", b"b", &[1, 2, 3], zero, zero]),
+        ssns([0x10, 0], [b"a", b"b", &[1, 2, 3], b"", zero]),
+    ];
+    let full = State {
+        used: 65_536,
+        ..behind_interfaces(3)
+    };
+    let mut steps: Vec<Step> = told.map(|call| step(full, 0, call)).into();
+    let other_turn = at(3, 1, [3, 1, 0, 0], 384);
+    steps.push(step(other_turn, 400, ssns([0, 0], listing(wrong))));
+    steps
+}
+
 /// K11's host names of 96 and 95 bytes: the one passes 65,536 bytes, the
 /// other alone is too long for the buffer.
 fn full_lists() -> Vec<Step> {
@@ -365,7 +435,7 @@ fn dropped() -> Vec<Step> {
             350,
             interface([2, 0xF8, 0], [1, 0xFD], [b"h", b"", b"d"]),
         ),
-        step(at(4, 1, [0, 2, 0, 0], 416), 450, ssns([0xEA, 0xFE], NAMES)),
+        step(at(4, 1, [1, 2, 0, 0], 448), 480, ssns([0xEA, 0xFE], NAMES)),
         step(at(4, 1, one, 416), 450, ssns([0x15, 0xFF], NAMES)),
         step(at(5, 1, one, 416), 416, security([0, 0xF0, 0xFE], LISTS)),
         step(
@@ -409,6 +479,22 @@ fn index_faults() -> Vec<Step> {
         changed(|subsystem| subsystem.secondary_interfaces = Some(b"\x01\x00".into())),
         finishing(&profile),
     ]
+}
+
+/// Finish where a secondary list has become another: it has a byte twice, is
+/// longer than the interfaces, or names none.
+fn exchanged_lists() -> Vec<Step> {
+    let meaning = secondary::listing(&[true, true], &[1, 2]);
+    let ready = finishing(&meaning);
+    let subsystem = record_start::<Subsystem>(meaning.counts(), 1);
+    let list = u32_at(&ready.buffer, subsystem + 48) as usize;
+    let edits = [(list, 2), (list + 1, 1), (subsystem + 52, 3), (list, 3)];
+    let edited = |(place, byte): (usize, u8)| {
+        let mut step = ready.clone();
+        step.buffer[place] = byte;
+        step
+    };
+    edits.map(edited).into()
 }
 
 /// Bytes of the smallest table to change before it is finished.
@@ -507,12 +593,15 @@ pub fn single_steps() -> Vec<(&'static str, Vec<Step>)> {
         ("required objects that are empty", missing_objects()),
         ("texts with a zero byte", zeros_in_texts()),
         ("several objects told wrong", mixed_faults()),
+        ("secondary lists", secondary_lists()),
+        ("secondary lists beside other faults", joint_list_faults()),
         ("all lists full", full_lists()),
         ("texts of the greatest length", longest_texts()),
         ("about 65,536 bytes", too_long()),
         ("one byte too few lent", too_short()),
         ("what is dropped", dropped()),
         ("indexes that name no used record", index_faults()),
+        ("finish with another secondary list", exchanged_lists()),
         ("finish with forged buffers and states", tampered()),
     ]
 }

@@ -31,7 +31,8 @@ pub fn sampled() -> Vec<Vector> {
             _ if named("random") || named("pair") => 8,
             number::REGION => 8,
             number::REFERENCE => 5,
-            number::RECORD | number::HEAP_RECORD | number::INDEX | number::TEXT => 2,
+            number::RECORD | number::HEAP_RECORD | number::INDEX => 2,
+            number::TEXT | number::SECONDARY => 2,
             _ => 1,
         };
         let count = &mut seen[usize::from(vector.answer.number)];

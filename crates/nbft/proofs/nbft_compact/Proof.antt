@@ -1,5 +1,5 @@
 use Rattle.nbft.proofs.Laws.{close-placed}
-use Rattle.c_answers.specs.Packed.{packedCompacted}
+use Rattle.c_answers.specs.Packed.{packedCounted}
 use lib.ListN.{length}
 use native.Mathlib.Omega.{arith}
 use mathlib.Core.Path.{ap₂, _∙_}
@@ -10,8 +10,8 @@ use Rattle.nbft.proofs.nbft_compact.Tie as tie
 compact-requires : tie.Need-compact-requires
 compact-requires c κs = search needs
 
-pack-compacted-requires : tie.Need-pack-compacted-requires
-pack-compacted-requires c κs =
+pack-counted-requires : tie.Need-pack-counted-requires
+pack-counted-requires c κs =
     let at4 = c .before .before .before .before in
     let at8 = at4 .before .before .before .before in
     let a = at8 .before .args in
@@ -27,7 +27,7 @@ same-length-2 c = search needs
 returns : tie.Need-returns
 returns c =
     let e = c .before .before .before .before .before .compact .ensures in
-    (c .pack-compacted .ensures ∙ ap₂ packedCompacted (e .0 .0) (e .0 .1), e .1)
+    (c .pack-counted .ensures ∙ ap₂ packedCounted (e .0 .0) (e .0 .1), e .1)
 
 pub nbft-compact-spec : {M : Type 1} → statement M
-nbft-compact-spec = tie.close (tie.spec compact-requires pack-compacted-requires same-length same-length-2 returns)
+nbft-compact-spec = tie.close (tie.spec compact-requires pack-counted-requires same-length same-length-2 returns)

@@ -1,12 +1,13 @@
+use mathlib.Core.Path.{sym, ap, _∙_}
+use Prim.Native.Nat.{ℕ}
+use native.Mathlib.Omega.{arith}
+use lib.ListN.{length}
+use lib.Dec.{lit≤}
+use Rattle.table.specs.declared.Answer.{Answer}
+use Rattle.table.specs.Layout.{region}
 use Rattle.table.specs.FixedLayouts.{layoutOf, header}
 use Rattle.reader.specs.Stages.{numbered}
-use Prim.Native.Nat.{ℕ, _≤_}
-use native.Mathlib.Omega.{arith}
-use Rattle.table.specs.Layout.{region}
-use lib.ListN.{length}
-use mathlib.Core.Path.{ap, _∙_}
-use lib.Dec.{lit≤}
-use Rattle.reader.proofs.Laws.{answer-stop, answer-more, parts-are, heap-at}
+use Rattle.reader.proofs.Laws.{answer-stop, answer-more, heap-at, look-more, look-stop, looks-more, looks-stop, parts-are, parts-look}
 use borrow.Author.Needs.{needs}
 use Rattle.reader.proofs.parts_fault.Statement.{statement}
 use Rattle.reader.proofs.parts_fault.Tie as tie
@@ -23,35 +24,58 @@ answer-of-requires c κs = search needs
 returns : tie.Need-returns
 returns c =
     let start = c .before .before .before .before .before .before in
-    answer-stop _ (c .before .before .answer-of .ensures
-    ∙ ap (λ (v : ℕ). numbered v 0) (c .before .before .before .refs-fault .ensures)) (c .if1 .taken)
-    ∙ parts-are (start .args .t .now) (region (start .args .from) (length (start .args .heap .now)))
-    (heap-at (start .args .t .now) (start .args .from) (length (start .args .heap .now)) (start .pre .2) (start .pre .3))
+    let a = start .args in
+    let t = a .t .now in
+    let heap = region (a .from) (length (a .heap .now)) in
+    let same = heap-at t (a .from) (length (a .heap .now)) (start .pre .2) (start .pre .3) in
+    let driver = c .before .before .answer-of .ensures ∙ ap (λ (v : ℕ). numbered v 0) (c .before .before .before .refs-fault .ensures) in (
+      answer-stop _ driver (c .if1 .taken) ∙ parts-are t heap same,
+      looks-stop _ _ (λ z. c .if1 .taken (ap (λ (x : Answer). x .number) driver ∙ z)) ∙ parts-look t heap same,
+    )
 
 host-fault-requires : tie.Need-host-fault-requires
 host-fault-requires c κs = search needs
 
 returns-2 : tie.Need-returns-2
 returns-2 c =
-    let at5 = c .before .before .before .before .before in
-    let start = at5 .before .before .before .before in
-    answer-more (at5 .answer-of .ensures ∙ ap (λ (v : ℕ). numbered v 0) (at5 .before .refs-fault .ensures))
-    (c .before .before .before .if1 .left) (answer-stop _ (c .before .before .host-fault .ensures) (c .if2 .taken))
-    ∙ parts-are (start .args .t .now) (region (start .args .from) (length (start .args .heap .now)))
-    (heap-at (start .args .t .now) (start .args .from) (length (start .args .heap .now)) (start .pre .2) (start .pre .3))
+    let start = c .before .before .before .before .before .before .before .before .before in
+    let a = start .args in
+    let t = a .t .now in
+    let heap = region (a .from) (length (a .heap .now)) in
+    let same = heap-at t (a .from) (length (a .heap .now)) (start .pre .2) (start .pre .3) in
+    let driver = c .before .before .before .before .before .answer-of .ensures ∙ ap (λ (v : ℕ). numbered v 0) (c .before .before .before .before .before .before .refs-fault .ensures) in
+    let signed = c .before .before .before .if1 .left in
+    let host = c .before .before .host-fault .ensures in (
+      answer-more driver signed (answer-stop _ (host .0) (c .if2 .taken)) ∙ parts-are t heap same,
+      look-stop (host .0) (host .1) _ (c .if2 .taken) ∙ looks-more _ _ (sym (ap (λ (x : Answer). x .number) driver) ∙ signed) ∙ parts-look t heap same,
+    )
 
 lists-fault-requires : tie.Need-lists-fault-requires
 lists-fault-requires c κs = search needs
 
+behind-requires : tie.Need-behind-requires
+behind-requires c κs = search needs
+
 returns-3 : tie.Need-returns-3
 returns-3 c =
+    let start = c .before .before .before .before .before .before .before .before .before .before .before in
+    let a = start .args in
+    let t = a .t .now in
+    let heap = region (a .from) (length (a .heap .now)) in
+    let same = heap-at t (a .from) (length (a .heap .now)) (start .pre .2) (start .pre .3) in
     let at4 = c .before .before .before .before in
-    let start = at4 .before .before .before .before .before .before in
-    answer-more (at4 .before .before .answer-of .ensures
-    ∙ ap (λ (v : ℕ). numbered v 0) (at4 .before .before .before .refs-fault .ensures)) (at4 .if1 .left)
-    (answer-more (c .before .before .before .host-fault .ensures) (c .before .if2 .left) (c .lists-fault .ensures))
-    ∙ parts-are (start .args .t .now) (region (start .args .from) (length (start .args .heap .now)))
-    (heap-at (start .args .t .now) (start .args .from) (length (start .args .heap .now)) (start .pre .2) (start .pre .3))
+    let driver = at4 .before .before .before .answer-of .ensures ∙ ap (λ (v : ℕ). numbered v 0) (at4 .before .before .before .before .refs-fault .ensures) in
+    let signed = at4 .before .if1 .left in
+    let host = at4 .host-fault .ensures in
+    let owned = c .before .before .if2 .left in
+    let lists = c .before .lists-fault .ensures in
+    let rest = c .behind .ensures in (
+      answer-more driver signed (answer-more (host .0) owned (rest .0 ∙ lists .0)) ∙ parts-are t heap same,
+      rest .1
+          ∙ look-more (host .0) (host .1) owned (lists .1)
+          ∙ looks-more _ _ (sym (ap (λ (x : Answer). x .number) driver) ∙ signed)
+          ∙ parts-look t heap same,
+    )
 
 pub parts-fault-spec : {M : Type 1} → statement M
 parts-fault-spec =
@@ -63,4 +87,5 @@ parts-fault-spec =
     host-fault-requires
     returns-2
     lists-fault-requires
+    behind-requires
     returns-3)

@@ -1,7 +1,7 @@
-use Rattle.table.specs.declared.Region.{Region}
+use mathlib.Core.Path.{_≡_, ap, _∙_}
 use Prim.Native.Nat.{_+_, _≤_, _<_}
 use lib.ListN.{length}
-use mathlib.Core.Path.{_≡_, ap, _∙_}
+use Rattle.table.specs.declared.Region.{Region}
 use Rattle.reader.proofs.Laws.{heap-length, is-heap}
 use borrow.Author.Needs.{needs}
 use Rattle.reader.proofs.records_fault.Statement.{statement}

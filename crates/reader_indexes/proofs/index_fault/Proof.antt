@@ -6,10 +6,10 @@ valid-at-requires : tie.Need-valid-at-requires
 valid-at-requires c κs = search needs
 
 returns : tie.Need-returns
-returns c = rw (← c .before .valid-at .ensures, c .if1 .taken)
+returns c = (rw (← c .before .valid-at .ensures, c .if1 .taken), search needs)
 
 returns-2 : tie.Need-returns-2
-returns-2 c = rw (← c .before .valid-at .ensures, c .if1 .left)
+returns-2 c = (rw (← c .before .valid-at .ensures, c .if1 .left), search needs)
 
 pub index-fault-spec : {M : Type 1} → statement M
 index-fault-spec = tie.close (tie.spec valid-at-requires returns returns-2)

@@ -1,4 +1,4 @@
-use Rattle.reader_lists.specs.Lists.{listFault}
+use Rattle.reader_lists.specs.Lists.{listFault, listLooks}
 use borrow.Author.Needs.{needs}
 use Rattle.reader_lists.proofs.list_fault.Statement.{statement}
 use Rattle.reader_lists.proofs.list_fault.Tie as tie
@@ -35,8 +35,10 @@ list-from-requires c κs =
     )
 
 returns : tie.Need-returns
-unfolding listFault
-returns c = cc
+unfolding listFault listLooks
+returns c =
+    let e = c .list-from .ensures in
+    (cc (e .0), cc (e .1), e .2)
 
 pub list-fault-spec : {M : Type 1} → statement M
 list-fault-spec =

@@ -1,12 +1,12 @@
+use mathlib.Core.Path.{_≡_}
 use mathlib.Core.Bool.{true}
-use Rattle.table.specs.FixedLayouts.{layoutOf}
-use Rattle.table.specs.Bytes.{odd}
-use Rattle.table.specs.Layout.{region}
 use Prim.Native.Nat.{_+_}
 use native.Mathlib.Omega.{arith}
 use lib.ListN.{getD, length}
-use mathlib.Core.Path.{_≡_}
-use Rattle.reader_lists.proofs.Laws.{record-by, flag-within}
+use Rattle.table.specs.Bytes.{odd}
+use Rattle.table.specs.Layout.{region}
+use Rattle.table.specs.FixedLayouts.{layoutOf}
+use Rattle.reader_lists.proofs.Laws.{record-by, looks-by, flag-within}
 use Rattle.table.proofs.Rules.{picks}
 use borrow.Author.Needs.{needs}
 use Rattle.reader_lists.proofs.record_fault.Statement.{statement}
@@ -33,25 +33,27 @@ shared-slice-read-if1 c =
 returns : tie.Need-returns
 returns c =
     let start = c .before .before .before .before .before in
-    rw (
-      ← record-by (start .args .kind) (region (start .args .from) (length (start .args .heap .now)))
-          (start .args .t .now) (start .args .a) (start .args .position) (start .pre .1) (start .pre .2),
-      ← c .before .before .flags-at .ensures,
-    ) (search picks)
+    let a = start .args in
+    let heap = region (a .from) (length (a .heap .now)) in
+    let flag = c .before .before .flags-at .ensures in (
+      rw (← record-by (a .kind) heap (a .t .now) (a .a) (a .position) (start .pre .1) (start .pre .2), ← flag) (search picks),
+      rw (← looks-by (a .kind) heap (a .t .now) (a .a) (a .position) (start .pre .1) (start .pre .2), ← flag) (search picks),
+      search picks,
+    )
 
 used-fault-requires : tie.Need-used-fault-requires
 used-fault-requires c κs = search needs
 
 returns-2 : tie.Need-returns-2
 returns-2 c =
-    let s = c .before .before .before .before .before .before in
-    let e : odd (getD (s .args .t .now) (s .args .a + layoutOf (s .args .kind) .shape .flags .at) 0) ≡ true =
-    rw (← c .before .before .before .flags-at .ensures) (search picks) in
-    rw (
-      ← record-by (s .args .kind) (region (s .args .from) (length (s .args .heap .now))) (s .args .t .now) (s .args .a)
-          (s .args .position) (s .pre .1) (s .pre .2),
-      e,
-    ) (c .used-fault .ensures)
+    let start = c .before .before .before .before .before .before in
+    let a = start .args in
+    let heap = region (a .from) (length (a .heap .now)) in
+    let e : odd (getD (a .t .now) (a .a + layoutOf (a .kind) .shape .flags .at) 0) ≡ true = rw (← c .before .before .before .flags-at .ensures) (search picks) in (
+      rw (← record-by (a .kind) heap (a .t .now) (a .a) (a .position) (start .pre .1) (start .pre .2), e) (c .used-fault .ensures .0),
+      rw (← looks-by (a .kind) heap (a .t .now) (a .a) (a .position) (start .pre .1) (start .pre .2), e) (c .used-fault .ensures .1),
+      c .used-fault .ensures .2,
+    )
 
 pub record-fault-spec : {M : Type 1} → statement M
 record-fault-spec =

@@ -2,7 +2,7 @@ use Rattle.table.specs.Meaning.{limit}
 use Rattle.text.specs.Numerals.{digitsOf, numeral}
 use Rattle.text_answers.specs.Words.{meaningOf}
 use native.Mathlib.Omega.{arith}
-use Rattle.text.proofs.Rules.{picks}
+use borrow.Author.Tests.{ne-eqb}
 use borrow.Author.Needs.{needs}
 use Rattle.text_answers.proofs.with_meaning.Statement.{statement}
 use Rattle.text_answers.proofs.with_meaning.Tie as tie
@@ -139,6 +139,12 @@ slice-aggregate-with-bytes-19 c = search needs
 with-bytes-requires-19 : tie.Need-with-bytes-requires-19
 with-bytes-requires-19 c κs = search needs
 
+slice-aggregate-with-bytes-20 : tie.Need-slice-aggregate-with-bytes-20
+slice-aggregate-with-bytes-20 c = search needs
+
+with-bytes-requires-20 : tie.Need-with-bytes-requires-20
+with-bytes-requires-20 c κs = search needs
+
 returns : tie.Need-returns
 unfolding meaningOf
 returns c = (omega arith, c .with-bytes .ensures .1, rw (c .before .before .match .keys1) (c .with-bytes .ensures .2))
@@ -221,7 +227,11 @@ returns-20 c = (omega arith, c .with-bytes18 .ensures .1, rw (c .before .before 
 
 returns-21 : tie.Need-returns-21
 unfolding meaningOf
-returns-21 c = (omega arith, c .with-bytes19 .ensures .1, search (picks, c .with-bytes19 .ensures .2))
+returns-21 c = (omega arith, c .with-bytes19 .ensures .1, rw (c .before .before .match .keys21) (c .with-bytes19 .ensures .2))
+
+returns-22 : tie.Need-returns-22
+unfolding meaningOf
+returns-22 c = (omega arith, c .with-bytes20 .ensures .1, search (ne-eqb, c .with-bytes20 .ensures .2))
 
 pub with-meaning-spec : {M : Type 1} → statement M
 with-meaning-spec =
@@ -271,6 +281,8 @@ with-meaning-spec =
     with-bytes-requires-18
     slice-aggregate-with-bytes-19
     with-bytes-requires-19
+    slice-aggregate-with-bytes-20
+    with-bytes-requires-20
     returns
     returns-2
     returns-3
@@ -291,4 +303,5 @@ with-meaning-spec =
     returns-18
     returns-19
     returns-20
-    returns-21)
+    returns-21
+    returns-22)

@@ -1,9 +1,10 @@
-use Prim.Native.Nat.{_+_}
+use mathlib.Core.Path.{ap, _∙_}
+use mathlib.Core.List.{[], _∷_}
+use Prim.Native.Nat.{ℕ}
 use native.Mathlib.Omega.{arith}
+use Rattle.table.specs.Layout.{index}
+use Rattle.laws.specs.IndexLaws.{foundBy}
 use Rattle.laws.specs.ListWalk.{validIn}
-use Rattle.table.specs.Bytes.{pick}
-use lib.ListN.{getD}
-use mathlib.Core.Path.{_≡_, _∙_}
 use Rattle.reader_indexes.proofs.Laws.{security-off, security-on}
 use borrow.Author.Needs.{needs}
 use Rattle.reader_indexes.proofs.names.security_index.Statement.{statement}
@@ -15,7 +16,7 @@ ssns-flags-requires c κs = search needs
 returns : tie.Need-returns
 returns c =
     let start = c .before .before .before in
-    security-off (start .args .t .now) (start .args .a) (rw (c .before .ssns-flags .ensures) at (c .if1 .taken))
+    (security-off (start .args .t .now) (start .args .a) (rw (c .before .ssns-flags .ensures) at (c .if1 .taken)), search needs)
 
 add-wide : tie.Need-add-wide
 add-wide c = search needs
@@ -35,10 +36,12 @@ returns-2 c =
     let start = at4 .before .before in
     let t = start .args .t .now in
     let a = start .args .a in
-    let e : c .index-fault .result ≡ pick (validIn t 5 (getD t (a + 45) 0)) 0 13 = cc in
-    e
-    ∙ security-on t a (λ i. omega (arith, at4 .before .shared-slice-known .given i))
-    (rw (at4 .ssns-flags .ensures) at (c .before .before .before .if1 .left))
+    let read = ap (λ (n : ℕ). foundBy (validIn t) (index 5 n ∷ [])) (c .before .wide .ensures .0) in (
+      c .index-fault .ensures .0
+          ∙ read
+          ∙ security-on t a (λ i. omega (arith, at4 .before .shared-slice-known .given i)) (rw (at4 .ssns-flags .ensures) at (c .before .before .before .if1 .left)),
+      c .index-fault .ensures .1,
+    )
 
 pub security-index-spec : {M : Type 1} → statement M
 security-index-spec =

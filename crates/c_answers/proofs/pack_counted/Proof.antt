@@ -1,8 +1,8 @@
-use Rattle.c_answers.specs.Packed.{packedCompacted}
+use Rattle.c_answers.specs.Packed.{packedCounted}
 use native.Mathlib.Omega.{arith}
 use borrow.Author.Needs.{needs}
-use Rattle.c_answers.proofs.pack_compacted.Statement.{statement}
-use Rattle.c_answers.proofs.pack_compacted.Tie as tie
+use Rattle.c_answers.proofs.pack_counted.Statement.{statement}
+use Rattle.c_answers.proofs.pack_counted.Tie as tie
 
 pack-requires : tie.Need-pack-requires
 pack-requires c κs = search needs
@@ -17,8 +17,8 @@ add-result : tie.Need-add-result
 add-result c = search needs
 
 returns : tie.Need-returns
-unfolding packedCompacted
+unfolding packedCounted
 returns c = omega (arith, c .pack .ensures)
 
-pub pack-compacted-spec : {M : Type 1} → statement M
-pack-compacted-spec = tie.close (tie.spec pack-requires cast-low mul-result add-result returns)
+pub pack-counted-spec : {M : Type 1} → statement M
+pack-counted-spec = tie.close (tie.spec pack-requires cast-low mul-result add-result returns)
