@@ -6,7 +6,8 @@ use Prim.Native.Nat.{ℕ, suc, _+_, _*_, _%_, _<_}
 use lib.ListN.{length, getD, take, drop}
 use lib.Dec.{T, leb, ltb, eqb}
 use Rattle.table.specs.declared.Need.{Need}
-use Rattle.table.specs.Layout.{Body, Content, Entry, Env, Keep, Layout, Refs, Shape, Slots, baseOf, bytes, env, gone, image, isRight, isValid, low, more, nest, nil, none, plain, rec, sel, stop, unused, used, namesUsed}
+use Rattle.table.specs.Layout.{Body, Content, Entry, Env, Keep, Layout, Refs, Shape, Slots, baseOf, bytes, env, gone, image, isRight, isValid, low, more}
+use Rattle.table.specs.Layout.{namesUsed, nest, nil, none, plain, rec, sel, stop, unused, used}
 use Rattle.table.specs.Objects.{countIn, isUsed, usedIn}
 use Rattle.table.specs.Rules.{isSound, ruled}
 use Rattle.table.specs.Meaning.{Meaning}

@@ -18,7 +18,7 @@ use Rattle.table.specs.Objects.{countIn, readBody, readEntry, readList, readSlo
 use Rattle.table.specs.Rules.{entryRule, firstFail, firstOf, listRule, plainRule, refRule, refsRule, ruled}
 use Rattle.table.specs.Meaning.{meaning}
 use Rattle.table.specs.Numbers.{driverRule, heapIn, hostRule, tests}
-use Rattle.table.specs.Looks.{looks, looksBody, looksEntry, looksList, looksRecords, looksUsed, resolved, upTo}
+use Rattle.table.specs.Looks.{looks, looksBody, looksEntry, looksList, looksRecords, looksUsed, mostLooks, resolved, upTo}
 use Rattle.laws.specs.Sound.{first-of, pick-of}
 use Rattle.laws.specs.Fields.{Bytes, imageIn}
 use Rattle.laws.specs.ListWalk.{envIn, flag-is, flagOk, recordRule}
@@ -166,7 +166,7 @@ body-most named count heap t =
     omega (arith, i)
 
 -- on any bytes the looks are at most 1 + H + S * (4 + H) + C + 3 * D, by the stated counts
-pub looks-bound : (t : List ℕ) → looks t ≤ 1 + getD t 87 0 + getD t 95 0 * (4 + getD t 87 0) + getD t 103 0 + 3 * getD t 111 0
+pub looks-bound : (t : List ℕ) → looks t ≤ mostLooks t
 unfolding looks looksRecords meaning
 looks-bound t =
     pick-most (eqb (firstFail (tests t) .number) 0) _ _
@@ -178,15 +178,17 @@ looks-bound t =
     count : ℕ → ℕ
     count = countIn (readBody listKinds t 80)
 
-    lists : looksBody named count (heapIn t) t 80 (readBody listKinds t 80) ≤ getD t 87 0 + getD t 95 0 * (4 + getD t 87 0) + getD t 103 0 + 3 * getD t 111 0
-    lists = subst (λ (n : ℕ). looksBody named count (heapIn t) t 80 (readBody listKinds t 80) ≤ getD t 87 0 + getD t 95 0 * (4 + n) + getD t 103 0 + 3 * getD t 111 0) (counted t) (body-most named count (heapIn t) t)
+    body : ℕ
+    body = looksBody named count (heapIn t) t 80 (readBody listKinds t 80)
+
+    lists : body ≤ getD t 87 0 + getD t 95 0 * (4 + getD t 87 0) + getD t 103 0 + 3 * getD t 111 0
+    lists = subst (λ (n : ℕ). body ≤ getD t 87 0 + getD t 95 0 * (4 + n) + getD t 103 0 + 3 * getD t 111 0) (counted t) (body-most named count (heapIn t) t)
 
     own : looksEntry host named (heapIn t) (env count 0) t (num t 72 4) (readEntry host t (num t 72 4)) ≤ 1 + 0
     own = entry-most host named (heapIn t) (env count 0) t (num t 72 4) 0 (host-most (heapIn t) (env count 0) t (num t 72 4))
 
-    both : looksEntry host named (heapIn t) (env count 0) t (num t 72 4) (readEntry host t (num t 72 4))
-        + pick (eqb (hostRule t named count (readEntry host t (num t 72 4)) .number) 0) (looksBody named count (heapIn t) t 80 (readBody listKinds t 80)) 0
-        ≤ 1 + getD t 87 0 + getD t 95 0 * (4 + getD t 87 0) + getD t 103 0 + 3 * getD t 111 0
+    both : upTo (looksEntry host named (heapIn t) (env count 0) t (num t 72 4) (readEntry host t (num t 72 4)))
+        (hostRule t named count (readEntry host t (num t 72 4)) .number) body ≤ mostLooks t
     both =
         let x = pick-most (eqb (hostRule t named count (readEntry host t (num t 72 4)) .number) 0) _ _ lists in
         omega (arith, x, own)

@@ -178,7 +178,8 @@ pass-at t heap a v img (rec {p = p} {need = need} {shape = shape} {own = own} im
     (pass-at t heap a v img ss (f .2) (s .1))
 
 module _ (valid : ℕ → ℕ → Bool) (count : ℕ → ℕ) (t : List ℕ) (heap : Region) where
-  pub pass-used : (l : Layout) (a : ℕ) (v : Env) (img : List ℕ) (ss : Slots (l .refs)) → FitUsed l v img ss → T (namesUsed valid (l .indexes img ss)) → At t heap a img ss → usedRule l valid heap v t a img ss ≡ 0
+  pub pass-used : (l : Layout) (a : ℕ) (v : Env) (img : List ℕ) (ss : Slots (l .refs)) → FitUsed l v img ss → T (namesUsed valid (l .indexes img ss)) → At t heap a img ss
+      → usedRule l valid heap v t a img ss ≡ 0
   unfolding usedRule
   pass-used l a v img ss f n s =
       first-zero _ _ (pick-yes (isRight (l .shape) v img) 0 10 (f .right))

@@ -6,8 +6,12 @@ use lib.Dec.{eqb}
 use Rattle.table.specs.declared.Answer.{Answer}
 use Rattle.table.specs.declared.Region.{Region}
 use Rattle.table.specs.Bytes.{pick, num, odd}
-use Rattle.table.specs.Rules.{answer, done}
-use Rattle.reader_lists.specs.Lists.{usedFault, usedLooks}
+use Rattle.table.specs.FixedLayouts.{listKinds}
+use Rattle.table.specs.Objects.{readBody}
+use Rattle.table.specs.Rules.{answer, bodyRule, done}
+use Rattle.table.specs.Looks.{looksBody}
+use Rattle.laws.specs.ListWalk.{validIn}
+use Rattle.reader_lists.specs.Lists.{counts, usedFault, usedLooks}
 
 -- a number with its kind, outside lists
 abbrev pub numbered : ℕ → ℕ → Answer
@@ -17,6 +21,14 @@ numbered n k = pick (eqb n 0) done (answer n k 0)
 unfoldable pub hostFault : Region → List ℕ → Answer
 hostFault heap t = pick (odd (getD t (num t 72 4 + 1) 0)) (numbered (usedFault 2 heap t (num t 72 4) 0) 2) (answer 10 2 0)
 
--- its looks: one where it is not valid
+-- the four lists
+abbrev pub listsFault : Region → List ℕ → Answer
+listsFault heap t = bodyRule (validIn t) (counts t) heap t 80 (readBody listKinds t 80)
+
+-- their looks
+abbrev pub listsLooks : Region → List ℕ → ℕ
+listsLooks heap t = looksBody (validIn t) (counts t) heap t 80 (readBody listKinds t 80)
+
+-- those of the host: one where it is not valid
 unfoldable pub hostLooks : Region → List ℕ → ℕ
 hostLooks heap t = pick (odd (getD t (num t 72 4 + 1) 0)) (usedLooks 2 heap t (num t 72 4) 0) 1

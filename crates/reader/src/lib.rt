@@ -16,17 +16,12 @@ ghost use Prim.Native.Nat.{_+_, _≤_, _<_};
 ghost use lib.ListN.{length};
 ghost use Rattle.table.specs.Bytes.{num, part};
 ghost use Rattle.table.specs.Layout.{region};
-ghost use Rattle.table.specs.FixedLayouts.{host, listKinds};
-ghost use Rattle.table.specs.Objects.{readBody};
-ghost use Rattle.table.specs.Rules.{bodyRule};
 ghost use Rattle.table.specs.Meaning.{meaning};
 ghost use Rattle.table.specs.Numbers.{records, check};
-ghost use Rattle.table.specs.Looks.{looks, looksBody, looksRecords};
-ghost use Rattle.laws.specs.ListWalk.{validIn};
+ghost use Rattle.table.specs.Looks.{looks, looksRecords};
 ghost use Rattle.reader_frame.specs.Bounds.{LaidOut};
 ghost use Rattle.reader_rules.specs.Rules.{IsHeap};
-ghost use Rattle.reader_lists.specs.Lists.{counts};
-ghost use Rattle.reader.specs.Stages.{hostFault, hostLooks, numbered};
+ghost use Rattle.reader.specs.Stages.{hostFault, hostLooks, listsFault, listsLooks, numbered};
 
 // The heap, lent to the readers of records as the part of the table that it is; an empty one has no place.
 fn heap_of(t: &[u8], at: usize, len: usize) -> &[u8]
@@ -49,7 +44,7 @@ fn answer_of(number: u8, kind: u8) -> Answer
     table::refuse(number, kind, 0)
 }
 
-// What is found behind `looks` others.
+// What is found behind `looks` others. As in `reader_indexes` the bounds are there so that the sum does not wrap.
 fn behind(looks: usize, rest: Looked) -> Looked
     requires { ⌜ (looks ≤ 8796093022208) × (rest .looks ≤ 8796093022208) ⌝ }
     ensures { λ r. ⌜ (r .answer ≡ rest .answer) × (r .looks ≡ looks + rest .looks) ⌝ }
@@ -83,7 +78,7 @@ fn host_fault(t: &[u8], heap: &[u8], from: usize) -> Looked
 
 fn lists_fault(t: &[u8], heap: &[u8], from: usize) -> Looked
     requires { ⌜ LaidOut (now t) × IsHeap (now t) (now heap) from ⌝ }
-    ensures { λ r. ⌜ (r .answer ≡ bodyRule (validIn (now (t .entry))) (counts (now (t .entry))) (region from (length (now (heap .entry)))) (now (t .entry)) 80 (readBody listKinds (now (t .entry)) 80)) × (r .looks ≡ looksBody (validIn (now (t .entry))) (counts (now (t .entry))) (region from (length (now (heap .entry)))) (now (t .entry)) 80 (readBody listKinds (now (t .entry)) 80)) × (r .looks ≤ 8796093022208) ⌝ }
+    ensures { λ r. ⌜ (r .answer ≡ listsFault (region from (length (now (heap .entry)))) (now (t .entry))) × (r .looks ≡ listsLooks (region from (length (now (heap .entry)))) (now (t .entry))) × (r .looks ≤ 8796093022208) ⌝ }
 {
     let hfi = list_fault(t, Hfi::ID, Control::HFI_LIST, heap, from);
     if hfi.answer.number != 0 {

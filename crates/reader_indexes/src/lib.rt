@@ -75,7 +75,8 @@ pub fn valid_at(t: &[u8], kind: u8, n: usize) -> bool
     }
 }
 
-// What is found behind `looks` others.
+// What is found behind `looks` others. Where contracts of the reader bound looks, they do it coarsely, by the heap's length, so that no sum of looks wraps; what
+// is promised of the whole check is `looks-bound` in the crate laws.
 pub fn behind(looks: usize, rest: Found) -> Found
     requires { ⌜ (looks ≤ 8589934600) × (rest .looks ≤ 8589934600) ⌝ }
     ensures { λ r. ⌜ r ≡ after looks rest ⌝ }

@@ -1,8 +1,8 @@
 -- Cases: what a check, a read, a rewrite, a closing or a call of the builder is given, and what it must give; whether the definitions compute just that. Assumes nothing.
 use mathlib.Core.Bool.{Bool, true, false, not, _&&_}
 use mathlib.Core.List.{List, [], _∷_}
-use Prim.Native.Nat.{ℕ, _+_, _*_}
-use lib.ListN.{length, getD, replicate}
+use Prim.Native.Nat.{ℕ}
+use lib.ListN.{length, replicate}
 use lib.Dec.{eqb}
 use Rattle.table.specs.declared.Answer.{Answer}
 use Rattle.table.specs.declared.Image.{Image}
@@ -16,7 +16,7 @@ use Rattle.table.specs.Objects.{readSlots, readEntry, readList, readBody
 use Rattle.table.specs.Rules.{answer, done, listRegions, longEnough, versioned, refsRule, usedRule, entryRule, listRule, bodyRule}
 use Rattle.table.specs.Meaning.{limit, meaning, heapAt, heapLen, formLength, driverRef, minorOf, headFront, headBack, controlBytes, behind, laidOut, form}
 use Rattle.table.specs.Numbers.{heapIn, regions, tests, driverRule, hostRule, records, check}
-use Rattle.table.specs.Looks.{looksUsed, looksEntry, looksList, looksBody, looksRecords, looks}
+use Rattle.table.specs.Looks.{looksUsed, looksEntry, looksList, looksBody, looksRecords, mostLooks, looks}
 use Rattle.table.specs.Reads.{seatOf, readRecord, readField, readPlace, readObject}
 use Rattle.table.specs.Rewriting.{rewriteAnswer, rewrite, rewriteBytes}
 use Rattle.table.specs.Closing.{sitesOf, sitesEntry, sitesList, sitesBody, sites, overlapped, marks, slid, moved, goes, stored, mended, closedHeap, closed, closeAnswer, closeMoved, closeBytes, closeMap}
@@ -75,10 +75,7 @@ abbrev pub allLooked : List Look → Bool
 allLooked [] = true
 allLooked (c ∷ cs) = looked c && allLooked cs
 
--- the bound that the counts give, as `looks-bound` of the crate laws says it; whether the looks reach it
-abbrev pub mostLooks : List ℕ → ℕ
-mostLooks t = 1 + getD t 87 0 + getD t 95 0 * (4 + getD t 87 0) + getD t 103 0 + 3 * getD t 111 0
-
+-- whether there are as many as the counts allow
 abbrev pub reachesMost : Look → Bool
 reachesMost c = eqb (c .takes) (mostLooks (c .table))
 

@@ -1,7 +1,8 @@
 -- Rules 14 (docs/RULES.md), looks at records: one for each record visited, heap records apart, one for each index resolved, up to the answer. Definitions only.
 use mathlib.Core.Bool.{Bool, _&&_}
 use mathlib.Core.List.{List, [], _∷_}
-use Prim.Native.Nat.{ℕ, suc, _+_}
+use Prim.Native.Nat.{ℕ, suc, _+_, _*_}
+use lib.ListN.{getD}
 use lib.Dec.{eqb}
 use Rattle.table.specs.declared.Region.{Region}
 use Rattle.table.specs.Bytes.{pick, num}
@@ -54,6 +55,12 @@ looksRecords t m =
     let lists = looksBody named count (heapIn t) t 80 (m .lists) in
     let owner = looksEntry host named (heapIn t) (env count 0) t (referenceAt t 72 .at) (m .owner) in
     behind (driverRule t count .number) (upTo owner (hostRule t named count (m .owner) .number) lists)
+
+-- as many as the counts of the four lists allow, which is shown to hold on any bytes (`looks-bound` in the crate laws)
+abbrev pub mostLooks : List ℕ → ℕ
+mostLooks t =
+    let hfis = getD t 87 0 in
+    1 + hfis + getD t 95 0 * (4 + hfis) + getD t 103 0 + 3 * getD t 111 0
 
 -- none where one of tests 1 to 9 answers
 unfoldable pub looks : List ℕ → ℕ

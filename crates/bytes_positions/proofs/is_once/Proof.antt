@@ -30,18 +30,22 @@ wide-requires c κs = search picks
 array-read-if1 : tie.Need-array-read-if1 Inv-loop μ-loop
 array-read-if1 c = search picks
 
+-- a turn: the byte before those that were met
+turn : (c : tie.After-wide Inv-loop μ-loop) →
+    let l = c .before .before .before .loop in
+    let bytes = c .before .before .before .before .before .args .bytes .now in
+    (l .left - 1 < length bytes) × (suc (l .left - 1) ≡ l .left)
+turn c =
+    let some = c .before .before .loop-test .taken in
+    (omega (arith, some, c .before .before .before .loop .inv .0), omega (arith, some))
+
 returns : tie.Need-returns Inv-loop μ-loop
 returns c =
     let bytes = c .before .before .before .before .before .before .args .bytes .now in
     let l = c .before .before .before .before .loop in
-    let some = c .before .before .before .loop-test .taken in
-    let i = l .left - 1 in
-    let h : i < length bytes = omega (arith, some, l .inv .0) in
-    let next : suc i ≡ l .left = omega (arith, some) in
-    let w = c .before .wide .ensures in
-    let x = c .before .wide .result in
-    let m : Marks (l .met) (drop (suc i) bytes) = rw next (l .inv .2) in
-    marked-twice (l .met) bytes i x h (w .0) (w .1) m (c .if1 .taken)
+    let byte = c .before .wide in
+    let u = turn (c .before) in
+    marked-twice (l .met) bytes (l .left - 1) (byte .result) (u .0) (byte .ensures .0) (byte .ensures .1) (rw (u .1) (l .inv .2)) (c .if1 .taken)
 
 array-write-met : tie.Need-array-write-met Inv-loop μ-loop
 array-write-met c = search picks
@@ -53,18 +57,13 @@ loop-again : tie.Need-loop-again Inv-loop μ-loop
 loop-again c =
     let bytes = c .before .before .before .before .before .before .args .bytes .now in
     let l = c .before .before .before .before .loop in
-    let some = c .before .before .before .loop-test .taken in
-    let i = l .left - 1 in
-    let h : i < length bytes = omega (arith, some, l .inv .0) in
-    let next : suc i ≡ l .left = omega (arith, some) in
-    let w = c .before .wide .ensures in
-    let x = c .before .wide .result in
-    let m : Marks (l .met) (drop (suc i) bytes) = rw next (l .inv .2) in
-    let o : once (drop (suc i) bytes) ≡ true = rw next (l .inv .3) in (
-      omega (arith, h),
+    let byte = c .before .wide in
+    let u = turn (c .before) in
+    let m : Marks (l .met) (drop (suc (l .left - 1)) bytes) = rw (u .1) (l .inv .2) in (
+      omega (arith, u .0),
       search picks,
-      marks-more (l .met) bytes i x h (w .0) (w .1) m (l .inv .1),
-      marked-first (l .met) bytes i x h (w .0) (w .1) m (c .if1 .left) o,
+      marks-more (l .met) bytes (l .left - 1) (byte .result) (u .0) (byte .ensures .0) (byte .ensures .1) m (l .inv .1),
+      marked-first (l .met) bytes (l .left - 1) (byte .result) (u .0) (byte .ensures .0) (byte .ensures .1) m (c .if1 .left) (rw (u .1) (l .inv .3)),
     )
 
 returns-2 : tie.Need-returns-2 Inv-loop μ-loop
