@@ -8,24 +8,9 @@
 #include <stdio.h>
 #include <stdlib.h>
 
-/* Longer than any table: what a file has behind these bytes does not count. */
-static uint8_t table[70000];
+#include "whole_file.h"
 
 enum { HEAP_LENGTH = 40 };
-
-static size_t read_whole(const char *name)
-{
-    FILE *file = fopen(name, "rb");
-    size_t length;
-
-    if (file == NULL)
-        return 0;
-    length = fread(table, 1, sizeof table, file);
-    if (ferror(file))
-        length = 0;
-    fclose(file);
-    return length;
-}
 
 static int write_whole(const char *name, size_t length)
 {

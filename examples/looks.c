@@ -6,25 +6,10 @@
 #include <nbft.h>
 #include <stdio.h>
 
-/* Longer than any table: what a file has behind these bytes does not count. */
-static uint8_t table[70000];
+#include "whole_file.h"
 
 /* Where the counts of the four lists stand. */
 enum { HFI_COUNT = 87, SSNS_COUNT = 95, SECURITY_COUNT = 103, DISCOVERY_COUNT = 111 };
-
-static size_t read_whole(const char *name)
-{
-    FILE *file = fopen(name, "rb");
-    size_t length;
-
-    if (file == NULL)
-        return 0;
-    length = fread(table, 1, sizeof table, file);
-    if (ferror(file))
-        length = 0;
-    fclose(file);
-    return length;
-}
 
 /* The bytes behind a shorter file are zero, and so are the counts there. */
 static uint32_t most_looks(void)

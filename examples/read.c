@@ -6,8 +6,7 @@
 #include <nbft.h>
 #include <stdio.h>
 
-/* Longer than any table: what a file has behind these bytes does not count. */
-static uint8_t table[70000];
+#include "whole_file.h"
 
 /* Where the reads find what is printed: offsets in the records. */
 enum {
@@ -16,20 +15,6 @@ enum {
     SSNS_NSID = 24,
     SSNS_NQN = 54
 };
-
-static size_t read_whole(const char *name)
-{
-    FILE *file = fopen(name, "rb");
-    size_t length;
-
-    if (file == NULL)
-        return 0;
-    length = fread(table, 1, sizeof table, file);
-    if (ferror(file))
-        length = 0;
-    fclose(file);
-    return length;
-}
 
 /*
  * A text comes without the zero byte that ends it. What is no printable ASCII is

@@ -280,4 +280,4 @@ module _ (t : List ℕ) (b : (i : ℕ) → getD t i 0 < 256) where
       let x = first-both t b (listRule l valid count heap 1 t (num t c 4) (num t (c + 4) 2) es) _ e in
       let y = list-maybe l (ok-layout l (u .0)) valid count heap k lo hi n (num t c 4) (num t (c + 4) 2) (listRegions ls t (c + 8) rs) h (w .0) i
       (list-zero t b l valid count heap 1 (num t c 4) (num t (c + 4) 2) es (x .0)) in
-      (sym (length-readList t b l n (num t c 4) (num t (c + 4) 2)), y .0, body-found ls (u .1) valid count heap k (c + 8) lo hi rs h (w .1) (y .1) (x .1))
+      (sym (length-readList t l n (num t c 4) (num t (c + 4) 2)), y .0, body-found ls (u .1) valid count heap k (c + 8) lo hi rs h (w .1) (y .1) (x .1))

@@ -7,7 +7,7 @@ use native.Mathlib.Nat.{mul-le-mul-right}
 use native.Mathlib.Omega.{arith}
 use lib.ListN.{length, getD, drop}
 use lib.Dec.{T, leb, eqb, leb→le, eqb→eq, lit<}
-use borrow.Author.Tests.{eq-eqb}
+use borrow.Author.Tests.{eq-eqb, ne-eqb}
 use mir.Facts.{and-yes}
 use Rattle.table.specs.declared.Region.{Region}
 use Rattle.table.specs.declared.Need.the-variants.{Optional, Required}
@@ -18,8 +18,8 @@ use Rattle.table.specs.Objects.{countIn, readBody, readEntry, readList, readSlo
 use Rattle.table.specs.Rules.{entryRule, firstFail, firstOf, listRule, plainRule, refRule, refsRule, ruled}
 use Rattle.table.specs.Meaning.{meaning}
 use Rattle.table.specs.Numbers.{driverRule, heapIn, hostRule, tests}
-use Rattle.table.specs.Looks.{looks, looksBody, looksEntry, looksList, looksRecords, looksUsed, mostLooks, resolved, upTo}
-use Rattle.laws.specs.Sound.{first-of, pick-of}
+use Rattle.table.specs.Looks.{behind, looks, looksBody, looksEntry, looksList, looksRecords, looksUsed, mostLooks, resolved, upTo}
+use Rattle.laws.specs.Sound.{first-of, length-readList, pick-of}
 use Rattle.laws.specs.Fields.{Bytes, imageIn}
 use Rattle.laws.specs.ListWalk.{envIn, flag-is, flagOk, recordRule}
 
@@ -27,7 +27,7 @@ pick-most : (c : Bool) (x k : ℕ) → x ≤ k → pick c x 0 ≤ k
 pick-most true x k h = h
 pick-most false x k h = omega arith
 
-pub resolved-most : (named : ℕ → ℕ → Bool) (xs : List Index) → resolved named xs ≤ length xs
+resolved-most : (named : ℕ → ℕ → Bool) (xs : List Index) → resolved named xs ≤ length xs
 resolved-most named [] = omega arith
 resolved-most named (x ∷ xs) =
     let h = pick-most (named (x .kind) (x .position)) (resolved named xs) (length xs) (resolved-most named xs) in
@@ -71,7 +71,7 @@ list-most l named count heap t k h (suc n) pos a step =
 
 -- ---- the kinds
 
-pub each-length : (k : ℕ) (ns : List ℕ) → length (each k ns) ≡ length ns
+each-length : (k : ℕ) (ns : List ℕ) → length (each k ns) ≡ length ns
 each-length k [] = refl
 each-length k (n ∷ ns) = ap suc (each-length k ns)
 
@@ -98,7 +98,7 @@ discovery-most heap e t a r =
     omega (arith, unless-most (eqb (getD img 4 0) 0) (index 5 (getD img 4 0)) [])
 
 -- a list that passes has no more bytes than there are HFIs
-pub positions-most : (e : Env) (b : List ℕ) → ruled positions e b ≡ 0 → length b ≤ e .count 3
+positions-most : (e : Env) (b : List ℕ) → ruled positions e b ≡ 0 → length b ≤ e .count 3
 positions-most e [] r = omega arith
 positions-most e (b ∷ bs) r =
     let most = leb (length (b ∷ bs)) (e .count 3) in
@@ -128,14 +128,9 @@ ssns-most heap e t a r =
 
 -- ---- the table
 
-list-length : (l : Layout) (t : List ℕ) (n a step : ℕ) → length (readList l t a step n) ≡ n
-unfolding readList
-list-length l t zero a step = refl
-list-length l t (suc n) a step = ap suc (list-length l t n (a + step) step)
-
 counted : (t : List ℕ) → countIn (readBody listKinds t 80) 3 ≡ getD t 87 0
 unfolding countIn readBody hfi
-counted t = list-length hfi t (getD t 87 0) (num t 80 4) (num t 84 2)
+counted t = length-readList t hfi (getD t 87 0) (num t 80 4) (num t 84 2)
 
 -- the number of HFIs is the one stated, unused ones too
 pub hfi-count : (t : List ℕ) (pos : ℕ) → envIn t pos .count 3 ≡ getD t 87 0
@@ -204,22 +199,22 @@ looks-few t b =
 
 -- ---- none before the first record
 
-not-zero : (n x : ℕ) → (n ≡ 0 → ⊥) → pick (eqb n 0) x 0 ≡ 0
-not-zero n x h = go (eqb n 0) refl
-  where
-    go : (c : Bool) → eqb n 0 ≡ c → pick c x 0 ≡ 0
-    go true e = absurd (h (eqb→eq n 0 (rw e tt)))
-    go false e = refl
+-- behind a test that fails, and behind one that passes
+pub behind-stop : (n rest : ℕ) → (n ≡ 0 → ⊥) → behind n rest ≡ 0
+behind-stop n rest h = ap (λ (c : Bool). pick c rest 0) (ne-eqb n 0 h)
+
+pub behind-more : (n rest : ℕ) → n ≡ 0 → behind n rest ≡ rest
+behind-more n rest e = ap (λ (c : Bool). pick c rest 0) (eq-eqb n 0 e)
 
 -- refused by 1 to 9
 pub looks-early : (t : List ℕ) → (firstFail (tests t) .number ≡ 0 → ⊥) → looks t ≡ 0
 unfolding looks
-looks-early t h = not-zero (firstFail (tests t) .number) (looksRecords t (meaning t)) h
+looks-early t h = behind-stop (firstFail (tests t) .number) (looksRecords t (meaning t)) h
 
 -- refused by the driver signature
 pub looks-unsigned : (t : List ℕ) → (driverRule t (countIn (meaning t .lists)) .number ≡ 0 → ⊥) → looks t ≡ 0
 unfolding looks looksRecords
-looks-unsigned t h = ap (λ (n : ℕ). pick (eqb (firstFail (tests t) .number) 0) n 0) (not-zero (driverRule t (countIn (meaning t .lists)) .number) _ h) ∙ same-zero (eqb (firstFail (tests t) .number) 0)
+looks-unsigned t h = ap (λ (n : ℕ). pick (eqb (firstFail (tests t) .number) 0) n 0) (behind-stop (driverRule t (countIn (meaning t .lists)) .number) _ h) ∙ same-zero (eqb (firstFail (tests t) .number) 0)
   where
     same-zero : (c : Bool) → _≡_ {A = ℕ} (pick c 0 0) 0
     same-zero true = refl
@@ -257,9 +252,9 @@ pub looks-none : (l : Layout) (named : ℕ → ℕ → Bool) (count : ℕ → �
 unfolding looksWalk looksList readList
 looks-none l named count heap t step pos a = refl
 
--- behind a test that answers n
+-- the same with the looks of the test
 pub up-stop : (own n rest : ℕ) → (n ≡ 0 → ⊥) → upTo own n rest ≡ own
-up-stop own n rest h = omega (arith, not-zero n rest h)
+up-stop own n rest h = omega (arith, behind-stop n rest h)
 
 pub up-more : (own n rest : ℕ) → n ≡ 0 → upTo own n rest ≡ own + rest
-up-more own n rest e = ap (λ (c : Bool). own + pick c rest 0) (eq-eqb n 0 e)
+up-more own n rest e = ap (λ (k : ℕ). own + k) (behind-more n rest e)

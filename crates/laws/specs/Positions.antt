@@ -66,7 +66,7 @@ body-placed [] named count heap t c b = lit< tt
 body-placed (l ∷ ls) named count heap t c b =
     let es = readList l t (num t c 4) (num t (c + 4) 2) (getD t (c + 7) 0) in
     both (listRule l named count heap 1 t (num t c 4) (num t (c + 4) 2) es) (bodyRule named count heap t (c + 8) (readBody ls t (c + 8)))
-    (list-placed l named count heap t (num t (c + 4) 2) 1 (num t c 4) es (omega (arith, length-readList t b l (getD t (c + 7) 0) (num t c 4) (num t (c + 4) 2), b (c + 7))))
+    (list-placed l named count heap t (num t (c + 4) 2) 1 (num t c 4) es (omega (arith, length-readList t l (getD t (c + 7) 0) (num t c 4) (num t (c + 4) 2), b (c + 7))))
     (body-placed ls named count heap t (c + 8) b)
 
 pub check-placed : (t : List ℕ) → Bytes t → check t .position < 256

@@ -55,6 +55,12 @@ val-bound (suc n) (x ∷ xs) b =
     let r : val (take n xs) < 256 ^ n = val-bound n xs (λ i. b (suc i)) in
     rw pow-suc (omega arith)
 
+-- as many records are read as there are to be
+pub length-readList : (t : List ℕ) (l : Layout) (n a step : ℕ) → length (readList l t a step n) ≡ n
+unfolding readList
+length-readList t l zero a step = refl
+length-readList t l (suc n) a step = ap suc (length-readList t l n (a + step) step)
+
 module _ (t : List ℕ) (b : (i : ℕ) → getD t i 0 < 256) where
   pub num-bound : (a n : ℕ) → num t a n < 256 ^ n
   num-bound a n = val-bound n (drop a t) (λ i. rw (getD-drop a t i 0) (b (a + i)))
@@ -188,11 +194,6 @@ module _ (t : List ℕ) (b : (i : ℕ) → getD t i 0 < 256) where
       let y = list-fit l o valid count heap k n (suc pos) (a + step) step (u .1) in
       ((x .0, y .0), (x .1, y .1))
 
-  pub length-readList : (l : Layout) (n a step : ℕ) → length (readList l t a step n) ≡ n
-  unfolding readList
-  length-readList l zero a step = refl
-  length-readList l (suc n) a step = ap suc (length-readList l n (a + step) step)
-
   pub first-both : (x y : Answer) → first x y ≡ done → (x .number ≡ 0) × (y ≡ done)
   first-both x y e = go (x .number) refl e
     where
@@ -231,4 +232,4 @@ module _ (t : List ℕ) (b : (i : ℕ) → getD t i 0 < 256) where
       let x = first-both (listRule l valid count heap 1 t (num t c 4) (num t (c + 4) 2) es) _ e in
       let y = list-fit l (ok-layout l (u .0)) valid count heap k (getD t (c + 7) 0) 1 (num t c 4) (num t (c + 4) 2) (list-zero l valid count heap 1 (num t c 4) (num t (c + 4) 2) es (x .0)) in
       let z = body-fit ls (u .1) valid count heap k (c + 8) (x .1) in
-      ((y .0, rw (length-readList l (getD t (c + 7) 0) (num t c 4) (num t (c + 4) 2)) (b (c + 7)), z .0), (y .1, z .1))
+      ((y .0, rw (length-readList t l (getD t (c + 7) 0) (num t c 4) (num t (c + 4) 2)) (b (c + 7)), z .0), (y .1, z .1))

@@ -137,13 +137,6 @@ pub looks-are : (t : List ℕ) → behind (firstFail (tests t) .number) (looksRe
 unfolding looks
 looks-are t = refl
 
--- none behind a test that fails
-pub looks-stop : (n rest : ℕ) → (n ≡ 0 → ⊥) → 0 ≡ behind n rest
-looks-stop n rest h = sym (ap (λ (c : Bool). pick c rest 0) (ne-eqb n 0 h))
-
-pub looks-more : (n rest : ℕ) → n ≡ 0 → rest ≡ behind n rest
-looks-more n rest e = sym (ap (λ (c : Bool). pick c rest 0) (eq-eqb n 0 e))
-
 -- ---- the first of two answers
 
 pub answer-stop : {r x : Answer} (y : Answer) → r ≡ x → (r .number ≡ 0 → ⊥) → r ≡ first x y

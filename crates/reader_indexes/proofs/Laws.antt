@@ -13,14 +13,14 @@ use borrow.Author.Tests.{eq-eqb, ne-eqb, eqb-true, eqb-false}
 use Rattle.table.specs.declared.Region.{Region}
 use Rattle.table.specs.declared.Need.the-variants.{Optional}
 use Rattle.table.specs.declared.Found.{Found}
-use Rattle.table.specs.declared.Need.{Need}
 use Rattle.table.specs.Bytes.{pick, part, num}
-use Rattle.table.specs.Layout.{Content, Env, Index, Layout, Refs, each, image, index, namedAt, plain, referenceAt, region, slotAt, unless}
+use Rattle.table.specs.Layout.{Index, Layout, each, image, index, namedAt, positions, referenceAt, region, slotAt, unless}
 use Rattle.table.specs.FixedLayouts.{layoutOf, header, control, host, hfi, ssns, security, discovery, info, extended, hfiExtended, noKind}
-use Rattle.table.specs.Objects.{readSlots, readBody, usedIn, under}
-use Rattle.table.specs.Rules.{refRule, plainRule, refsRule, reaches, ruled}
+use Rattle.table.specs.Objects.{readSlots, readBody, usedIn}
+use Rattle.table.specs.Rules.{refRule, reaches, ruled}
 use Rattle.laws.specs.ImageLaws.{image-at}
 use Rattle.laws.specs.IndexLaws.{after, after-after, found, found-assoc, found-more, found-stop, found-unless, foundBy, firstFound, one-look}
+use Rattle.laws.specs.LookLaws.{ssns-list}
 use Rattle.laws.specs.Sound.{first-of}
 use Rattle.laws.specs.Fields.{Bytes, imageIn, whole, two-bytes}
 use Rattle.laws.specs.ListWalk.{validIn, envIn, flagged, flagged-is}
@@ -175,21 +175,11 @@ module _ (v : ℕ → ℕ → Bool) (x : List ℕ) (i : ℕ) where
   list-none h = rw (drop-of-length-le x h) (ap (found 0) (omega arith))
 
 -- its reference, as the record's references have passed
-plain-passes : (heap : Region) (e : Env) (t : List ℕ) (a : ℕ) (img : List ℕ) (p : ℕ) (need : List ℕ → Need) (content : Content) (rest : Refs) → refsRule heap e t a img (plain p need content rest) ≡ 0
-    → (refRule heap (need img) (referenceAt t (a + p) .at) (referenceAt t (a + p) .len) ≡ 0) × (refsRule heap e t a img rest ≡ 0)
-unfolding refsRule
-plain-passes heap e t a img p need content rest z =
-    let u = first-of (plainRule heap (need img) content e t (a + p)) (refsRule heap e t a img rest) z in
-    (first-of (refRule heap (need img) (referenceAt t (a + p) .at) (referenceAt t (a + p) .len)) (under (need img) 0 (ruled content e (namedAt t (a + p)))) (u .0) .0, u .1)
-
 secondary-passed : (heap : Region) (t : List ℕ) (a pos : ℕ) → RefsPass 4 heap t a pos → refRule heap Optional (referenceAt t (a + 48) .at) (referenceAt t (a + 48) .len) ≡ 0
-unfolding refsFault layoutOf ssns
+unfolding refsFault layoutOf
 secondary-passed heap t a pos p =
-    let e = envIn t pos in
-    let img = imageIn ssns t a in
-    let u = plain-passes heap e t a img _ _ _ _ (p .passed) in
-    let v = plain-passes heap e t a img _ _ _ _ (u .1) in
-    plain-passes heap e t a img _ _ _ _ (v .1) .0
+    first-of (refRule heap Optional (referenceAt t (a + 48) .at) (referenceAt t (a + 48) .len)) (ruled positions (envIn t pos) (namedAt t (a + 48)))
+    (ssns-list heap (envIn t pos) t a (imageIn ssns t a) (p .passed)) .0
 
 -- so that what it names is just the part of the heap that is handed on
 passed-part : (t heap : List ℕ) (from : ℕ) → IsHeap t heap from → (off len : ℕ) → refRule (region from (length heap)) Optional off len ≡ 0 → partIn heap from off len ≡ part t off len

@@ -6,7 +6,7 @@ use Prim.Native.Nat.{ℕ, zero, suc, _+_, _-_, _/_, _%_, _≤_, _<_}
 use native.Mathlib.Omega.{arith}
 use lib.ListN.{length, getD, drop, length-take, length-drop}
 use lib.Seq.{getD-drop, getD-take}
-use lib.Dec.{T, eqb, eqb→eq, leb·zero}
+use lib.Dec.{T, eqb, eqb→eq}
 use mir.Facts.{and-yes}
 use borrow.Author.Tests.{ne-eqb, eqb-true}
 use Rattle.table.specs.declared.Region.{Region}
@@ -23,6 +23,7 @@ use Rattle.laws.specs.RefWalk.{firstOver, ruleAt, nestAt, plain-at, plainBy, al
 use Rattle.laws.specs.ListWalk.{envIn}
 use Rattle.laws.specs.LookLaws.{hfi-count}
 pub use Rattle.reader_references.proofs.Laws.{Inside, reached}
+use Rattle.reader_references.proofs.Laws.{positions-free}
 use Rattle.reader_rules.specs.Rules.{IsHeap, refFault}
 use Rattle.reader_references.specs.References.{partIn, askedRule, textRule, objectRule, positionsRule}
 use Rattle.layout_fields.specs.Texts.{isOfText}
@@ -92,7 +93,7 @@ module _ (t heap : List ℕ) (from : ℕ) (h : IsHeap t heap from) where
       → askedRule n (positionsRule (e .count 3)) heap from r ≡ plainBy (region from (length heap)) n positions e r (part t (r .at) (r .len))
   positions-are e n r = asked-is e n positions (positionsRule (e .count 3)) same r where
     same : (b : List ℕ) → positionsRule (e .count 3) b ≡ ruled positions e b
-    same [] = rw (leb·zero (e .count 3))
+    same [] = positions-free (e .count 3)
     same (b ∷ bs) = refl
 
 -- where counts do not matter
@@ -320,10 +321,10 @@ unfolding refFault layoutOf ruleAt hfi
 hfi-other heap t a pos q e = rw e
 
 -- the list of SSNS 48
-pub ssns-list : (t heap : List ℕ) (from a pos : ℕ) (h : IsHeap t heap from)
+pub secondary-is : (t heap : List ℕ) (from a pos : ℕ) (h : IsHeap t heap from)
     → askedRule Optional (positionsRule (getD t 87 0)) heap from (referenceAt t (a + 48)) ≡ refFault 4 (region from (length heap)) t a pos 48
 unfolding refFault layoutOf ssns
-ssns-list t heap from a pos h =
+secondary-is t heap from a pos h =
     ap (λ (n : ℕ). askedRule Optional (positionsRule n) heap from (referenceAt t (a + 48))) (sym (hfi-count t pos))
     ∙ positions-are t heap from h (envIn t pos) Optional (referenceAt t (a + 48))
     ∙ sym (plain-at (region from (length heap)) (envIn t pos) t a (imageIn ssns t a) (ssns .refs) 48 tt)

@@ -1,7 +1,8 @@
 use mathlib.Core.Path.{sym, ap, _∙_}
 use Rattle.table.specs.declared.Answer.{Answer}
 use Rattle.reader_frame.proofs.Laws.{laid-out}
-use Rattle.reader.proofs.Laws.{answer-stop, answer-more, check-is, looks-are, looks-more, looks-stop}
+use Rattle.laws.specs.LookLaws.{behind-more, behind-stop}
+use Rattle.reader.proofs.Laws.{answer-stop, answer-more, check-is, looks-are}
 use borrow.Author.Needs.{needs}
 use Rattle.reader.proofs.check_looks.Statement.{statement}
 use Rattle.reader.proofs.check_looks.Tie as tie
@@ -14,7 +15,7 @@ returns c =
     let t = c .before .before .before .before .args .t .now in
     let fault = c .before .before .frame-fault .ensures in (
       answer-stop _ fault (c .if1 .taken) ∙ check-is t,
-      looks-stop _ _ (λ z. c .if1 .taken (ap (λ (x : Answer). x .number) fault ∙ z)) ∙ looks-are t,
+      sym (behind-stop _ _ (λ z. c .if1 .taken (ap (λ (x : Answer). x .number) fault ∙ z))) ∙ looks-are t,
     )
 
 records-fault-requires : tie.Need-records-fault-requires
@@ -27,7 +28,7 @@ returns-2 c =
     let framed = c .before .if1 .left in
     let records = c .records-fault .ensures in (
       answer-more fault framed (records .0) ∙ check-is t,
-      records .1 ∙ looks-more _ _ (sym (ap (λ (x : Answer). x .number) fault) ∙ framed) ∙ looks-are t,
+      records .1 ∙ sym (behind-more _ _ (sym (ap (λ (x : Answer). x .number) fault) ∙ framed)) ∙ looks-are t,
     )
 
 pub check-looks-spec : {M : Type 1} → statement M

@@ -7,7 +7,8 @@ use Rattle.table.specs.declared.Answer.{Answer}
 use Rattle.table.specs.Layout.{region}
 use Rattle.table.specs.FixedLayouts.{layoutOf, header}
 use Rattle.reader.specs.Stages.{numbered}
-use Rattle.reader.proofs.Laws.{answer-stop, answer-more, heap-at, look-more, look-stop, looks-more, looks-stop, parts-are, parts-look}
+use Rattle.laws.specs.LookLaws.{behind-more, behind-stop}
+use Rattle.reader.proofs.Laws.{answer-stop, answer-more, heap-at, look-more, look-stop, parts-are, parts-look}
 use borrow.Author.Needs.{needs}
 use Rattle.reader.proofs.parts_fault.Statement.{statement}
 use Rattle.reader.proofs.parts_fault.Tie as tie
@@ -30,7 +31,7 @@ returns c =
     let same = heap-at t (a .from) (length (a .heap .now)) (start .pre .2) (start .pre .3) in
     let driver = c .before .before .answer-of .ensures ∙ ap (λ (v : ℕ). numbered v 0) (c .before .before .before .refs-fault .ensures) in (
       answer-stop _ driver (c .if1 .taken) ∙ parts-are t heap same,
-      looks-stop _ _ (λ z. c .if1 .taken (ap (λ (x : Answer). x .number) driver ∙ z)) ∙ parts-look t heap same,
+      sym (behind-stop _ _ (λ z. c .if1 .taken (ap (λ (x : Answer). x .number) driver ∙ z))) ∙ parts-look t heap same,
     )
 
 host-fault-requires : tie.Need-host-fault-requires
@@ -47,7 +48,7 @@ returns-2 c =
     let signed = c .before .before .before .if1 .left in
     let host = c .before .before .host-fault .ensures in (
       answer-more driver signed (answer-stop _ (host .0) (c .if2 .taken)) ∙ parts-are t heap same,
-      look-stop (host .0) (host .1) _ (c .if2 .taken) ∙ looks-more _ _ (sym (ap (λ (x : Answer). x .number) driver) ∙ signed) ∙ parts-look t heap same,
+      look-stop (host .0) (host .1) _ (c .if2 .taken) ∙ sym (behind-more _ _ (sym (ap (λ (x : Answer). x .number) driver) ∙ signed)) ∙ parts-look t heap same,
     )
 
 lists-fault-requires : tie.Need-lists-fault-requires
@@ -73,7 +74,7 @@ returns-3 c =
       answer-more driver signed (answer-more (host .0) owned (rest .0 ∙ lists .0)) ∙ parts-are t heap same,
       rest .1
           ∙ look-more (host .0) (host .1) owned (lists .1)
-          ∙ looks-more _ _ (sym (ap (λ (x : Answer). x .number) driver) ∙ signed)
+          ∙ sym (behind-more _ _ (sym (ap (λ (x : Answer). x .number) driver) ∙ signed))
           ∙ parts-look t heap same,
     )
 

@@ -4,7 +4,7 @@ use Rattle.table.specs.Layout.{referenceAt}
 use Rattle.layout_needs.specs.Needs.{ssnsNeed}
 use Rattle.reader_references.proofs.Laws.{as-text, as-bytes}
 use borrow.Author.Tests.{ne-eqb}
-use Rattle.reader_rules.proofs.HeapLaws.{ssns-list, ssns-plain}
+use Rattle.reader_rules.proofs.HeapLaws.{secondary-is, ssns-plain}
 use borrow.Author.Needs.{needs}
 use Rattle.reader_rules.proofs.ssns_ref.Statement.{statement}
 use Rattle.reader_rules.proofs.ssns_ref.Tie as tie
@@ -22,7 +22,7 @@ returns-2 : tie.Need-returns-2
 returns-2 c =
     let start = c .before .before .before .before .before in
     let a = start .args in
-    rw (c .before .if2 .taken) (c .secondary-ref .ensures ∙ ssns-list (a .t .now) (a .heap .now) (a .from) (a .a) (a .position) (start .pre .2))
+    rw (c .before .if2 .taken) (c .secondary-ref .ensures ∙ secondary-is (a .t .now) (a .heap .now) (a .from) (a .a) (a .position) (start .pre .2))
 
 ssns-flags-requires : tie.Need-ssns-flags-requires
 ssns-flags-requires c κs = search needs
