@@ -1,4 +1,4 @@
--- What the proofs of the lines share: where two rows differ, the number of a short row, the digits of a row and of a number, and columns behind one another. Assumes nothing.
+-- What the proofs of the lines share: where two rows differ, the number of a short row, the digits of a number, and columns behind one another. Assumes nothing.
 use mathlib.Core.Path.{_≡_, refl, ap, _∙_}
 use mathlib.Core.Bool.{Bool, true, false, cond}
 use mathlib.Core.List.{List, [], _∷_, _++_, append-assoc}
@@ -14,8 +14,7 @@ use Rattle.table.specs.Bytes.{val}
 use Rattle.laws.specs.Sound.{num-bound}
 use Rattle.text.specs.Ascii.{ascii}
 use Rattle.text.specs.Numerals.{digitsOf, numeral}
-use Rattle.text_hex.specs.Hexadecimal.{hexOf}
-use Rattle.changes.specs.Changes.{differAt, hexesOf, spaced}
+use Rattle.changes.specs.Changes.{differAt, spaced}
 
 -- ---- the first byte that differs, of two rows that are the same up to i
 
@@ -53,9 +52,6 @@ module _ (xs : List ℕ) (i : ℕ) where
   val-small h b = rw (take-all 4 (drop i xs) (simp length-drop (omega arith))) at (num-bound xs b i 4)
 
 -- ---- digits
-
-pub hexes-on : (xs : List ℕ) (i : ℕ) → i < length xs → hexesOf (drop i xs) ≡ hexOf 2 (getD xs i 0) ++ hexesOf (drop (i + 1) xs)
-hexes-on xs i h = rw (add-one i, drop-cons xs i 0 h) refl
 
 -- a number below ten to the d has at most d digits
 digits-few : (d k n : ℕ) → n < 10 ^ d → length (digitsOf k n) ≤ d

@@ -11,7 +11,7 @@ use Rattle.table.specs.Meaning.{Meaning}
 use Rattle.table.specs.Reads.{widthAt}
 use Rattle.text.specs.Ascii.{ascii}
 use Rattle.text.specs.Numerals.{numeral}
-use Rattle.text_hex.specs.Hexadecimal.{hexOf}
+use Rattle.text_hex.specs.Hexadecimal.{hexesOf}
 
 -- ---- lines
 
@@ -104,10 +104,6 @@ changes m n =
     ++ (entryLines 0 (m .owner) (n .owner) ++ bodyLines (m .lists) (n .lists)))
 
 -- ---- a line's bytes
-
-abbrev pub hexesOf : List ℕ → List ℕ
-hexesOf [] = []
-hexesOf (b ∷ bs) = hexOf 2 b ++ hexesOf bs
 
 -- a field of up to four bytes is a number; a longer one is a row of bytes, in the order of the table
 abbrev pub valueOf : List ℕ → List ℕ

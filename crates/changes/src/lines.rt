@@ -5,7 +5,7 @@ use text::append::empty;
 use text::append::with_byte;
 use text::append::with_bytes;
 use text::decimals::with_number;
-use text_hex::with_hex_byte;
+use text_hex::with_hexes;
 ghost use mathlib.Core.Path.{_≡_};
 ghost use mathlib.Core.List.{[], _∷_, _++_};
 ghost use Prim.Native.Nat.{_+_, _≤_, _<_};
@@ -14,7 +14,7 @@ ghost use Rattle.io.specs.Counts.{Counts};
 ghost use Rattle.table.specs.Bytes.{val};
 ghost use Rattle.text.specs.Ascii.{ascii};
 ghost use Rattle.text.specs.Numerals.{numeral};
-ghost use Rattle.changes.specs.Changes.{differAt, fields, hexesOf, objects, onlyOn, spaced, textOf, usedOn, valueOf};
+ghost use Rattle.changes.specs.Changes.{differAt, fields, objects, onlyOn, spaced, textOf, usedOn, valueOf};
 
 // Where two rows of bytes first differ; the shorter length where one begins the other.
 pub fn differ_at(one: &[u8], other: &[u8]) -> usize
@@ -62,20 +62,6 @@ fn number_of(x: &[u8]) -> usize
         left -= 1;
     }
     number
-}
-
-// The bytes of a row in hexadecimal, in the order of the table.
-fn with_hexes(t: Text, x: &[u8]) -> Text
-    requires { ⌜ Counts (t .len) (t .bytes) × (t .len + 32 ≤ 128) × (length (now x) ≤ 16) ⌝ }
-    ensures { λ r. ⌜ (r .len ≤ t .len + 32) × Counts (r .len) (r .bytes) × (take (r .len) (r .bytes) ≡ take (t .len) (t .bytes) ++ hexesOf (now (x .entry))) ⌝ }
-{
-    let mut longer = t;
-    let mut i: usize = 0;
-    while i < x.len() {
-        longer = with_hex_byte(longer, x[i]);
-        i += 1;
-    }
-    longer
 }
 
 // A field's value: a number where it has at most four bytes.

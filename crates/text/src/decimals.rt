@@ -7,7 +7,7 @@ ghost use mathlib.Core.List.{_++_};
 ghost use Prim.Native.Nat.{_+_, _≤_};
 ghost use lib.ListN.{take};
 ghost use Rattle.io.specs.Counts.{Counts};
-ghost use Rattle.text.specs.Numerals.{digitsOf, numeral, numbersLine};
+ghost use Rattle.text.specs.Numerals.{digitsOf, numeral, numbersLine, signedNumeral};
 
 // The digits before a number's last one; `most` bounds them, so that the calls end.
 fn with_digits(t: Text, n: u64, most: usize) -> Text
@@ -34,6 +34,19 @@ pub fn decimal(n: u64) -> Text
     ensures { λ r. ⌜ Counts (r .len) (r .bytes) × (take (r .len) (r .bytes) ≡ numeral n) ⌝ }
 {
     with_number(empty(), n)
+}
+
+// Four bytes that may be a signed number, as that number. What does not fit into four bytes has no sign.
+pub fn signed_decimal(n: u64) -> Text
+    ensures { λ r. ⌜ Counts (r .len) (r .bytes) × (take (r .len) (r .bytes) ≡ signedNumeral n) ⌝ }
+{
+    if n < 2147483648 {
+        return decimal(n);
+    }
+    if n < 4294967296 {
+        return with_number(with_byte(empty(), b'-'), 4294967296 - n);
+    }
+    decimal(n)
 }
 
 pub fn numbers_line(a: u64, b: u64, c: u64) -> Text

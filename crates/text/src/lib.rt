@@ -6,3 +6,4 @@ pub mod decimals; // numbers
 pub use append::Text;
 pub use decimals::decimal;
 pub use decimals::numbers_line;
+pub use decimals::signed_decimal;

@@ -11,7 +11,8 @@ use lib.ListN.{length, getD, take, drop, length-take, drop-of-length-le}
 use lib.Seq.{drop-cons}
 use borrow.Author.Tests.{leb-true, leb-false, le-leb, lt-leb}
 use Rattle.text.specs.Ascii.{ascii}
-use Rattle.text_addresses.specs.Addresses.{groups, group, behindColons, colons, zerosFirst, longestRun, startOf}
+use Rattle.text_hex.specs.Hexadecimal.{unpaddedOf}
+use Rattle.text_addresses.specs.Addresses.{groups, behindColons, colons, zerosFirst, longestRun, startOf}
 use Rattle.text_addresses.specs.Runs.{firstWith, joined, runsOf}
 use Rattle.text_addresses.specs.declared.Runs.{Runs}
 
@@ -100,11 +101,11 @@ module _ (xs gs : List ℕ) (i to : ℕ) (few : to ≤ length gs) where
   within : i < to → i < length (take to gs)
   within h = simp length-take (omega arith)
 
-  pub colon-step : i < to → xs ++ behindColons (drop i (take to gs)) ≡ xs ++ ascii ":" ++ group (getD (take to gs) i 0) ++ behindColons (drop (i + 1) (take to gs))
+  pub colon-step : i < to → xs ++ behindColons (drop i (take to gs)) ≡ xs ++ ascii ":" ++ unpaddedOf (getD (take to gs) i 0) ++ behindColons (drop (i + 1) (take to gs))
   unfolding behindColons
   colon-step h = rw (add-one i, drop-cons (take to gs) i 0 (within h)) (simp append-assoc)
 
-  pub group-step : i < to → xs ++ colons (drop i (take to gs)) ≡ xs ++ group (getD (take to gs) i 0) ++ behindColons (drop (i + 1) (take to gs))
+  pub group-step : i < to → xs ++ colons (drop i (take to gs)) ≡ xs ++ unpaddedOf (getD (take to gs) i 0) ++ behindColons (drop (i + 1) (take to gs))
   unfolding colons
   group-step h = rw (add-one i, drop-cons (take to gs) i 0 (within h)) (simp append-assoc)
 

@@ -7,7 +7,7 @@ use lib.Dec.{eqb, ltb, leb}
 use lib.ListN.{getD, take, drop, replicate}
 use Rattle.text.specs.Ascii.{ascii}
 use Rattle.text.specs.Numerals.{numeral, digitsOf}
-use Rattle.text_hex.specs.Hexadecimal.{hexDigit, hexOf}
+use Rattle.text_hex.specs.Hexadecimal.{hexDigit, hexOf, unpaddedOf}
 
 -- two bytes are a group, the high one first
 unfoldable pub groups : List ℕ → List ℕ
@@ -15,18 +15,14 @@ groups [] = []
 groups (x ∷ []) = []
 groups (x ∷ (y ∷ bs)) = (x * 256 + y) ∷ groups bs
 
--- a group without zeros in front
-unfoldable pub group : ℕ → List ℕ
-group g = cond (ltb g 16) (hexOf 1 g) (cond (ltb g 256) (hexOf 2 g) (cond (ltb g 4096) (hexOf 3 g) (hexOf 4 g)))
-
--- each group behind a colon, and groups with a colon between
+-- groups without zeros in front: each behind a colon, and with a colon between
 unfoldable pub behindColons : List ℕ → List ℕ
 behindColons [] = []
-behindColons (g ∷ gs) = ascii ":" ++ group g ++ behindColons gs
+behindColons (g ∷ gs) = ascii ":" ++ unpaddedOf g ++ behindColons gs
 
 unfoldable pub colons : List ℕ → List ℕ
 colons [] = []
-colons (g ∷ gs) = group g ++ behindColons gs
+colons (g ∷ gs) = unpaddedOf g ++ behindColons gs
 
 -- how many zero groups come first, how many the longest run has, and where the first run of n or more starts
 unfoldable pub zerosFirst : List ℕ → ℕ
@@ -65,19 +61,19 @@ unfolding addressOf mapped groups sixOf without colons behindColons longestRun s
 unspecified = refl
 
 pub loopback : addressOf (replicate 15 0 ++ (1 ∷ [])) ≡ ascii "::1"
-unfolding addressOf mapped groups sixOf without colons behindColons group longestRun startOf zerosFirst hexOf hexDigit
+unfolding addressOf mapped groups sixOf without colons behindColons unpaddedOf longestRun startOf zerosFirst hexOf hexDigit
 loopback = refl
 
 pub network : addressOf (0xfe ∷ (0x80 ∷ replicate 14 0)) ≡ ascii "fe80::"
-unfolding addressOf mapped groups sixOf without colons behindColons group longestRun startOf zerosFirst hexOf hexDigit
+unfolding addressOf mapped groups sixOf without colons behindColons unpaddedOf longestRun startOf zerosFirst hexOf hexDigit
 network = refl
 
 pub first-of-equals : sixOf (0x2001 ∷ 0xdb8 ∷ 0 ∷ 0 ∷ 1 ∷ 0 ∷ 0 ∷ 1 ∷ []) ≡ ascii "2001:db8::1:0:0:1"
-unfolding sixOf without colons behindColons group longestRun startOf zerosFirst hexOf hexDigit
+unfolding sixOf without colons behindColons unpaddedOf longestRun startOf zerosFirst hexOf hexDigit
 first-of-equals = refl
 
 pub one-alone : sixOf (0x2001 ∷ 0xdb8 ∷ 0 ∷ 1 ∷ 1 ∷ 1 ∷ 1 ∷ 1 ∷ []) ≡ ascii "2001:db8:0:1:1:1:1:1"
-unfolding sixOf without colons behindColons group longestRun startOf zerosFirst hexOf hexDigit
+unfolding sixOf without colons behindColons unpaddedOf longestRun startOf zerosFirst hexOf hexDigit
 one-alone = refl
 
 pub mapped-quad : addressOf (replicate 10 0 ++ (255 ∷ 255 ∷ 192 ∷ 168 ∷ 101 ∷ 40 ∷ [])) ≡ ascii "192.168.101.40"

@@ -4,7 +4,7 @@ use text::append::empty;
 use text::append::with_byte;
 use text::append::with_bytes;
 use text::decimals::with_number;
-use text_hex::with_hex;
+use text_hex::with_unpadded;
 ghost use mathlib.Core.Path.{_≡_};
 ghost use mathlib.Core.List.{_++_};
 ghost use Prim.Native.Nat.{_+_, _*_, _≤_, _<_};
@@ -12,7 +12,7 @@ ghost use lib.ListN.{length, take, drop, getD};
 ghost use Rattle.io.specs.Counts.{Counts};
 ghost use Rattle.text.specs.Ascii.{ascii};
 ghost use Rattle.text.specs.Numerals.{numeral};
-ghost use Rattle.text_addresses.specs.Addresses.{groups, group, behindColons, colons, zerosFirst, longestRun, startOf, sixOf, mapped, quadOf, addressOf};
+ghost use Rattle.text_addresses.specs.Addresses.{groups, behindColons, colons, zerosFirst, longestRun, startOf, sixOf, mapped, quadOf, addressOf};
 ghost use Rattle.text_addresses.specs.Runs.{firstWith, joined, runsOf};
 
 // The zero groups in a part of an address: how many come first, and where the longest run starts and how
@@ -85,22 +85,6 @@ fn runs_in(b: &[u8]) -> Runs
     r
 }
 
-fn with_group(t: Text, g: u64) -> Text
-    requires { ⌜ Counts (t .len) (t .bytes) × (t .len + 4 ≤ 128) × (g < 65536) ⌝ }
-    ensures { λ r. ⌜ (r .len ≤ t .len + 4) × Counts (r .len) (r .bytes) × (take (r .len) (r .bytes) ≡ take (t .len) (t .bytes) ++ group g) ⌝ }
-{
-    if g < 16 {
-        return with_hex(t, 1, g);
-    }
-    if g < 256 {
-        return with_hex(t, 2, g);
-    }
-    if g < 4096 {
-        return with_hex(t, 3, g);
-    }
-    with_hex(t, 4, g)
-}
-
 // The groups from `from` to before `to`, each behind a colon.
 fn with_next_groups(t: Text, b: &[u8], from: usize, to: usize) -> Text
     requires { ⌜ Counts (t .len) (t .bytes) × (t .len + 40 ≤ 128) × (length (now b) ≡ 16) × (from ≤ to) × (to ≤ 8) ⌝ }
@@ -109,7 +93,7 @@ fn with_next_groups(t: Text, b: &[u8], from: usize, to: usize) -> Text
     let mut longer = t;
     let mut i = from;
     while i < to {
-        longer = with_group(with_byte(longer, b':'), group_at(b, i));
+        longer = with_unpadded(with_byte(longer, b':'), group_at(b, i));
         i += 1;
     }
     longer
@@ -121,7 +105,7 @@ fn with_groups(t: Text, b: &[u8], from: usize, to: usize) -> Text
     ensures { λ r. ⌜ (r .len ≤ t .len + 44) × Counts (r .len) (r .bytes) × (take (r .len) (r .bytes) ≡ take (t .len) (t .bytes) ++ colons (drop from (take to (groups (now (b .entry)))))) ⌝ }
 {
     if from < to {
-        return with_next_groups(with_group(t, group_at(b, from)), b, from + 1, to);
+        return with_next_groups(with_unpadded(t, group_at(b, from)), b, from + 1, to);
     }
     t
 }

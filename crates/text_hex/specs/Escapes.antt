@@ -20,6 +20,15 @@ unfoldable pub jsonOf : ℕ → List ℕ
 jsonOf b =
     cond (printable b) (cond (eqb b 0x22) (ascii "\\\"") (cond (eqb b 0x5c) (ascii "\\\\") (b ∷ []))) (ascii "\\u00" ++ hexOf 2 b)
 
+-- rows of bytes: their escapes, one behind the other
+abbrev pub escapesOf : List ℕ → List ℕ
+escapesOf [] = []
+escapesOf (b ∷ bs) = escapedOf b ++ escapesOf bs
+
+abbrev pub jsonsOf : List ℕ → List ℕ
+jsonsOf [] = []
+jsonsOf (b ∷ bs) = jsonOf b ++ jsonsOf bs
+
 pub backslash : escapedOf 0x5c ≡ ascii "\\x5c"
 unfolding escapedOf printable hexOf hexDigit
 backslash = refl
@@ -31,3 +40,11 @@ delete = refl
 pub quotation : jsonOf 0x22 ≡ ascii "\\\""
 unfolding jsonOf printable
 quotation = refl
+
+pub a-row : escapesOf (0x61 ∷ 0x00 ∷ 0x5c ∷ []) ≡ ascii "a\\x00\\x5c"
+unfolding escapedOf printable hexOf hexDigit
+a-row = refl
+
+pub a-json-row : jsonsOf (0x61 ∷ 0x22 ∷ 0xff ∷ []) ≡ ascii "a\\\"\\u00ff"
+unfolding jsonOf printable hexOf hexDigit
+a-json-row = refl

@@ -12,8 +12,8 @@ use Rattle.text_addresses.proofs.with_groups.Tie as tie
 group-at-requires : tie.Need-group-at-requires
 group-at-requires c κs = search needs
 
-with-group-requires : tie.Need-with-group-requires
-with-group-requires c κs = search needs
+with-unpadded-requires : tie.Need-with-unpadded-requires
+with-unpadded-requires c κs = search needs
 
 add-with-next-groups : tie.Need-add-with-next-groups
 add-with-next-groups c = search needs
@@ -52,7 +52,7 @@ with-groups-spec =
     tie.close
     (tie.spec
     group-at-requires
-    with-group-requires
+    with-unpadded-requires
     add-with-next-groups
     with-next-groups-requires
     returns

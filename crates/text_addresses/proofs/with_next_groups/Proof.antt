@@ -32,8 +32,8 @@ with-byte-requires c κs = search picks
 group-at-requires : tie.Need-group-at-requires Inv-loop μ-loop
 group-at-requires c κs = search picks
 
-with-group-requires : tie.Need-with-group-requires Inv-loop μ-loop
-with-group-requires c κs = search picks
+with-unpadded-requires : tie.Need-with-unpadded-requires Inv-loop μ-loop
+with-unpadded-requires c κs = search picks
 
 add-i : tie.Need-add-i Inv-loop μ-loop
 add-i c = search picks
@@ -52,7 +52,7 @@ loop-again c =
       omega arith,
       omega arith,
       omega arith,
-      c .with-group .ensures .1,
+      c .with-unpadded .ensures .1,
       cc (
         colon-step (take (l .longer .len) (l .longer .bytes)) gs (l .i) (a .to) few (at3 .loop-test .taken),
         getD-take (a .to) gs (l .i) 0 (at3 .loop-test .taken),
@@ -81,7 +81,7 @@ with-next-groups-spec =
     loop-holds
     with-byte-requires
     group-at-requires
-    with-group-requires
+    with-unpadded-requires
     add-i
     loop-less
     loop-again

@@ -1,7 +1,7 @@
 use lib.ListN.{length}
-use borrow.Author.Tests.{le-leb}
+use borrow.Author.Tests.{le-leb, lt-leb}
+use native.Mathlib.Omega.{arith}
 use borrow.Author.Needs.{needs}
-use Rattle.text.proofs.Rules.{picks}
 use Rattle.changes.proofs.lines.with_value.Statement.{statement}
 use Rattle.changes.proofs.lines.with_value.Tie as tie
 
@@ -20,7 +20,9 @@ with-hexes-requires : tie.Need-with-hexes-requires
 with-hexes-requires c κs = search needs
 
 returns-2 : tie.Need-returns-2
-returns-2 c = search picks
+returns-2 c =
+    let x = c .before .before .before .args .x .now in
+    (omega arith, c .with-hexes .ensures .1, rw (lt-leb (length x) 4 (c .before .if1 .left)) (c .with-hexes .ensures .2))
 
 pub with-value-spec : {M : Type 1} → statement M
 with-value-spec =

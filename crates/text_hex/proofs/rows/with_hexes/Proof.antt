@@ -7,11 +7,10 @@ use native.Mathlib.Omega.{arith}
 use lib.ListN.{length, take, drop, getD, drop-of-length-le}
 use borrow.Author.Needs.{needs}
 use Rattle.io.specs.Counts.{Counts}
-use Rattle.text_hex.specs.Hexadecimal.{hexOf}
-use Rattle.changes.specs.Changes.{hexesOf}
-use Rattle.changes.proofs.LineLaws.{hexes-on}
-use Rattle.changes.proofs.lines.with_hexes.Statement.{statement}
-use Rattle.changes.proofs.lines.with_hexes.Tie as tie
+use Rattle.text_hex.specs.Hexadecimal.{hexOf, hexesOf}
+use Rattle.text_hex.proofs.RowLaws.{hexes-on}
+use Rattle.text_hex.proofs.rows.with_hexes.Statement.{statement}
+use Rattle.text_hex.proofs.rows.with_hexes.Tie as tie
 
 abbrev Inv-loop : tie.InvT-loop
 Inv-loop x longer₀ i₀ longer i =

@@ -1,8 +1,8 @@
 use Rattle.text_hex.specs.Escapes.{printable}
 use borrow.Author.Tests.{le-leb, lt-leb}
 use mathlib.Core.Path.{refl}
-use Rattle.text_hex.proofs.escapes.is_printable.Statement.{statement}
-use Rattle.text_hex.proofs.escapes.is_printable.Tie as tie
+use Rattle.text_hex.proofs.escaping.is_printable.Statement.{statement}
+use Rattle.text_hex.proofs.escaping.is_printable.Tie as tie
 
 returns : tie.Need-returns
 unfolding printable

@@ -1,0 +1,79 @@
+-- What is written, and the escapes of the bytes that are left.
+-- Assumes nothing.
+use mathlib.Core.Path.{_≡_, ap}
+use mathlib.Core.List.{[], _++_, append-assoc, append-nil}
+use Prim.Native.Nat.{_+_, _-_, _*_, _≤_}
+use native.Mathlib.Omega.{arith}
+use lib.ListN.{length, take, drop, getD, drop-of-length-le}
+use borrow.Author.Needs.{needs}
+use Rattle.io.specs.Counts.{Counts}
+use Rattle.text_hex.specs.Escapes.{escapedOf, escapesOf}
+use Rattle.text.proofs.Laws.{behind-none}
+use Rattle.text_hex.proofs.RowLaws.{escapes-on}
+use Rattle.text_hex.proofs.escaping.escapes.Statement.{statement}
+use Rattle.text_hex.proofs.escaping.escapes.Tie as tie
+
+abbrev Inv-loop : tie.InvT-loop
+Inv-loop x longer₀ i₀ longer i =
+    (longer .len ≤ 4 * i)
+    × (i ≤ length x)
+    × Counts (longer .len) (longer .bytes)
+    × (take (longer .len) (longer .bytes) ++ escapesOf (drop i x) ≡ escapesOf x)
+
+abbrev μ-loop : tie.MeasureT-loop
+μ-loop x longer₀ i₀ longer i = length x - i
+
+empty-requires : tie.Need-empty-requires Inv-loop μ-loop
+empty-requires c κs = search needs
+
+loop-holds : tie.Need-loop-holds Inv-loop μ-loop
+loop-holds c =
+    let e = c .empty in
+    (search needs, search needs, e .ensures .1, behind-none (take (e .result .len) (e .result .bytes)) (escapesOf (c .before .before .args .x .now)) (e .ensures .2))
+
+shared-slice-read-with-escaped : tie.Need-shared-slice-read-with-escaped Inv-loop μ-loop
+shared-slice-read-with-escaped c = search needs
+
+with-escaped-requires : tie.Need-with-escaped-requires Inv-loop μ-loop
+with-escaped-requires c κs = search needs
+
+add-i : tie.Need-add-i Inv-loop μ-loop
+add-i c = search needs
+
+loop-less : tie.Need-loop-less Inv-loop μ-loop
+loop-less c = search needs
+
+loop-again : tie.Need-loop-again Inv-loop μ-loop
+loop-again c =
+    let l = c .before .before .before .loop in
+    let x = c .before .before .before .before .before .before .args .x .now in (
+      search needs,
+      search needs,
+      c .with-escaped .ensures .1,
+      cc (
+        escapes-on x (l .i) (c .before .before .loop-test .taken),
+        append-assoc (take (l .longer .len) (l .longer .bytes)) (escapedOf (getD x (l .i) 0)) (escapesOf (drop (l .i + 1) x)),
+      ),
+    )
+
+returns : tie.Need-returns Inv-loop μ-loop
+returns c =
+    let l = c .before .loop in
+    let x = c .before .before .before .before .args .x .now in
+    let none-left : drop (l .i) x ≡ [] = drop-of-length-le x {i = l .i} (omega (arith, c .loop-test .left)) in
+    (l .inv .2, cc (ap escapesOf none-left, append-nil (take (l .longer .len) (l .longer .bytes))))
+
+pub escapes-spec : {M : Type 1} → statement M
+escapes-spec =
+    tie.close
+    (tie.spec
+    Inv-loop
+    μ-loop
+    empty-requires
+    loop-holds
+    shared-slice-read-with-escaped
+    with-escaped-requires
+    add-i
+    loop-less
+    loop-again
+    returns)
