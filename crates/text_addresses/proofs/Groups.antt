@@ -95,7 +95,10 @@ runs-next gs i h k =
     let e : suc (i - 1) ≡ i = omega arith in
     rw (drop-cons gs (i - 1) 0 (omega arith)) (ap (λ (n : ℕ). joined (getD gs (i - 1) 0) (runsOf (drop n gs))) e)
 
--- ---- what is written of groups
+-- ---- what is written of bytes, and of groups
+
+pub quad-behind : (t a b c d : List ℕ) → t ++ a ++ ascii "." ++ b ++ ascii "." ++ c ++ ascii "." ++ d ≡ t ++ (a ++ ascii "." ++ b ++ ascii "." ++ c ++ ascii "." ++ d)
+quad-behind t a b c d = simp append-assoc
 
 module _ (xs gs : List ℕ) (i to : ℕ) (few : to ≤ length gs) where
   within : i < to → i < length (take to gs)

@@ -1,4 +1,5 @@
--- Internet addresses of 16 bytes, in ASCII: an IPv4-mapped one as a dotted quad, any other as RFC 5952 has it. Assumes nothing.
+-- Internet addresses of 16 bytes, in ASCII: an IPv4-mapped one as a dotted quad, any other as the C library's inet_ntop has it, since other tools print so.
+-- That is RFC 5952, but for addresses that begin with just six zero groups. Assumes nothing.
 use mathlib.Core.Bool.{Bool, cond, _&&_}
 use mathlib.Core.List.{List, [], _∷_, _++_}
 use Prim.Native.Nat.{ℕ, _+_, _*_, max}
@@ -52,8 +53,9 @@ mapped gs = eqb (zerosFirst gs) 5 && eqb (getD gs 5 0) 65535
 unfoldable pub quadOf : List ℕ → List ℕ
 quadOf b = numeral (getD b 12 0) ++ ascii "." ++ numeral (getD b 13 0) ++ ascii "." ++ numeral (getD b 14 0) ++ ascii "." ++ numeral (getD b 15 0)
 
+-- behind six zero groups, and no seventh, inet_ntop takes the last four bytes for IPv4
 unfoldable pub addressOf : List ℕ → List ℕ
-addressOf b = cond (mapped (groups b)) (quadOf b) (sixOf (groups b))
+addressOf b = cond (mapped (groups b)) (quadOf b) (cond (eqb (zerosFirst (groups b)) 6) (ascii "::" ++ quadOf b) (sixOf (groups b)))
 
 -- none, one at the end, one at the start, the first of two equal runs, and one zero group alone
 pub unspecified : addressOf (replicate 16 0) ≡ ascii "::"
@@ -79,3 +81,20 @@ one-alone = refl
 pub mapped-quad : addressOf (replicate 10 0 ++ (255 ∷ 255 ∷ 192 ∷ 168 ∷ 101 ∷ 40 ∷ [])) ≡ ascii "192.168.101.40"
 unfolding addressOf mapped groups zerosFirst quadOf numeral digitsOf
 mapped-quad = refl
+
+-- six zero groups in front, the last group zero or not; and six that are not in front
+pub six-zero-groups : addressOf (replicate 13 0 ++ (1 ∷ 0 ∷ 2 ∷ [])) ≡ ascii "::0.1.0.2"
+unfolding addressOf mapped groups zerosFirst quadOf numeral digitsOf
+six-zero-groups = refl
+
+pub last-group-zero : addressOf (replicate 12 0 ++ (192 ∷ 168 ∷ 0 ∷ 0 ∷ [])) ≡ ascii "::192.168.0.0"
+unfolding addressOf mapped groups zerosFirst quadOf numeral digitsOf
+last-group-zero = refl
+
+pub five-zero-groups : addressOf (replicate 11 0 ++ (1 ∷ 0 ∷ 1 ∷ 0 ∷ 2 ∷ [])) ≡ ascii "::1:1:2"
+unfolding addressOf mapped groups sixOf without colons behindColons unpaddedOf longestRun startOf zerosFirst hexOf hexDigit
+five-zero-groups = refl
+
+pub six-behind : addressOf (0xfe ∷ (0x80 ∷ replicate 12 0 ++ (0 ∷ 1 ∷ []))) ≡ ascii "fe80::1"
+unfolding addressOf mapped groups sixOf without colons behindColons unpaddedOf longestRun startOf zerosFirst hexOf hexDigit
+six-behind = refl

@@ -1,4 +1,5 @@
-// Internet addresses of 16 bytes: a dotted quad where IPv4 is mapped, and else what RFC 5952 asks for.
+// Internet addresses of 16 bytes: a dotted quad where IPv4 is mapped, and else what the C library's inet_ntop prints,
+// as other tools do. That is RFC 5952 but for one case: behind just six zero groups the last two are a dotted quad.
 use text::Text;
 use text::append::empty;
 use text::append::with_byte;
@@ -118,11 +119,11 @@ fn with_octet(t: Text, b: &[u8], i: usize) -> Text
     with_number(with_byte(t, b'.'), wide(b[i]))
 }
 
-fn quad(b: &[u8]) -> Text
-    requires { ⌜ length (now b) ≡ 16 ⌝ }
-    ensures { λ r. ⌜ Counts (r .len) (r .bytes) × (take (r .len) (r .bytes) ≡ quadOf (now (b .entry))) ⌝ }
+fn with_quad(t: Text, b: &[u8]) -> Text
+    requires { ⌜ (t .len + 83 ≤ 128) × (length (now b) ≡ 16) ⌝ }
+    ensures { λ r. ⌜ Counts (r .len) (r .bytes) × (take (r .len) (r .bytes) ≡ take (t .len) (t .bytes) ++ quadOf (now (b .entry))) ⌝ }
 {
-    let first = with_number(empty(), wide(b[12]));
+    let first = with_number(t, wide(b[12]));
     with_octet(with_octet(with_octet(first, b, 13), b, 14), b, 15)
 }
 
@@ -153,8 +154,12 @@ pub fn address(b: &[u8]) -> Text
     ensures { λ r. ⌜ Counts (r .len) (r .bytes) × (take (r .len) (r .bytes) ≡ addressOf (now (b .entry))) ⌝ }
 {
     let runs = runs_in(b);
-    if is_mapped(b, runs.first) {
-        return quad(b);
+    let first = runs.first;
+    if is_mapped(b, first) {
+        return with_quad(empty(), b);
+    }
+    if first == 6 {
+        return with_quad(with_bytes(empty(), b"::"), b);
     }
     six(b, runs.at, runs.len)
 }

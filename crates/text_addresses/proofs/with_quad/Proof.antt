@@ -1,13 +1,12 @@
 use Rattle.text.specs.Numerals.{numeral}
-use Rattle.text.proofs.Laws.{behind-none}
+use Prim.Native.Nat.{ℕ}
+use mathlib.Core.List.{List}
 use lib.ListN.{take, getD}
 use Rattle.text_addresses.specs.Addresses.{quadOf}
+use Rattle.text_addresses.proofs.Groups.{quad-behind}
 use borrow.Author.Needs.{needs}
-use Rattle.text_addresses.proofs.quad.Statement.{statement}
-use Rattle.text_addresses.proofs.quad.Tie as tie
-
-empty-requires : tie.Need-empty-requires
-empty-requires c κs = search needs
+use Rattle.text_addresses.proofs.with_quad.Statement.{statement}
+use Rattle.text_addresses.proofs.with_quad.Tie as tie
 
 shared-slice-read-wide : tie.Need-shared-slice-read-wide
 shared-slice-read-wide c = search needs
@@ -30,17 +29,14 @@ with-octet-requires-3 c κs = search needs
 returns : tie.Need-returns
 unfolding quadOf
 returns c =
-    let at6 = c .before .before .before .before .before .before in (
-      c .with-octet3 .ensures .1,
-      cc (behind-none (take (at6 .empty .result .len) (at6 .empty .result .bytes))
-          (numeral (getD (at6 .before .before .args .b .now) 12 0)) (at6 .empty .ensures .2)),
-    )
+    let a = c .before .before .before .before .before .before .before .args in
+    let byte : ℕ → List ℕ = λ i. numeral (getD (a .b .now) i 0) in
+    (c .with-octet3 .ensures .1, cc (quad-behind (take (a .t .len) (a .t .bytes)) (byte 12) (byte 13) (byte 14) (byte 15)))
 
-pub quad-spec : {M : Type 1} → statement M
-quad-spec =
+pub with-quad-spec : {M : Type 1} → statement M
+with-quad-spec =
     tie.close
     (tie.spec
-    empty-requires
     shared-slice-read-wide
     wide-requires
     with-number-requires
