@@ -1,19 +1,20 @@
--- What is written of a row of bytes, from byte i on. Assumes nothing.
-use mathlib.Core.Path.{_≡_, refl}
-use mathlib.Core.List.{List, _++_}
-use Prim.Native.Nat.{ℕ, _+_, _<_}
+-- A row of bytes is written byte by byte: what stands written, and what is to come from byte i on. Assumes nothing.
+use mathlib.Core.Path.{_≡_, refl, sym, _∙_}
+use mathlib.Core.List.{List, _++_, append-assoc, append-nil}
+use Prim.Native.Nat.{ℕ, _+_, _≤_, _<_}
 use native.Mathlib.Numerals.{add-one}
-use lib.ListN.{length, getD, drop}
+use lib.ListN.{length, getD, drop, drop-of-length-le}
 use lib.Seq.{drop-cons}
-use Rattle.text_hex.specs.Hexadecimal.{hexOf, hexesOf}
-use Rattle.text_hex.specs.Escapes.{escapedOf, escapesOf, jsonOf, jsonsOf}
+use Rattle.text_hex.specs.Hexadecimal.{rowOf}
 
-module _ (xs : List ℕ) (i : ℕ) (h : i < length xs) where
-  pub hexes-on : hexesOf (drop i xs) ≡ hexOf 2 (getD xs i 0) ++ hexesOf (drop (i + 1) xs)
-  hexes-on = rw (add-one i, drop-cons xs i 0 h) refl
+module _ (f : ℕ → List ℕ) (xs : List ℕ) (i : ℕ) (ts : List ℕ) {all : List ℕ} (e : ts ++ rowOf f (drop i xs) ≡ all) where
+  -- byte i is written
+  pub row-more : i < length xs → {us : List ℕ} → us ≡ ts ++ f (getD xs i 0) → us ++ rowOf f (drop (i + 1) xs) ≡ all
+  row-more h u =
+      let rest = rowOf f (drop (i + 1) xs) in
+      let next : ts ++ rowOf f (drop i xs) ≡ ts ++ (f (getD xs i 0) ++ rest) = rw (add-one i, drop-cons xs i 0 h) refl in
+      rw u (append-assoc ts (f (getD xs i 0)) rest ∙ (sym next ∙ e))
 
-  pub escapes-on : escapesOf (drop i xs) ≡ escapedOf (getD xs i 0) ++ escapesOf (drop (i + 1) xs)
-  escapes-on = rw (add-one i, drop-cons xs i 0 h) refl
-
-  pub jsons-on : jsonsOf (drop i xs) ≡ jsonOf (getD xs i 0) ++ jsonsOf (drop (i + 1) xs)
-  jsons-on = rw (add-one i, drop-cons xs i 0 h) refl
+  -- none is left
+  pub row-end : length xs ≤ i → ts ≡ all
+  row-end h = sym (append-nil ts) ∙ rw (drop-of-length-le xs h) at e

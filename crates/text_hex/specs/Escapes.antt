@@ -5,7 +5,7 @@ use Prim.Native.Nat.{ℕ}
 use mathlib.Core.Path.{_≡_, refl}
 use lib.Dec.{eqb, leb}
 use Rattle.text.specs.Ascii.{ascii}
-use Rattle.text_hex.specs.Hexadecimal.{hexDigit, hexOf}
+use Rattle.text_hex.specs.Hexadecimal.{hexDigit, hexOf, rowOf}
 
 -- ASCII from the space to the tilde
 unfoldable pub printable : ℕ → Bool
@@ -20,14 +20,12 @@ unfoldable pub jsonOf : ℕ → List ℕ
 jsonOf b =
     cond (printable b) (cond (eqb b 0x22) (ascii "\\\"") (cond (eqb b 0x5c) (ascii "\\\\") (b ∷ []))) (ascii "\\u00" ++ hexOf 2 b)
 
--- rows of bytes: their escapes, one behind the other
+-- rows of bytes
 abbrev pub escapesOf : List ℕ → List ℕ
-escapesOf [] = []
-escapesOf (b ∷ bs) = escapedOf b ++ escapesOf bs
+escapesOf = rowOf escapedOf
 
 abbrev pub jsonsOf : List ℕ → List ℕ
-jsonsOf [] = []
-jsonsOf (b ∷ bs) = jsonOf b ++ jsonsOf bs
+jsonsOf = rowOf jsonOf
 
 pub backslash : escapedOf 0x5c ≡ ascii "\\x5c"
 unfolding escapedOf printable hexOf hexDigit

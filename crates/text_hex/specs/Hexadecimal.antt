@@ -20,10 +20,14 @@ hexOf (suc k) n = hexOf k (n / 16) ++ (hexDigit (n % 16) ∷ [])
 unfoldable pub unpaddedOf : ℕ → List ℕ
 unpaddedOf n = cond (ltb n 16) (hexOf 1 n) (cond (ltb n 256) (hexOf 2 n) (cond (ltb n 4096) (hexOf 3 n) (hexOf 4 n)))
 
--- two digits for each byte, in order
+-- a row of bytes: what is written of each, one behind the other
+abbrev pub rowOf : (ℕ → List ℕ) → List ℕ → List ℕ
+rowOf f [] = []
+rowOf f (b ∷ bs) = f b ++ rowOf f bs
+
+-- two digits for each byte
 abbrev pub hexesOf : List ℕ → List ℕ
-hexesOf [] = []
-hexesOf (b ∷ bs) = hexOf 2 b ++ hexesOf bs
+hexesOf = rowOf (hexOf 2)
 
 -- sixteen bytes in order, with dashes between parts of 4, 2, 2, 2 and 6
 unfoldable pub uuidOf : List ℕ → List ℕ

@@ -92,7 +92,7 @@ pub fn pci(id: u64) -> Text
     with_hex(device, 1, id % 8)
 }
 
-// As the client that reads tables prints it: no zeros in front, and 0 for every segment.
+// As nvme-cli prints it: no zeros in front, and 0 for every segment, since it hands the routing ID on in 16 bits.
 pub fn short_pci(id: u64) -> Text
     ensures { λ r. ⌜ Counts (r .len) (r .bytes) × (take (r .len) (r .bytes) ≡ shortPciOf id) ⌝ }
 {

@@ -1,15 +1,14 @@
 -- What is written, and the escapes of the bytes that are left.
 -- Assumes nothing.
-use mathlib.Core.Path.{_≡_, ap}
-use mathlib.Core.List.{[], _++_, append-assoc, append-nil}
+use mathlib.Core.Path.{_≡_}
+use mathlib.Core.List.{_++_}
 use Prim.Native.Nat.{_+_, _-_, _*_, _≤_}
-use native.Mathlib.Omega.{arith}
-use lib.ListN.{length, take, drop, getD, drop-of-length-le}
+use lib.ListN.{length, take, drop}
 use borrow.Author.Needs.{needs}
 use Rattle.io.specs.Counts.{Counts}
 use Rattle.text_hex.specs.Escapes.{escapedOf, escapesOf}
 use Rattle.text.proofs.Laws.{behind-none}
-use Rattle.text_hex.proofs.RowLaws.{escapes-on}
+use Rattle.text_hex.proofs.RowLaws.{row-more, row-end}
 use Rattle.text_hex.proofs.escaping.escapes.Statement.{statement}
 use Rattle.text_hex.proofs.escaping.escapes.Tie as tie
 
@@ -46,22 +45,18 @@ loop-less c = search needs
 loop-again : tie.Need-loop-again Inv-loop μ-loop
 loop-again c =
     let l = c .before .before .before .loop in
-    let x = c .before .before .before .before .before .before .args .x .now in (
+    let x = c .before .before .before .before .before .before .args .x .now in
+    let written = take (l .longer .len) (l .longer .bytes) in (
       search needs,
       search needs,
       c .with-escaped .ensures .1,
-      cc (
-        escapes-on x (l .i) (c .before .before .loop-test .taken),
-        append-assoc (take (l .longer .len) (l .longer .bytes)) (escapedOf (getD x (l .i) 0)) (escapesOf (drop (l .i + 1) x)),
-      ),
+      row-more escapedOf x (l .i) written (l .inv .3) (c .before .before .loop-test .taken) (c .with-escaped .ensures .2),
     )
 
 returns : tie.Need-returns Inv-loop μ-loop
 returns c =
     let l = c .before .loop in
-    let x = c .before .before .before .before .args .x .now in
-    let none-left : drop (l .i) x ≡ [] = drop-of-length-le x {i = l .i} (omega (arith, c .loop-test .left)) in
-    (l .inv .2, cc (ap escapesOf none-left, append-nil (take (l .longer .len) (l .longer .bytes))))
+    (l .inv .2, row-end escapedOf (c .before .before .before .before .args .x .now) (l .i) (take (l .longer .len) (l .longer .bytes)) (l .inv .3) (c .loop-test .left))
 
 pub escapes-spec : {M : Type 1} → statement M
 escapes-spec =

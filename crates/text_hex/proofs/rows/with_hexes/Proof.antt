@@ -1,14 +1,13 @@
 -- What is written, and the digits of the bytes that are left.
 -- Assumes nothing.
-use mathlib.Core.Path.{_≡_, ap}
-use mathlib.Core.List.{[], _++_, append-assoc, append-nil}
+use mathlib.Core.Path.{_≡_}
+use mathlib.Core.List.{_++_}
 use Prim.Native.Nat.{_+_, _-_, _*_, _≤_}
-use native.Mathlib.Omega.{arith}
-use lib.ListN.{length, take, drop, getD, drop-of-length-le}
+use lib.ListN.{length, take, drop}
 use borrow.Author.Needs.{needs}
 use Rattle.io.specs.Counts.{Counts}
 use Rattle.text_hex.specs.Hexadecimal.{hexOf, hexesOf}
-use Rattle.text_hex.proofs.RowLaws.{hexes-on}
+use Rattle.text_hex.proofs.RowLaws.{row-more, row-end}
 use Rattle.text_hex.proofs.rows.with_hexes.Statement.{statement}
 use Rattle.text_hex.proofs.rows.with_hexes.Tie as tie
 
@@ -40,22 +39,18 @@ loop-less c = search needs
 loop-again : tie.Need-loop-again Inv-loop μ-loop
 loop-again c =
     let l = c .before .before .before .loop in
-    let x = c .before .before .before .before .before .args .x .now in (
+    let x = c .before .before .before .before .before .args .x .now in
+    let written = take (l .longer .len) (l .longer .bytes) in (
       search needs,
       search needs,
       c .with-hex-byte .ensures .1,
-      cc (
-        hexes-on x (l .i) (c .before .before .loop-test .taken),
-        append-assoc (take (l .longer .len) (l .longer .bytes)) (hexOf 2 (getD x (l .i) 0)) (hexesOf (drop (l .i + 1) x)),
-      ),
+      row-more (hexOf 2) x (l .i) written (l .inv .3) (c .before .before .loop-test .taken) (c .with-hex-byte .ensures .2),
     )
 
 returns : tie.Need-returns Inv-loop μ-loop
 returns c =
     let l = c .before .loop in
-    let x = c .before .before .before .args .x .now in
-    let none-left : drop (l .i) x ≡ [] = drop-of-length-le x {i = l .i} (omega (arith, c .loop-test .left)) in
-    (search needs, l .inv .2, cc (ap hexesOf none-left, append-nil (take (l .longer .len) (l .longer .bytes))))
+    (search needs, l .inv .2, row-end (hexOf 2) (c .before .before .before .args .x .now) (l .i) (take (l .longer .len) (l .longer .bytes)) (l .inv .3) (c .loop-test .left))
 
 pub with-hexes-spec : {M : Type 1} → statement M
 with-hexes-spec =

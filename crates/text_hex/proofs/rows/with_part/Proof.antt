@@ -1,5 +1,4 @@
 use native.Mathlib.Nat.{add-sub-cancel-left}
-use native.Mathlib.Omega.{arith}
 use borrow.Author.Needs.{needs}
 use Rattle.text_hex.proofs.rows.with_part.Statement.{statement}
 use Rattle.text_hex.proofs.rows.with_part.Tie as tie
