@@ -43,6 +43,7 @@ use Rattle.table.specs.FixedLayouts.{discovery, extended, header, hfi, hfiExten
 use Rattle.table.specs.Objects.{countIn}
 use Rattle.table.specs.Meaning.{Meaning}
 use Rattle.table.specs.Reads.{widthAt}
+use Rattle.laws.specs.ByteLaws.{same-eq}
 use Rattle.laws.specs.ImageLaws.{image-at, length-image}
 use Rattle.laws.specs.Lawful.{Fit, FitBody, FitEntry, FitList, Shaped, isNone}
 use Rattle.changes.specs.Changes.{
@@ -106,12 +107,6 @@ kinds-tell = tt
 none-both : {X : Type 0} (xs ys : List X) → xs ++ ys ≡ [] → (xs ≡ []) × (ys ≡ [])
 none-both [] ys e = (refl, e)
 none-both (x ∷ xs) ys e = absurd (omega (arith, ap length e))
-
-pub same-eq : (xs ys : List ℕ) → T (same xs ys) → xs ≡ ys
-same-eq [] [] h = refl
-same-eq [] (y ∷ ys) h = absurd h
-same-eq (x ∷ xs) [] h = absurd h
-same-eq (x ∷ xs) (y ∷ ys) h = let z = and-yes (eqb x y) (same xs ys) h in ap₂ _∷_ (eqb→eq x y (z .0)) (same-eq xs ys (z .1))
 
 unlike-none : (x y : List ℕ) (l : Line) → unlike x y l ≡ [] → x ≡ y
 unlike-none x y l e = go (same x y) refl e

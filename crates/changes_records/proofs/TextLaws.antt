@@ -21,7 +21,8 @@ use Rattle.reads_seats.proofs.ObjectLaws.{seat-place}
 use Rattle.reads_seats.proofs.SeatLaws.{seats-good}
 use Rattle.reader.specs.Accepted.{Accepted}
 use Rattle.changes.specs.Changes.{Line, each, textOf, textsOf, unlike}
-use Rattle.changes.specs.ChangeLaws.{same-eq, unlike-self}
+use Rattle.changes.specs.ChangeLaws.{unlike-self}
+use Rattle.laws.specs.ByteLaws.{same-eq}
 
 pub line-text : (l : Line) → textsOf (l ∷ []) ≡ textOf l
 line-text l = append-nil (textOf l)

@@ -1,14 +1,15 @@
 -- Bytes: numbers in little endian, and `Holds t a bs`: the list t has bs from place a on. Assumes nothing.
 use mathlib.Core.Path.{_≡_, refl, sym, ap, ap₂, _∙_}
-use mathlib.Core.Bool.{Bool, true, false, not}
-use lib.Dec.{T}
+use mathlib.Core.Bool.{Bool, true, false, not, _&&_}
+use lib.Dec.{T, eqb, eqb→eq}
+use mir.Facts.{and-yes}
 use mathlib.Core.List.{List, [], _∷_, _++_, append-assoc}
 use Prim.Native.Nat.{ℕ, zero, suc, _+_, _-_, _*_, _/_, _%_, _^_, _≤_, _<_}
 use native.Mathlib.Nat.{add-zero, div-add-mod, div-lt-iff-lt-mul, zero-lt-suc, pow-suc, mul-comm, add-comm}
 use native.Mathlib.Omega.{arith}
 use lib.ListN.{length, getD, take, drop, length-append, length-drop, take-append-drop, List·getD-append}
 use lib.Seq.{length-take-le, take-nil, drop-drop, drop-append-seam, take-append-seam, drop-append-le, take-append-le, getD-drop, getD-take, drop-at}
-use Rattle.table.specs.Bytes.{le, num, part, pick, splice, val}
+use Rattle.table.specs.Bytes.{le, num, part, pick, same, splice, val}
 
 pub pick-yes {ℓ} : {X : Type ℓ} (c : Bool) (x y : X) → T c → pick c x y ≡ x
 pick-yes true x y t = refl
@@ -141,3 +142,11 @@ module _ (t : List ℕ) (a : ℕ) (bs : List ℕ) (k : a + length bs ≤ length 
       (drop-append-le q (take a t) (bs ++ drop (a + length bs) t) qa
       ∙ ap (λ (x : List ℕ). x ++ (bs ++ drop (a + length bs) t)) (sym (take-append-drop (length r) d) ∙ ap (λ (x : List ℕ). x ++ drop (length r) d) front)
       ∙ append-assoc r (drop (length r) d) (bs ++ drop (a + length bs) t))
+
+-- ---- rows of bytes that are the same
+
+pub same-eq : (xs ys : List ℕ) → T (same xs ys) → xs ≡ ys
+same-eq [] [] h = refl
+same-eq [] (y ∷ ys) h = absurd h
+same-eq (x ∷ xs) [] h = absurd h
+same-eq (x ∷ xs) (y ∷ ys) h = let z = and-yes (eqb x y) (same xs ys) h in ap₂ _∷_ (eqb→eq x y (z .0)) (same-eq xs ys (z .1))
