@@ -8,6 +8,7 @@
 #   make examples  the examples in C compiled, run, and held to what they are expected to print
 #   make bindings  the Rust crate over the library, bindings/rust, with its tests
 #   make readme   the examples of README.md, docs/DESCRIPTIONS.md and docs/SAMPLES.md run, and held to what stands there; after `make run`
+#   make interop  what nvme-cli shows of our tables beside what we show, value by value; fetches nvme-cli, so it needs the network
 #   make soak     the library beside the second program for ten minutes; SECONDS=60 or CASES=1000000 for as long, SEED= for the same again
 #   make bench    time of a check, a read, a rewrite, a closing up of the heap and a build, beside the second program's and a bare byte sum's
 #   make worst    time of the closing that takes longest of those that we know
@@ -53,7 +54,7 @@ LINKED  := $(RUN) second/linked/target/$(X86)/release/linked
 PREFIX ?= /usr/local
 
 .PHONY: run test proofs compared second-tests comparisons compared-checks compared-reads compared-rewrites compared-closings compared-builds \
-        compared-pairs library lib install examples bindings readme soak vectors clean second linked
+        compared-pairs compared-shown library lib install examples bindings readme interop soak vectors clean second linked
 
 # The programs are proved, then compiled: the first run takes some minutes.
 run:
@@ -102,7 +103,7 @@ compared: second-tests
 	$(MAKE) --no-print-directory --output-sync=target --directory="$$copy" --file="$(CURDIR)/Makefile" library && \
 	$(MAKE) --no-print-directory --output-sync=target NBFT_LIB="$$copy/target/staticlib" comparisons
 	@until $(call answering,nbft_check nbft_show nbft_rewrite nbft_build nbft_diff) || [ -e $(ENDED) ]; do sleep 1; done
-	@$(MAKE) --no-print-directory readme compared-pairs
+	@$(MAKE) --no-print-directory readme compared-pairs compared-shown
 
 # The second program's own tests, and that the committed vectors, samples and cases are what it writes.
 second-tests: second
@@ -137,6 +138,11 @@ compared-pairs: second
 	cmp - "$$expected" || { echo "nbft_diff prints something else than the second program, pair $${pair##*/}"; exit 1; }; done && \
 	echo "$(PAIRS) pairs of tables: nbft_diff prints what the second program says"
 
+# Generated tables, and pairs that say the same but for one thing, held to what nbft_show prints of them as JSON.
+SHOWN := 500
+compared-shown: second
+	@RUN="$(RUN)" .ci/shown $(or $(NBFT_BIN),target/bin)/nbft_show $(SECOND) $(SHOWN) 7
+
 # `rt staticlib` proves one crate after the other; `rt check` before it proves several at a time.
 library:
 	rt check nbft
@@ -169,6 +175,11 @@ bindings: $(if $(NBFT_LIB),,library)
 # With the programs that stand in the folder NBFT_BIN, if that is given. It proves and compiles nothing.
 readme:
 	RUN="$(RUN)" .ci/readme-examples $(or $(NBFT_BIN),target/bin) README.md docs/DESCRIPTIONS.md docs/SAMPLES.md
+
+# nvme-cli is fetched into target/nvme-cli, or into the folder that NVME_CLI names, unless it is there. What is compared is what nbft_show
+# prints if it is there, and else what the second program prints, which is the same.
+interop: second
+	RUN="$(RUN)" .ci/interop
 
 # As many cases as CASES says, or else as many as SECONDS allow; from SEED on, or else from a fresh seed.
 SECONDS = 600

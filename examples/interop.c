@@ -113,6 +113,7 @@ static void fill_host_and_interface(void)
     header.oem_revision = 2;
     memset(&host, 0xff, sizeof host);
     host.flags = 0xe2; /* reserved bits set, valid bit clear, host ID configured */
+    memcpy(host.host_id, "\x10\x32\x54\x76\x98\xba\x4c\xfe\x81\x23\x45\x67\x89\xab\xcd\xef", sizeof host.host_id);
     memset(&hfi, 0xff, sizeof hfi);
     memset(&hfi_info_tcp, 0xff, sizeof hfi_info_tcp);
     hfi_info_tcp.trinfo_version = 1;
@@ -142,6 +143,17 @@ static void fill_subsystem(void)
     discovery.sec_index = 0;
 }
 
+/*
+ * Objects as libnvme wants them, which would drop the record else: the NQN whose
+ * UUID the host ID is, an address of 16 bytes, a service that ends in a zero
+ * byte, the list of HFIs beside the primary one, of which there is none here but
+ * that one, and URI and NQN of the discovery controller.
+ */
+static const char host_nqn[] = "nqn.2014-08.org.nvmexpress:uuid:10325476-98ba-4cfe-8123-456789abcdef";
+static const uint8_t traddr[16] = {0, 0, 0, 0, 0, 0, 0, 0, 0, 0, 0xff, 0xff, 10, 0, 0, 9};
+static const char trsvcid[] = "4420";
+static const uint8_t secondary_hfis[] = {1};
+
 /* The first answer that is not done, or that of the last call. */
 static uint32_t build(void)
 {
@@ -149,18 +161,20 @@ static uint32_t build(void)
     uint32_t answer = nbft_begin(state, table, sizeof table, BYTES(header) + offsetof(struct nbft_header, oem_id), counts, OBJECT("driver"));
 
     if (answer == NBFT_DONE)
-        answer = nbft_host(state, table, sizeof table, BYTES(host), OBJECT("nqn.2014-08.org.example:host"));
+        answer = nbft_host(state, table, sizeof table, BYTES(host), OBJECT(host_nqn));
     if (answer == NBFT_DONE)
         answer = nbft_hfi(state, table, sizeof table, BYTES(hfi), BYTES(hfi_info_tcp), OBJECT("machine"), 0,
                           no_hfi_extended, NULL, 0, NULL, 0);
     if (answer == NBFT_DONE)
-        answer = nbft_ssns(state, table, sizeof table, BYTES(ssns), OBJECT("10.0.0.9"), OBJECT("4420"), NULL, 0,
+        answer = nbft_ssns(state, table, sizeof table, BYTES(ssns), traddr, sizeof traddr, BYTES(trsvcid),
+                           sizeof trsvcid, secondary_hfis, sizeof secondary_hfis,
                            OBJECT("nqn.2014-08.org.example:array"), BYTES(ssns_ext_info), OBJECT("path"));
     if (answer == NBFT_DONE)
         answer = nbft_security(state, table, sizeof table, BYTES(security), NULL, 0, NULL, 0, NULL, 0, NULL, 0, NULL, 0,
                                OBJECT("a keypath, dropped by the secret's type"));
     if (answer == NBFT_DONE)
-        answer = nbft_discovery(state, table, sizeof table, BYTES(discovery), NULL, 0, NULL, 0);
+        answer = nbft_discovery(state, table, sizeof table, BYTES(discovery), OBJECT("nvme+tcp://10.0.0.9:8009/"),
+                                OBJECT("nqn.2014-08.org.nvmexpress.discovery"));
     return answer == NBFT_DONE ? nbft_finish(state, table, sizeof table) : answer;
 }
 

@@ -16,7 +16,7 @@ fn some_length(random: &mut Random) -> usize {
     1 + random.below(longest)
 }
 
-fn object(random: &mut Random) -> Bytes<'static> {
+pub fn object(random: &mut Random) -> Bytes<'static> {
     let length = some_length(random);
     random.bytes(length).into()
 }
@@ -26,7 +26,7 @@ fn maybe(random: &mut Random) -> Option<Bytes<'static>> {
 }
 
 /// Never an empty one, which no builder can be told.
-fn text(random: &mut Random) -> Text<'static> {
+pub fn text(random: &mut Random) -> Text<'static> {
     let words = (0..some_length(random)).map(|_| 1 + random.below(255) as u8);
     Text::of(words.collect::<Vec<u8>>())
 }
@@ -115,7 +115,7 @@ pub fn random_meaning(random: &mut Random) -> Meaning<'static> {
     }
 }
 
-fn random_host(random: &mut Random) -> Host<'static> {
+pub fn random_host(random: &mut Random) -> Host<'static> {
     Host {
         id_configured: random.flag(),
         name_configured: random.flag(),
@@ -148,7 +148,7 @@ fn random_addition(random: &mut Random) -> Addition<'static> {
 
 /// The IP origins that go with an addition: one where it says how the
 /// address was found, else any.
-fn random_origin(random: &mut Random, addition: &Option<Addition>) -> u8 {
+pub fn random_origin(random: &mut Random, addition: &Option<Addition>) -> u8 {
     let identity = addition.as_ref().and_then(|a| a.identity.as_ref());
     if addition.as_ref().is_some_and(|a| a.autoconfigured) {
         0
@@ -160,7 +160,7 @@ fn random_origin(random: &mut Random, addition: &Option<Addition>) -> u8 {
     }
 }
 
-fn random_interface(random: &mut Random) -> Interface<'static> {
+pub fn random_interface(random: &mut Random) -> Interface<'static> {
     let addition = random.flag().then(|| random_addition(random));
     let autoconfigured = addition.as_ref().is_some_and(|a| a.autoconfigured);
     let info = Info {
@@ -183,7 +183,7 @@ fn random_interface(random: &mut Random) -> Interface<'static> {
 }
 
 /// Security index 0 stands for no security.
-fn random_subsystem(
+pub fn random_subsystem(
     random: &mut Random,
     interfaces: &[u8],
     security: u8,
@@ -226,7 +226,7 @@ fn random_policy(random: &mut Random) -> Option<Policy<'static>> {
     })
 }
 
-fn random_security(random: &mut Random) -> Security<'static> {
+pub fn random_security(random: &mut Random) -> Security<'static> {
     Security {
         authentication: random.below(3) as u8,
         channel: random.below(3) as u8,

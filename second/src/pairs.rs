@@ -3,18 +3,18 @@
 //! refused.
 
 use crate::compact::sites;
-use crate::discovery::Discovery;
 use crate::faults::damages;
 use crate::form::{form, put_checksum, seal, HOST_START};
 use crate::frame::{Frame, MINOR_AT};
 use crate::generate::random_meaning;
 use crate::host::Host;
 use crate::identity::Identity;
-use crate::interface::{Info, Interface};
+use crate::interface::Info;
+use crate::interop;
 use crate::layout::{lay_out_freely, with_tail, Style};
 use crate::meaning::{check, meaning, Entry};
 use crate::random::Random;
-use crate::read::LONGEST_RECORD;
+use crate::read::{field_length, LONGEST_RECORD};
 use crate::record::Record;
 use crate::security::Security;
 use crate::subsystem::{Extended, Subsystem};
@@ -54,6 +54,21 @@ fn as_lent(random: &mut Random, form: &[u8], is_refused: bool) -> Vec<u8> {
         true => refused(random, form),
         false => laid_out(random, form),
     }
+}
+
+/// A table as a program may be lent it: its texts and addresses are of every
+/// shape that is shown in its own way, or any bytes; one in five is refused.
+pub fn lent(random: &mut Random) -> Vec<u8> {
+    let plain = match random.flag() {
+        true => form(&meaning(&interop::table(random))),
+        false => form(&random_meaning(random)),
+    };
+    let plain = match random.one_in(5) {
+        true => stretched(random, &plain),
+        false => plain,
+    };
+    let is_refused = random.one_in(5);
+    as_lent(random, &plain, is_refused)
 }
 
 /// The form's meaning in some layout. A wild one has other objects.
@@ -163,18 +178,23 @@ fn other_flag(random: &mut Random, plain: &[u8]) -> Vec<u8> {
     table
 }
 
-/// An object exchanged for another, which is put behind all others, since a
-/// form ends with its heap; or one that is taken away.
+/// An object exchanged for another, or one that is taken away.
 fn other_object(random: &mut Random, plain: &[u8]) -> Vec<u8> {
     let mut objects = sites(plain).expect("a form is good");
     objects.retain(|site| !site.is_heap_record);
     let site = random.pick(&objects);
     let object = similar(random, &plain[site.start..site.start + site.length]);
+    with_object(plain, site.at, &object)
+}
+
+/// The form with a reference to this object, or to none. It is put behind all
+/// others, since a form ends with its heap.
+pub fn with_object(plain: &[u8], at: usize, object: &[u8]) -> Vec<u8> {
     let mut table = plain.to_vec();
     let (end, heap) = (table.len(), u32_at(plain, 36) as usize);
     match object.len() {
-        0 => put_reference(&mut table, site.at, 0, 0),
-        length => put_reference(&mut table, site.at, end as u32, length as u16),
+        0 => put_reference(&mut table, at, 0, 0),
+        length => put_reference(&mut table, at, end as u32, length as u16),
     }
     table.extend(object);
     let heap_length = table.len() - heap;
@@ -304,22 +324,8 @@ fn fields(form: &[u8]) -> Vec<Vec<(usize, usize)>> {
     all
 }
 
-fn field_length(kind: u8, offset: u32) -> Option<usize> {
-    match kind {
-        Host::ID => Host::field_length(offset),
-        Interface::ID => Interface::field_length(offset),
-        Subsystem::ID => Subsystem::field_length(offset),
-        Security::ID => Security::field_length(offset),
-        Discovery::ID => Discovery::field_length(offset),
-        Info::ID => Info::field_length(offset),
-        Extended::ID => Extended::field_length(offset),
-        Identity::ID => Identity::field_length(offset),
-        _ => None,
-    }
-}
-
 /// The flags of a record that count besides the valid bit, by byte and bit.
-fn flags(kind: u8) -> Vec<(usize, u8)> {
+pub fn flags(kind: u8) -> Vec<(usize, u8)> {
     let bits = |byte: usize, bits: RangeInclusive<u8>| bits.map(move |bit| (byte, bit));
     match kind {
         Host::ID => bits(1, 1..=4).collect(),

@@ -72,7 +72,7 @@ impl<'a> Reading<'a> {
 
     pub fn field(&self, kind: u8, position: u16, offset: u32) -> Field {
         let found = self.select(kind, position).and_then(|(meaning, selected)| {
-            let length = selected.field_length(offset).ok_or(NO_SUCH_FIELD)?;
+            let length = field_length(kind, offset).ok_or(NO_SUCH_FIELD)?;
             Ok((selected.image(meaning, position), length))
         });
         let mut bytes = [0; LONGEST_FIELD];
@@ -173,21 +173,6 @@ impl<'r, 'a> Selected<'r, 'a> {
         }
     }
 
-    fn field_length(&self, offset: u32) -> Option<usize> {
-        match self {
-            Selected::Header => header_field_length(offset),
-            Selected::Control => matches!(offset, 87 | 95 | 103 | 111).then_some(1),
-            Selected::Host(_) => Host::field_length(offset),
-            Selected::Interface(_) => Interface::field_length(offset),
-            Selected::Subsystem(_) => Subsystem::field_length(offset),
-            Selected::Security(_) => Security::field_length(offset),
-            Selected::Discovery(_) => Discovery::field_length(offset),
-            Selected::Info(_) => Info::field_length(offset),
-            Selected::Extended(_) => Extended::field_length(offset),
-            Selected::Identity(_) => Identity::field_length(offset),
-        }
-    }
-
     fn object(&self, meaning: &'r Meaning<'a>, offset: u32) -> Option<Option<&'r [u8]>> {
         match self {
             Selected::Header if offset as usize == DRIVER_SIGNATURE_AT => {
@@ -262,6 +247,39 @@ fn header_field_length(offset: u32) -> Option<usize> {
         16 => Some(8),
         24 | 28 | 32 => Some(4),
         _ => None,
+    }
+}
+
+/// The length of a kind's field at this offset; none for references.
+pub fn field_length(kind: u8, offset: u32) -> Option<usize> {
+    match kind {
+        HEADER_KIND => header_field_length(offset),
+        CONTROL_KIND => matches!(offset, 87 | 95 | 103 | 111).then_some(1),
+        Host::ID => Host::field_length(offset),
+        Interface::ID => Interface::field_length(offset),
+        Subsystem::ID => Subsystem::field_length(offset),
+        Security::ID => Security::field_length(offset),
+        Discovery::ID => Discovery::field_length(offset),
+        Info::ID => Info::field_length(offset),
+        Extended::ID => Extended::field_length(offset),
+        Identity::ID => Identity::field_length(offset),
+        _ => None,
+    }
+}
+
+/// Whether a kind has an object at this offset.
+pub fn has_object(kind: u8, offset: u32) -> bool {
+    match kind {
+        HEADER_KIND => offset as usize == DRIVER_SIGNATURE_AT,
+        Host::ID => Host::object(None, offset).is_some(),
+        Interface::ID => Interface::object(None, offset).is_some(),
+        Subsystem::ID => Subsystem::object(None, offset).is_some(),
+        Security::ID => Security::object(None, offset).is_some(),
+        Discovery::ID => Discovery::object(None, offset).is_some(),
+        Info::ID => Info::object(None, offset).is_some(),
+        Extended::ID => Extended::object(None, offset).is_some(),
+        Identity::ID => Identity::object(None, offset).is_some(),
+        _ => false,
     }
 }
 

@@ -428,16 +428,15 @@ pub fn small(kind: u8, position: u8) -> Meaning<'static> {
     }
 }
 
-/// A table whose only fault is a discovery index that names no record.
+/// A machine's table whose only fault is a discovery index, of its second subsystem, that names no record.
 pub fn refused() -> Vec<u8> {
-    let subsystem = Subsystem {
+    let astray = Subsystem {
         discovery: 4,
-        ..full_subsystem(2)
+        ..machine_subsystem(2)
     };
-    form(&Meaning {
-        subsystems: at_position(2, subsystem),
-        ..small(Subsystem::ID, 2)
-    })
+    let mut whole = machine();
+    whole.subsystems[1] = Entry::Used(astray);
+    form(&whole)
 }
 
 /// Indexes that need all eight bits.
@@ -485,6 +484,7 @@ pub fn longest() -> Meaning<'static> {
 
 /// What firmware leaves on a machine with two ports to one storage array.
 pub fn machine() -> Meaning<'static> {
+    // The host ID is the UUID of this name, its bytes in order.
     let host_name = "nqn.2014-08.org.nvmexpress:uuid:3c1e7a52-9d40-4b6f-8a11-5e0d2f7c9b34";
     Meaning {
         origin: Origin {
@@ -499,7 +499,7 @@ pub fn machine() -> Meaning<'static> {
             id_configured: true,
             name_configured: true,
             primary: 2,
-            id: *b"\x52\x7A\x1E\x3C\x40\x9D\x6F\x4B\x8A\x11\x5E\x0D\x2F\x7C\x9B\x34",
+            id: *b"\x3C\x1E\x7A\x52\x9D\x40\x4B\x6F\x8A\x11\x5E\x0D\x2F\x7C\x9B\x34",
             name: Text::of(host_name),
         },
         interfaces: vec![
@@ -511,12 +511,7 @@ pub fn machine() -> Meaning<'static> {
             Entry::Used(machine_subsystem(2)),
         ],
         securities: vec![Entry::Used(machine_security())],
-        discoveries: vec![Entry::Used(Discovery {
-            interface: 1,
-            security: 1,
-            address: Some(Text::of("nvme+tcp://192.168.101.40:8009/")),
-            name: Some(Text::of("nqn.2014-08.org.nvmexpress.discovery")),
-        })],
+        discoveries: vec![Entry::Used(machine_discovery())],
     }
 }
 
@@ -524,23 +519,23 @@ pub fn machine() -> Meaning<'static> {
 pub fn mixed() -> Meaning<'static> {
     let mut whole = machine();
     whole.driver_signature = None;
-    let mut interface = machine_interface(1);
-    interface.info.ip_address = *b"\x20\x01\x0D\xB8\0\0\0\0\0\x01\0\0\0\0\0\x30";
-    interface.info.gateway = *b"\xFE\x80\0\0\0\0\0\0\0\0\0\0\0\0\0\x01";
-    interface.info.primary_dns = [0; 16];
-    whole.interfaces = vec![Entry::Used(interface), Entry::Unused];
+    let mut first = machine_interface(1);
+    first.info.ip_address = *b"\x20\x01\x0D\xB8\0\0\0\0\0\x01\0\0\0\0\0\x30";
+    first.info.gateway = *b"\xFE\x80\0\0\0\0\0\0\0\0\0\0\0\0\0\x01";
+    first.info.primary_dns = [0; 16];
+    let mut third = machine_interface(3);
+    third.info.host_name = None;
+    whole.interfaces = vec![Entry::Used(first), Entry::Unused, Entry::Used(third)];
     let mut subsystem = machine_subsystem(2);
-    subsystem.address = interface_address().into();
-    subsystem.service = b"\"4420\\\x07\xFF".into();
+    subsystem.address = b"\x20\x01\x0D\xB8\0\0\0\0\0\x01\0\0\0\0\0\x41".into();
+    subsystem.service = b"\"4420\\\x07\xFF\0".into();
     subsystem.primary_interface = 1;
-    subsystem.secondary_interfaces = None;
+    subsystem.secondary_interfaces = Some(vec![3].into());
     whole.subsystems = vec![Entry::Unused, Entry::Used(subsystem)];
     whole.securities = vec![Entry::Unused];
     whole.discoveries = vec![Entry::Used(Discovery {
-        interface: 1,
         security: 0,
-        address: None,
-        name: None,
+        ..machine_discovery()
     })];
     whole
 }
@@ -573,11 +568,6 @@ pub fn dhcp() -> Meaning<'static> {
     }
 }
 
-/// An address of 16 bytes, as a subsystem's may be.
-fn interface_address() -> Vec<u8> {
-    ipv4([192, 168, 101, 41]).to_vec()
-}
-
 fn machine_interface(port: u8) -> Interface<'static> {
     Interface {
         info: Info {
@@ -599,8 +589,9 @@ fn machine_interface(port: u8) -> Interface<'static> {
     }
 }
 
+/// What Linux's libnvme shows: an address of 16 bytes, a service that ends in a zero byte, and a list of other
+/// interfaces.
 fn machine_subsystem(port: u8) -> Subsystem<'static> {
-    let address = format!("192.168.{}.40", 100 + port).into_bytes();
     let name = "nqn.2014-08.org.nvmexpress:uuid:8f2b60c4-17de-4a05-b3c9-6a7714e0d582";
     Subsystem {
         root_path_used: port == 1,
@@ -610,12 +601,12 @@ fn machine_subsystem(port: u8) -> Subsystem<'static> {
         header_digest: true,
         data_digest: port == 2,
         discovery: 1,
-        address: address.into(),
-        service: b"4420".into(),
+        address: ipv4([192, 168, 100 + port, 40]).to_vec().into(),
+        service: b"4420\0".into(),
         port: port.into(),
         namespace: 1,
         identifier_type: 3,
-        identifier: *b"\xC4\x60\x2B\x8F\xDE\x17\x05\x4A\xB3\xC9\x6A\x77\x14\xE0\xD5\x82",
+        identifier: *b"\x8F\x2B\x60\xC4\x17\xDE\x4A\x05\xB3\xC9\x6A\x77\x14\xE0\xD5\x82",
         security: (port == 1).then_some(1),
         primary_interface: port,
         secondary_interfaces: Some(vec![3 - port].into()),
@@ -636,5 +627,15 @@ fn machine_security() -> Security<'static> {
         channel: 1,
         keypath: Some(b"/redfish/v1/KeyService/NVMeoFKeys/17".into()),
         ..full_security()
+    }
+}
+
+/// With URI and NQN: libnvme drops a record that lacks one of them.
+fn machine_discovery() -> Discovery<'static> {
+    Discovery {
+        interface: 1,
+        security: 1,
+        address: Some(Text::of("nvme+tcp://192.168.101.40:8009/")),
+        name: Some(Text::of("nqn.2014-08.org.nvmexpress.discovery")),
     }
 }

@@ -274,7 +274,7 @@ fn change_subsystem(subsystem: &mut Subsystem) {
     subsystem.header_digest = false;
     subsystem.discovery = 0;
     subsystem.address = b"192.168.101.4".into();
-    subsystem.service = b"4421".into();
+    subsystem.service = b"4421\0".into();
     subsystem.port = 0x1234;
     subsystem.namespace = u32::MAX;
     subsystem.identifier_type = 2;
@@ -325,7 +325,7 @@ const MACHINE_LINES: &str = "\
 0 0 32 16777235 16777236
 0 0 44 49 0 0
 2 0 1 23 15
-2 0 2 527a1e3c409d6f4b8a115e0d2f7c9b34 537a1e3c409d6f4b8a115e0d2f7c9b34
+2 0 2 3c1e7a529d404b6f8a115e0d2f7c9b34 531e7a529d404b6f8a115e0d2f7c9b34
 2 0 18 69 16 15
 7 1 3 1 2
 7 1 6 7 3
@@ -345,12 +345,12 @@ const MACHINE_LINES: &str = "\
 4 1 3 221 217
 4 1 6 3 1
 4 1 8 1 0
-4 1 10 14 13 13
-4 1 16 4 4 3
+4 1 10 16 13 0
+4 1 16 5 5 3
 4 1 22 1 4660
 4 1 24 1 4294967295
 4 1 28 3 2
-4 1 29 c4602b8fde17054ab3c96a7714e0d582 c4602b8fde17054ab3c96a7714e0d500
+4 1 29 8f2b60c417de4a05b3c96a7714e0d582 8f2b60c417de4a05b3c96a7714e0d500
 4 1 45 1 0
 4 1 46 1 2
 4 1 48 1 0 0

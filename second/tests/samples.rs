@@ -3,9 +3,10 @@
 use second::answer::number;
 use second::builder::{self, ToldInterface};
 use second::form::{put_checksum, records_end};
-use second::samples::{crowded, known, longest, machine, small, smallest};
+use second::samples::{crowded, dhcp, known, longest, machine, mixed, refused, small, smallest};
 use second::state::{FINISHED, READY};
-use second::{check, field, form, meaning, object, record, rewrite, Answer, State};
+use second::wire::u32_at;
+use second::{check, field, form, meaning, object, record, rewrite, Answer, Meaning, State};
 
 fn form_of(table: &[u8]) -> (Answer, Vec<u8>) {
     let mut output = vec![0xEE; 70_000];
@@ -91,6 +92,47 @@ fn a_machine_reads_back() {
     let table = form(&told);
     assert!((1200..1500).contains(&table.len()), "{}", table.len());
     assert_eq!(meaning(&table), told);
+}
+
+/// The bytes of the UUID at the end of a host NQN, in the order in which they are written.
+fn uuid_of(name: &[u8]) -> Vec<u8> {
+    let words = std::str::from_utf8(name).expect("a name in ASCII");
+    let uuid = words.strip_prefix("nqn.2014-08.org.nvmexpress:uuid:");
+    let digits = uuid.expect("a name by UUID").replace('-', "");
+    let byte = |place| u8::from_str_radix(&digits[place..place + 2], 16).expect("two digits");
+    (0..digits.len()).step_by(2).map(byte).collect()
+}
+
+/// What Linux's library wants of a table, or else it leaves something out.
+fn is_as_linux_reads_it(said: &Meaning) {
+    assert_eq!(said.host.id.to_vec(), uuid_of(said.host.name.words()));
+    for subsystem in said.subsystems.iter().filter_map(|entry| entry.used()) {
+        assert_eq!(subsystem.address.len(), 16);
+        let zero = subsystem.service.iter().position(|byte| *byte == 0);
+        assert_eq!(zero, Some(subsystem.service.len() - 1));
+        let others = subsystem.secondary_interfaces.as_ref();
+        assert!(!others
+            .expect("a list")
+            .contains(&subsystem.primary_interface));
+    }
+    for discovery in said.discoveries.iter().filter_map(|entry| entry.used()) {
+        assert!(discovery.address.is_some() && discovery.name.is_some());
+    }
+}
+
+#[test]
+fn machines_are_as_linux_reads_them() {
+    for said in [machine(), mixed(), dhcp()] {
+        is_as_linux_reads_it(&said);
+    }
+    let mut whole = refused();
+    let answer = Answer::at(number::INDEX, 4, 2);
+    assert_eq!(check(&whole), answer);
+    // The second subsystem's index of a discovery record, which is then the one that there is.
+    let start = u32_at(&whole, 88) as usize + 128;
+    whole[start + 8] = 1;
+    put_checksum(&mut whole);
+    assert_eq!(meaning(&whole), machine());
 }
 
 #[test]

@@ -19,7 +19,7 @@ pub struct Counts {
 /// What is told of the host.
 #[derive(Clone, Copy, Debug)]
 pub struct Host<'a> {
-    /// In table layout.
+    /// In table layout. The host ID, 16 bytes from 2 on, is the UUID of the NQN, its bytes in order.
     pub record: &'a [u8; 32],
     /// A text; required.
     pub nqn: &'a [u8],
@@ -55,12 +55,12 @@ pub struct HfiExtended<'a> {
 pub struct Ssns<'a> {
     /// In table layout.
     pub record: &'a [u8; 128],
-    /// Required.
+    /// 16 bytes in network order, an IPv4 address mapped (`::ffff:a.b.c.d`), which is not tested; required.
     pub address: &'a [u8],
-    /// Required.
+    /// Ends in one zero byte, as in `b"4420\0"`, which the builder does not add; required.
     pub service: &'a [u8],
     /// The indexes of the secondary HFIs, one byte each; optional. None of them comes twice, and there are no more than
-    /// HFIs are counted.
+    /// HFIs are counted. Linux's libnvme drops an SSNS without them.
     pub others: &'a [u8],
     /// A text; required.
     pub nqn: &'a [u8],
@@ -95,7 +95,7 @@ pub struct Security<'a> {
 pub struct Discovery<'a> {
     /// In table layout.
     pub record: &'a [u8; 32],
-    /// A URI, which is a text; optional.
+    /// A URI, which is a text; optional. Linux's libnvme drops a record without URI or NQN.
     pub address: &'a [u8],
     /// A text; optional.
     pub nqn: &'a [u8],

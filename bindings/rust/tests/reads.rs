@@ -33,7 +33,8 @@ fn a_machine_says_what_it_was_told() {
     assert_eq!(number(MACHINE, Kind::HfiInfo, 2, 7), 0x1C01);
     assert_eq!(number(MACHINE, Kind::SsnsExtended, 1, 10), 32);
     assert_eq!(bytes(MACHINE, Kind::Ssns, 1, 54), name);
-    assert_eq!(bytes(MACHINE, Kind::Ssns, 2, 10), b"192.168.102.40");
+    assert_eq!(bytes(MACHINE, Kind::Ssns, 2, 10), b"\0\0\0\0\0\0\0\0\0\0\xFF\xFF\xC0\xA8\x66\x28");
+    assert_eq!(bytes(MACHINE, Kind::Ssns, 2, 16), b"4420\0");
     assert_eq!(bytes(MACHINE, Kind::Security, 1, 36), b"/redfish/v1/KeyService/NVMeoFKeys/17");
     assert_eq!(bytes(MACHINE, Kind::Discovery, 1, 6), b"nvme+tcp://192.168.101.40:8009/");
     assert_eq!(field(MACHINE, Kind::HfiInfo, 1, 20).unwrap().number(), None);

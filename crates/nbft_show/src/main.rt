@@ -1,32 +1,63 @@
-// `nbft_show FILE`: what a table says, for people; `nbft_show --json FILE`: the same as JSON. Of a table that is refused, number, kind and
-// position of the first fault, and the words.
-use tool::MOST;
+// `nbft_show [--json] [--all] [FILE]..`: what tables say, for people or as JSON. Of a table that is refused, number, kind and position of the first fault,
+// and the words.
+mod files; // tables from files, folders and standard input
+mod options; // what is asked for
 
-fn show_file(argument: usize, as_json: bool) {
-    let mut table = [0u8; MOST];
-    let got = tool::read_file(argument, &mut table);
-    let n = got.len;
-    if got.whole {
-        show::show(&table[..n], as_json);
+use files::print_end;
+use files::print_start;
+use files::show_name;
+use options::Asked;
+use options::read_options;
+
+// Where Linux keeps the tables that firmware handed over.
+fn show_default(a: Asked) -> bool {
+    show_name(b"/sys/firmware/acpi/tables", a, true)
+}
+
+fn show_argument(argument: usize, a: Asked, none: bool) -> bool {
+    let mut path = io::buffer();
+    let length = os::arg(argument, &mut path);
+    if os::errno() != 0 {
+        os::fail(b"the file's name");
+        return none;
     }
+    show_name(&path[..length], a, none)
+}
+
+fn show_arguments(a: Asked, count: usize) -> bool {
+    let mut none = true;
+    let mut argument = a.files;
+    while argument < count {
+        none = show_argument(argument, a, none);
+        argument += 1;
+    }
+    none
+}
+
+fn show_all(a: Asked, count: usize) -> bool {
+    if a.files < count {
+        return show_arguments(a, count);
+    }
+    show_default(a)
 }
 
 fn main() {
-    if tool::helped(b"usage: nbft_show [--json] FILE\n") {
+    if tool::helped(
+        b"usage: nbft_show [--json] [--all] [FILE]...\n\
+          Shows what NVMe boot firmware tables say.\n\
+          FILE is a file, a folder (its NBFT and NBFT1 to NBFT9 are shown) or - for standard input; without one,\n\
+          /sys/firmware/acpi/tables.\n\
+          --json  as JSON: a list with an object for each table, with the keys of `nvme nbft show -o json`\n\
+          --all   also what is zero or absent, and raw values\n",
+    ) {
         return;
     }
     let count = os::arg_count();
-    let json = tool::argument_is(1, b"--json");
-    if json {
-        if count == 3 {
-            show_file(2, true);
-            return;
-        }
-    } else {
-        if count == 2 {
-            show_file(1, false);
-            return;
-        }
+    let a = read_options(count);
+    if !a.known {
+        tool::complain(b"usage: nbft_show [--json] [--all] [FILE]...", b"\n");
+        return;
     }
-    tool::complain(b"usage: nbft_show [--json] FILE", b"\n");
+    print_start(a);
+    print_end(a, show_all(a, count));
 }

@@ -1,139 +1,189 @@
-// Cells of an accepted table: the field or the object of a column, by position.
+// The value of a row for people. Each is printed where it is asked for, and its width returned in any case.
+use crate::bytes::CHARACTERS;
+use crate::bytes::DIGITS;
+use crate::bytes::before_final_zero;
+use crate::bytes::put;
+use crate::bytes::put_bytes;
+use crate::numbers::NONE;
+use crate::numbers::put_numbers;
+use crate::records::number_in;
+use crate::records::text_in;
 use reads::fields::field_in;
 use reads::objects::object_in;
 use reads::objects::place_in;
-use show_cells::Column;
-use show_cells::Form;
-use show_cells::values::pad;
-use show_cells::values::print_absent;
-use show_cells::values::print_address;
-use show_cells::values::print_digits;
-use show_cells::values::print_empty;
-use show_cells::values::print_flag;
-use show_cells::values::print_interfaces;
-use show_cells::values::print_plain;
-use show_cells::values::print_string;
-use show_cells::values::print_text;
-use show_cells::values::value_of;
+use show_table::Row;
+use show_table::forms::AVAILABILITY;
+use show_table::forms::BYTES;
+use show_table::forms::BYTES_TEXT;
+use show_table::forms::CHOSEN;
+use show_table::forms::FLAG;
+use show_table::forms::HFIS;
+use show_table::forms::NAME;
+use show_table::forms::POSITION;
+use show_table::forms::POSITIONS;
+use show_table::forms::PRIMARY;
+use show_table::forms::REACHED;
+use show_table::forms::SERVICE;
+use show_table::forms::TEXT;
+use show_table::forms::WANTED;
 use table::Field;
+use text::Text;
+use text::append::empty;
+use text::append::with_bytes;
+ghost use Prim.Native.Nat.{_≤_};
+ghost use lib.ListN.{length};
+ghost use Rattle.io.specs.Counts.{Counts};
 ghost use Rattle.reader.specs.Accepted.{Accepted};
 
-fn print_front(x: &[u8], n: usize, json: bool, width: usize) {
-    if n <= x.len() {
-        print_string(&x[0..n], json, width);
-    }
+fn put_word(word: &[u8], out: bool) -> usize
+    requires { ⌜ length (now word) ≤ 16 ⌝ }
+{
+    put(with_bytes(empty(), word), out)
 }
 
-fn print_field_string(f: Field, json: bool, width: usize) {
+fn is_set(t: &[u8], position: usize, row: Row, modulus: u64) -> bool
+    requires { ⌜ Accepted (now t) ⌝ }
+{
+    let n = number_in(t, position, row.kind, row.off);
+    if modulus == 4 {
+        return show_values::choices::bits_of(n, row.weight, 4) != 0;
+    }
+    show_values::choices::bits_of(n, row.weight, 2) != 0
+}
+
+fn put_flag(set: bool, out: bool) -> usize {
+    if set {
+        return put_word(b"yes", out);
+    }
+    put_word(b"no", out)
+}
+
+fn put_front(x: &[u8], n: usize, out: bool) -> usize {
+    if n <= x.len() {
+        return put_bytes(&x[0..n], CHARACTERS, out);
+    }
+    0
+}
+
+fn put_name(f: Field, out: bool) -> usize {
     let n = f.len;
     let b = f.bytes;
-    print_front(&b, n, json, width);
+    put_front(&b, n, out)
 }
 
-// Sixteen bytes by their numbers.
-fn print_field_digits(f: Field, json: bool, width: usize) {
-    let b = f.bytes;
-    print_digits(&b, json, width);
-}
-
-fn print_field_address(f: Field, json: bool, width: usize) {
-    let b = f.bytes;
-    print_address(&b, json, width);
-}
-
-fn print_mac_in(x: &[u8], json: bool, width: usize) {
-    if 6 <= x.len() {
-        print_text(text_hex::mac(&x[0..6]), json, width);
-    }
-}
-
-fn print_mac(f: Field, json: bool, width: usize) {
-    let b = f.bytes;
-    print_mac_in(&b, json, width);
-}
-
-fn print_transport(f: Field, json: bool, width: usize) {
-    if value_of(f) == 3 {
-        print_text(
-            text::append::with_bytes(text::append::empty(), b"tcp"),
-            json,
-            width,
-        );
-        return;
-    }
-    print_plain(text::decimal(value_of(f)), json, width);
-}
-
-// Flag 2 of the transport info.
-fn print_dhcp(f: Field, json: bool, width: usize) {
-    print_flag(value_of(f) / 4 % 2 == 1, json, width);
-}
-
-// Flag 3, which version 1 reserves.
-fn print_autoconfigured(f: Field, json: bool, width: usize) {
-    print_flag(value_of(f) / 8 % 2 == 1, json, width);
-}
-
-// An object of bytes or a text, or none. An empty text is present, though its part is empty as that of none is.
-fn print_object(t: &[u8], kind: u8, n: usize, off: usize, json: bool, width: usize)
+// An empty text is present: for people too it must not look like one that is absent.
+fn put_characters(t: &[u8], position: usize, row: Row, out: bool) -> usize
     requires { ⌜ Accepted (now t) ⌝ }
 {
-    let place = place_in(t, kind, n, off);
-    if !place.present {
-        print_absent(json, width);
-        return;
+    let place = place_in(t, row.kind, position, row.off);
+    let x = object_in(t, row.kind, position, row.off);
+    if place.present {
+        if x.len() == 0 {
+            return put_word(b"\"\"", out);
+        }
     }
-    let x = object_in(t, kind, n, off);
-    if x.len() == 0 {
-        print_empty(json, width);
-        return;
-    }
-    print_string(x, json, width);
+    put_bytes(x, CHARACTERS, out)
 }
 
-fn print_digits_object(x: &[u8], json: bool, width: usize) {
-    if x.len() == 0 {
-        print_absent(json, width);
-        return;
+// What is long enough for an address is one.
+fn put_reached(x: &[u8], out: bool) -> usize {
+    if 16 <= x.len() {
+        return put(text_addresses::address(&x[0..16]), out);
     }
-    print_digits(x, json, width);
+    put_bytes(x, CHARACTERS, out)
 }
 
-// The cell of a column, of the record at position `n`.
-pub fn print_cell(t: &[u8], n: usize, c: Column, json: bool)
+fn put_service(x: &[u8], out: bool) -> usize {
+    let end = before_final_zero(x);
+    put_bytes(&x[0..end], CHARACTERS, out)
+}
+
+fn put_object(t: &[u8], position: usize, row: Row, x: &[u8], out: bool) -> usize
     requires { ⌜ Accepted (now t) ⌝ }
 {
-    let kind = c.kind;
-    let off = c.off;
-    let width = c.width;
-    let form = c.form;
+    let form = row.form;
     match form {
-        Form::Position => print_plain(text::decimal(n as u64), json, width),
-        Form::Number => print_plain(
-            text::decimal(value_of(field_in(t, kind, n, off))),
-            json,
-            width,
-        ),
-        Form::Dhcp => print_dhcp(field_in(t, kind, n, off), json, width),
-        Form::Autoconfigured => print_autoconfigured(field_in(t, kind, n, off), json, width),
-        Form::Transport => print_transport(field_in(t, kind, n, off), json, width),
-        Form::Name => print_field_string(field_in(t, kind, n, off), json, width),
-        Form::Digits => print_field_digits(field_in(t, kind, n, off), json, width),
-        Form::Address => print_field_address(field_in(t, kind, n, off), json, width),
-        Form::Mac => print_mac(field_in(t, kind, n, off), json, width),
-        Form::Pci => print_text(
-            text_hex::pci(value_of(field_in(t, kind, n, off))),
-            json,
-            width,
-        ),
-        Form::Object => print_object(t, kind, n, off, json, width),
-        Form::AddressObject => print_address(object_in(t, kind, n, off), json, width),
-        Form::DigitsObject => print_digits_object(object_in(t, kind, n, off), json, width),
-        Form::Interfaces => print_interfaces(
-            value_of(field_in(t, kind, n, off)),
-            object_in(t, kind, n, 48),
-            json,
-        ),
-        Form::Nothing => pad(0, width),
+        REACHED => put_reached(x, out),
+        SERVICE => put_service(x, out),
+        BYTES => put_bytes(x, DIGITS, out),
+        HFIS => put_numbers(number_in(t, position, row.kind, row.by), x, out),
+        _ => put_numbers(NONE, x, out),
+    }
+}
+
+fn is_object_form(form: u64) -> bool {
+    match form {
+        REACHED => true,
+        SERVICE => true,
+        BYTES => true,
+        HFIS => true,
+        POSITIONS => true,
+        _ => false,
+    }
+}
+
+pub fn put_cell(t: &[u8], position: usize, row: Row, out: bool) -> usize
+    requires { ⌜ Accepted (now t) ⌝ }
+{
+    let form = row.form;
+    if is_object_form(form) {
+        return put_object(
+            t,
+            position,
+            row,
+            object_in(t, row.kind, position, row.off),
+            out,
+        );
+    }
+    match form {
+        POSITION => put(text::decimal(position as u64), out),
+        FLAG => put_flag(is_set(t, position, row, 2), out),
+        NAME => put_name(field_in(t, row.kind, position, row.off), out),
+        TEXT => put_characters(t, position, row, out),
+        BYTES_TEXT => put_characters(t, position, row, out),
+        _ => put(text_in(t, position, row), out),
+    }
+}
+
+fn is_object_or_text(form: u64) -> bool {
+    match form {
+        TEXT => true,
+        BYTES_TEXT => true,
+        _ => is_object_form(form),
+    }
+}
+
+// Nothing, 0, and the address of zeros.
+fn is_silent(t: Text) -> bool
+    requires { ⌜ Counts (t .len) (t .bytes) ⌝ }
+{
+    let n = t.len;
+    let b = t.bytes;
+    if n == 1 {
+        return b[0] == b'0';
+    }
+    if n == 2 {
+        if b[0] == b':' {
+            return b[1] == b':';
+        }
+    }
+    n == 0
+}
+
+// Whether a row says anything of a record: what is absent, zero or not set does not.
+pub fn says_something(t: &[u8], position: usize, row: Row) -> bool
+    requires { ⌜ Accepted (now t) ⌝ }
+{
+    let form = row.form;
+    if is_object_or_text(form) {
+        return put_cell(t, position, row, false) != 0;
+    }
+    match form {
+        FLAG => is_set(t, position, row, 2),
+        PRIMARY => is_set(t, position, row, 4),
+        AVAILABILITY => is_set(t, position, row, 4),
+        WANTED => is_set(t, position, row, 4),
+        CHOSEN => is_set(t, position, row, 4),
+        _ => !is_silent(text_in(t, position, row)),
     }
 }

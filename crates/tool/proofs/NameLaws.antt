@@ -7,13 +7,16 @@ use lib.Seq.{take-length, take-append-seam, take-at}
 use borrow.Table.Elements.{take-le}
 use Rattle.io.specs.Counts.{Counts}
 
-module _ (p s a z post x y : List ℕ) (first : x ≡ take (length p) p ++ a) (second : y ≡ s ++ z) where
+module _ (p s a z post x y : List ℕ) (first : x ≡ take (length p) p ++ a) (second : y ≡ take (length s) s ++ z) where
   abbrev both : List ℕ
   both = take (length p) x ++ (y ++ post)
 
+  ending : y ≡ s ++ z
+  ending = second ∙ ap (λ (u : List ℕ). u ++ z) (take-length s)
+
   pub joined : take (length p + length s) both ≡ p ++ s
   joined =
-      ap₂ (λ (u v : List ℕ). take (length p + length s) (u ++ (v ++ post))) (ap (take (length p)) (first ∙ ap (λ (u : List ℕ). u ++ a) (take-length p)) ∙ take-append-seam p a) second
+      ap₂ (λ (u v : List ℕ). take (length p + length s) (u ++ (v ++ post))) (ap (take (length p)) (first ∙ ap (λ (u : List ℕ). u ++ a) (take-length p)) ∙ take-append-seam p a) ending
       ∙ ap (λ (u : List ℕ). take (length p + length s) (p ++ u)) (append-assoc s z post)
       ∙ ap (take (length p + length s)) (sym (append-assoc p s (z ++ post)))
       ∙ take-at (p ++ s) (z ++ post) (length p + length s) (length-append p s)

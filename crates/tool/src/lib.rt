@@ -2,9 +2,11 @@
 pub mod writing; // a file written
 
 use libc::STDERR_FILENO;
+use libc::STDIN_FILENO;
 use libc::STDOUT_FILENO;
 use table::Answer;
 use text::Text;
+pub use writing::put_name;
 pub use writing::write_file;
 ghost use mathlib.Core.Path.{_≡_};
 ghost use lib.ListN.{take};
@@ -56,7 +58,7 @@ fn read_open(fd: i32, path: &[u8], into: &mut [u8]) -> Got
 }
 
 // The file with this name; where it is not read whole, a line on standard error says why.
-fn read_named(path: &[u8], into: &mut [u8]) -> Got
+pub fn read_named(path: &[u8], into: &mut [u8]) -> Got
     ensures { λ r. ⌜ Counts (r .len) (now (into .exit)) ⌝ }
 {
     let fd = os::open_read(path);
@@ -70,6 +72,39 @@ fn read_named(path: &[u8], into: &mut [u8]) -> Got
     let got = read_open(fd, path, into);
     libc::close(fd);
     got
+}
+
+// Standard input, in the same way.
+pub fn read_input(into: &mut [u8]) -> Got
+    ensures { λ r. ⌜ Counts (r .len) (now (into .exit)) ⌝ }
+{
+    read_open(STDIN_FILENO, b"standard input", into)
+}
+
+// Whether the name is that of a folder: it can be opened to read, but not read.
+pub fn is_folder(path: &[u8]) -> bool {
+    let fd = os::open_read(path);
+    if fd < 0 {
+        return false;
+    }
+    let mut next = [0u8; 1];
+    let got = libc::read(fd, &mut next);
+    let folder = os::errno() == libc::EISDIR;
+    libc::close(fd);
+    if got < 0 {
+        return folder;
+    }
+    false
+}
+
+// Whether there is something with this name, readable or not.
+pub fn is_there(path: &[u8]) -> bool {
+    let fd = os::open_read(path);
+    if fd < 0 {
+        return os::errno() != libc::ENOENT;
+    }
+    libc::close(fd);
+    true
 }
 
 // The file that an argument of the program names.

@@ -6,20 +6,19 @@ ghost use mathlib.Core.List.{_++_};
 ghost use Prim.Native.Nat.{_+_, _≤_};
 ghost use lib.ListN.{length, take};
 ghost use Rattle.io.specs.Counts.{Counts};
-ghost use Rattle.text.specs.Ascii.{ascii};
 
 // Room for the longest argument and `.part`. A name that is longer than paths may be is refused where it is used.
 const NAME_MAX: usize = 4101;
 
-// Beside the file itself, since a rename cannot leave a file system.
-fn put_part_name(path: &[u8], name: &mut [u8]) -> usize
-    requires { ⌜ length (now path) + 5 ≤ length (now name) ⌝ }
-    ensures { λ r. ⌜ Counts r (now (name .exit)) × (take r (now (name .exit)) ≡ now (path .entry) ++ ascii ".part") ⌝ }
+// A path with an ending behind it; how long both are.
+pub fn put_name(path: &[u8], ending: &[u8], name: &mut [u8]) -> usize
+    requires { ⌜ length (now path) + length (now ending) ≤ length (now name) ⌝ }
+    ensures { λ r. ⌜ Counts r (now (name .exit)) × (take r (now (name .exit)) ≡ now (path .entry) ++ now (ending .entry)) ⌝ }
 {
     let n = path.len();
-    let end = n + 5;
+    let end = n + ending.len();
     bytes::copy(path, name);
-    bytes::copy(b".part", &mut name[n..end]);
+    bytes::copy(ending, &mut name[n..end]);
     end
 }
 
@@ -64,8 +63,9 @@ fn write_new(path: &[u8], content: &[u8]) -> bool {
 fn write_beside(path: &[u8], content: &[u8]) -> bool
     requires { ⌜ length (now path) ≤ 4096 ⌝ }
 {
+    // Beside the file itself, since a rename cannot leave a file system.
     let mut name = [0u8; NAME_MAX];
-    let len = put_part_name(path, &mut name);
+    let len = put_name(path, b".part", &mut name);
     if !write_new(&name[..len], content) {
         return false;
     }

@@ -4,40 +4,31 @@ use Rattle.show.proofs.json.print_list.Statement.{statement}
 use Rattle.show.proofs.json.print_list.Tie as tie
 
 abbrev Inv-loop : tie.InvT-loop
-Inv-loop t name kind count i₀ t6 t7 t8 i = 0 ≤ i
+Inv-loop t kind last none₀ passed₀ none passed = 0 ≤ passed
 
 abbrev μ-loop : tie.MeasureT-loop
-μ-loop t name kind count i₀ t6 t7 t8 i = count - i
-
-print-bytes-requires : tie.Need-print-bytes-requires Inv-loop μ-loop
-print-bytes-requires c κs = search picks
-
-count-of-requires : tie.Need-count-of-requires Inv-loop μ-loop
-count-of-requires c κs = search picks
-
-loop-holds : tie.Need-loop-holds Inv-loop μ-loop
-loop-holds c = search picks
+μ-loop t kind last none₀ passed₀ none passed = last - passed
 
 slice-aggregate-print-bytes : tie.Need-slice-aggregate-print-bytes Inv-loop μ-loop
 slice-aggregate-print-bytes c = search picks
 
-print-bytes-requires-2 : tie.Need-print-bytes-requires-2 Inv-loop μ-loop
-print-bytes-requires-2 c κs = search picks
+print-bytes-requires : tie.Need-print-bytes-requires Inv-loop μ-loop
+print-bytes-requires c κs = search picks
 
-slice-aggregate-print-bytes-2 : tie.Need-slice-aggregate-print-bytes-2 Inv-loop μ-loop
-slice-aggregate-print-bytes-2 c = search picks
+last-position-requires : tie.Need-last-position-requires Inv-loop μ-loop
+last-position-requires c κs = search picks
 
-print-bytes-requires-3 : tie.Need-print-bytes-requires-3 Inv-loop μ-loop
-print-bytes-requires-3 c κs = search picks
+loop-holds : tie.Need-loop-holds Inv-loop μ-loop
+loop-holds c = search picks
 
-add-print-position : tie.Need-add-print-position Inv-loop μ-loop
-add-print-position c = search picks
+add-print-if-used : tie.Need-add-print-if-used Inv-loop μ-loop
+add-print-if-used c = search picks
 
-print-position-requires : tie.Need-print-position-requires Inv-loop μ-loop
-print-position-requires c κs = search picks
+print-if-used-requires : tie.Need-print-if-used-requires Inv-loop μ-loop
+print-if-used-requires c κs = search picks
 
-add-i : tie.Need-add-i Inv-loop μ-loop
-add-i c = search picks
+add-passed : tie.Need-add-passed Inv-loop μ-loop
+add-passed c = search picks
 
 loop-less : tie.Need-loop-less Inv-loop μ-loop
 loop-less c = search picks
@@ -45,11 +36,8 @@ loop-less c = search picks
 loop-again : tie.Need-loop-again Inv-loop μ-loop
 loop-again c = search picks
 
-slice-aggregate-print-bytes-3 : tie.Need-slice-aggregate-print-bytes-3 Inv-loop μ-loop
-slice-aggregate-print-bytes-3 c = search picks
-
-print-bytes-requires-4 : tie.Need-print-bytes-requires-4 Inv-loop μ-loop
-print-bytes-requires-4 c κs = search picks
+print-list-end-requires : tie.Need-print-list-end-requires Inv-loop μ-loop
+print-list-end-requires c κs = search picks
 
 returns : tie.Need-returns Inv-loop μ-loop
 returns c = search picks
@@ -60,18 +48,14 @@ print-list-spec =
     (tie.spec
     Inv-loop
     μ-loop
-    print-bytes-requires
-    count-of-requires
-    loop-holds
     slice-aggregate-print-bytes
-    print-bytes-requires-2
-    slice-aggregate-print-bytes-2
-    print-bytes-requires-3
-    add-print-position
-    print-position-requires
-    add-i
+    print-bytes-requires
+    last-position-requires
+    loop-holds
+    add-print-if-used
+    print-if-used-requires
+    add-passed
     loop-less
     loop-again
-    slice-aggregate-print-bytes-3
-    print-bytes-requires-4
+    print-list-end-requires
     returns)

@@ -1,0 +1,4 @@
+pub mod Forms
+pub mod Shown
+pub mod Names
+pub mod Coverage

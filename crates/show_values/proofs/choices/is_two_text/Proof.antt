@@ -1,0 +1,43 @@
+use mathlib.Core.Path.{ap, sym, _∙_}
+use Rattle.show_values.specs.Values.{bitsOf, isTwoOf}
+use borrow.Author.Tests.{eq-eqb, ne-eqb}
+use borrow.Author.Needs.{needs}
+use Rattle.show_values.proofs.choices.is_two_text.Statement.{statement}
+use Rattle.show_values.proofs.choices.is_two_text.Tie as tie
+
+number-of-requires : tie.Need-number-of-requires
+number-of-requires c κs = search needs
+
+bits-of-requires : tie.Need-bits-of-requires
+bits-of-requires c κs = search needs
+
+decimal-requires : tie.Need-decimal-requires
+decimal-requires c κs = search needs
+
+returns : tie.Need-returns
+unfolding isTwoOf
+returns c =
+    let at = c .before .before in
+    let bits = at .bits-of .ensures ∙ ap (bitsOf (at .before .before .before .args .weight) 4) (at .before .number-of .ensures .0) in
+    (c .decimal .ensures .0, rw (eq-eqb _ _ (sym bits ∙ c .before .if1 .taken)) (c .decimal .ensures .1))
+
+decimal-requires-2 : tie.Need-decimal-requires-2
+decimal-requires-2 c κs = search needs
+
+returns-2 : tie.Need-returns-2
+unfolding isTwoOf
+returns-2 c =
+    let at = c .before .before in
+    let bits = at .bits-of .ensures ∙ ap (bitsOf (at .before .before .before .args .weight) 4) (at .before .number-of .ensures .0) in
+    (c .decimal2 .ensures .0, rw (ne-eqb _ _ (λ e. c .before .if1 .left (bits ∙ e))) (c .decimal2 .ensures .1))
+
+pub is-two-text-spec : {M : Type 1} → statement M
+is-two-text-spec =
+    tie.close
+    (tie.spec
+    number-of-requires
+    bits-of-requires
+    decimal-requires
+    returns
+    decimal-requires-2
+    returns-2)
