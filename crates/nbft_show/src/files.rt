@@ -1,5 +1,6 @@
 // Tables from files, folders and standard input, shown one behind the other. Each call is told whether none has been shown so far, and tells the next.
 use crate::options::Asked;
+use crate::options::with_several;
 use show::bytes::CHARACTERS;
 use show::bytes::put_bytes;
 use show::json::print_file;
@@ -49,7 +50,7 @@ fn show_for_people(name: &[u8], t: &[u8], a: Asked, none: bool) {
     if !none {
         print_bytes(b"\n");
     }
-    if a.several {
+    if a.files == 2 {
         put_bytes(name, CHARACTERS, true);
         print_bytes(b":\n\n");
     }
@@ -154,16 +155,6 @@ fn show_folder(path: &[u8], a: Asked, none: bool) -> bool
         tool::complain(path, b": no NBFT, NBFT1 .. NBFT9 in this folder\n");
     }
     none_shown
-}
-
-fn with_several(a: Asked) -> Asked {
-    Asked {
-        known: a.known,
-        json: a.json,
-        all: a.all,
-        several: true,
-        files: a.files,
-    }
 }
 
 // A file, a folder, or standard input.

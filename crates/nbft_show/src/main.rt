@@ -7,6 +7,7 @@ use files::print_end;
 use files::print_start;
 use files::show_name;
 use options::Asked;
+use options::is_file;
 use options::read_options;
 
 // Where Linux keeps the tables that firmware handed over.
@@ -15,6 +16,9 @@ fn show_default(a: Asked) -> bool {
 }
 
 fn show_argument(argument: usize, a: Asked, none: bool) -> bool {
+    if !is_file(argument) {
+        return none;
+    }
     let mut path = io::buffer();
     let length = os::arg(argument, &mut path);
     if os::errno() != 0 {
@@ -26,7 +30,7 @@ fn show_argument(argument: usize, a: Asked, none: bool) -> bool {
 
 fn show_arguments(a: Asked, count: usize) -> bool {
     let mut none = true;
-    let mut argument = a.files;
+    let mut argument: usize = 1;
     while argument < count {
         none = show_argument(argument, a, none);
         argument += 1;
@@ -35,10 +39,10 @@ fn show_arguments(a: Asked, count: usize) -> bool {
 }
 
 fn show_all(a: Asked, count: usize) -> bool {
-    if a.files < count {
-        return show_arguments(a, count);
+    if a.files == 0 {
+        return show_default(a);
     }
-    show_default(a)
+    show_arguments(a, count)
 }
 
 fn main() {

@@ -1,10 +1,10 @@
-// What is asked for: options, and where behind them the files start.
+// What is asked for: options anywhere among the files, and whether files are named.
 
+// Of the files: 0 none, 1 one, 2 several.
 pub struct Asked {
     pub known: bool,
     pub json: bool,
     pub all: bool,
-    pub several: bool,
     pub files: usize,
 }
 
@@ -39,35 +39,8 @@ fn word_at(argument: usize) -> Word {
     Word::File
 }
 
-// With one word more that stands in front of the files.
-fn with_word(a: Asked, word: Word) -> Asked {
-    match word {
-        Word::Json => Asked {
-            known: a.known,
-            json: true,
-            all: a.all,
-            several: a.several,
-            files: a.files,
-        },
-        Word::All => Asked {
-            known: a.known,
-            json: a.json,
-            all: true,
-            several: a.several,
-            files: a.files,
-        },
-        Word::File => a,
-        Word::Unknown => Asked {
-            known: false,
-            json: a.json,
-            all: a.all,
-            several: a.several,
-            files: a.files,
-        },
-    }
-}
-
-fn is_file(word: Word) -> bool {
+pub fn is_file(argument: usize) -> bool {
+    let word = word_at(argument);
     match word {
         Word::File => true,
         Word::Json => false,
@@ -76,37 +49,43 @@ fn is_file(word: Word) -> bool {
     }
 }
 
-// The files start at an argument; each has its name above it where there are several.
-fn with_files(a: Asked, files: usize, count: usize) -> Asked {
-    let mut several = false;
-    if files < count {
-        several = files != count - 1;
-    }
+fn asked_of(known: bool, json: bool, all: bool, files: usize) -> Asked {
     Asked {
-        known: a.known,
-        json: a.json,
-        all: a.all,
-        several: several,
+        known: known,
+        json: json,
+        all: all,
         files: files,
     }
 }
 
+fn one_more(files: usize) -> usize {
+    if files == 0 {
+        return 1;
+    }
+    2
+}
+
+// With one argument more.
+fn with_word(a: Asked, word: Word) -> Asked {
+    match word {
+        Word::File => asked_of(a.known, a.json, a.all, one_more(a.files)),
+        Word::Json => asked_of(a.known, true, a.all, a.files),
+        Word::All => asked_of(a.known, a.json, true, a.files),
+        Word::Unknown => asked_of(false, a.json, a.all, a.files),
+    }
+}
+
+// With several files, as a folder may have.
+pub fn with_several(a: Asked) -> Asked {
+    asked_of(a.known, a.json, a.all, 2)
+}
+
 pub fn read_options(count: usize) -> Asked {
-    let mut a = Asked {
-        known: true,
-        json: false,
-        all: false,
-        several: false,
-        files: 1,
-    };
+    let mut a = asked_of(true, false, false, 0);
     let mut argument: usize = 1;
     while argument < count {
-        let word = word_at(argument);
-        if is_file(word) {
-            return with_files(a, argument, count);
-        }
-        a = with_word(a, word);
+        a = with_word(a, word_at(argument));
         argument += 1;
     }
-    with_files(a, argument, count)
+    a
 }

@@ -6,8 +6,10 @@ use crate::bytes::put;
 use crate::bytes::put_bytes;
 use crate::numbers::NONE;
 use crate::numbers::put_numbers;
+use crate::records::is_there;
 use crate::records::number_in;
 use crate::records::text_in;
+use crate::values::is_object_form;
 use reads::fields::field_in;
 use reads::objects::object_in;
 use reads::objects::place_in;
@@ -19,13 +21,14 @@ use show_table::forms::CHOSEN;
 use show_table::forms::FLAG;
 use show_table::forms::HFIS;
 use show_table::forms::NAME;
+use show_table::forms::OR_OUT;
 use show_table::forms::POSITION;
-use show_table::forms::POSITIONS;
 use show_table::forms::PRIMARY;
 use show_table::forms::REACHED;
 use show_table::forms::SERVICE;
 use show_table::forms::TEXT;
 use show_table::forms::WANTED;
+use show_values::kinds::is_null;
 use table::Field;
 use text::Text;
 use text::append::empty;
@@ -111,15 +114,20 @@ fn put_object(t: &[u8], position: usize, row: Row, x: &[u8], out: bool) -> usize
     }
 }
 
-fn is_object_form(form: u64) -> bool {
-    match form {
-        REACHED => true,
-        SERVICE => true,
-        BYTES => true,
-        HFIS => true,
-        POSITIONS => true,
-        _ => false,
+// What is not there is no number, and not 0 either.
+fn put_field(t: &[u8], position: usize, row: Row, out: bool) -> usize
+    requires { ⌜ Accepted (now t) ⌝ }
+{
+    let n = number_in(t, position, row.kind, row.off);
+    if is_null(row.form, n, is_there(t, position, row)) {
+        return put_word(b"none", out);
     }
+    if row.form == OR_OUT {
+        if n == 0 {
+            return put_word(b"none", out);
+        }
+    }
+    put(text_in(t, position, row), out)
 }
 
 pub fn put_cell(t: &[u8], position: usize, row: Row, out: bool) -> usize
@@ -141,7 +149,7 @@ pub fn put_cell(t: &[u8], position: usize, row: Row, out: bool) -> usize
         NAME => put_name(field_in(t, row.kind, position, row.off), out),
         TEXT => put_characters(t, position, row, out),
         BYTES_TEXT => put_characters(t, position, row, out),
-        _ => put(text_in(t, position, row), out),
+        _ => put_field(t, position, row, out),
     }
 }
 

@@ -136,7 +136,8 @@ fn print_object(t: &[u8], position: usize, row: Row, x: &[u8], depth: usize)
     }
 }
 
-fn is_object_form(form: u64) -> bool {
+// Whether a way of printing is one of objects that are no characters.
+pub fn is_object_form(form: u64) -> bool {
     match form {
         REACHED => true,
         SERVICE => true,
