@@ -224,7 +224,7 @@ noLine = row "" "" 0 0 0 json
 abbrev pub lineAt : ℕ → Line
 lineAt i = getD lines i noLine
 
--- a line's row as one number, of which the kind has the lowest byte; that each number fits its byte is `packed-right`
+-- a line's row as one number, of which the kind has the lowest byte; that each number fits its byte is part of `packed-at`
 abbrev pub packedOf : Line → ℕ
 packedOf l =
     l .row .kind + 2 ^ 8 * l .row .off + 2 ^ 16 * l .row .form + 2 ^ 24 * l .row .weight + 2 ^ 32 * l .row .by + 2 ^ 40 * l .row .view
