@@ -7,24 +7,33 @@ use Prim.Native.Nat.{ℕ, _+_}
 use lib.ListN.{length, take, drop}
 use lib.Dec.{T, eqb, leb}
 use Rattle.table.specs.declared.Region.{Region}
-use Rattle.table.specs.Bytes.{every, Edit}
+use Rattle.table.specs.Bytes.{pick, every, Edit}
 use Rattle.table.specs.Layout.{Shape, Refs, none, plain, nest}
 use Rattle.table.specs.FixedLayouts.{layoutOf, header, control, host, hfi, ssns, security, discovery, info, extended, hfiExtended, noKind}
 use Rattle.show_table.specs.Forms.{listed, number, uuid, hex, address, server, mac, pci, name, orNull, orOut, ifThere, text, bytesText, bytes, positions}
 use Rattle.show_table.specs.Shown.{Line, lines, linesOf, firstOf}
 
--- the ways of printing from which the bytes can be told
-abbrev whole : List ℕ
-whole = listed ∷ number ∷ uuid ∷ hex ∷ address ∷ server ∷ mac ∷ pci ∷ name ∷ orNull ∷ orOut ∷ ifThere ∷ text ∷ bytesText ∷ bytes ∷ positions ∷ []
-
 abbrev pub among : ℕ → List ℕ → Bool
 among v [] = false
 among v (x ∷ xs) = eqb v x || among v xs
 
--- a line shows all of what a record of kind k has at q
-abbrev shown : ℕ → ℕ → List Line → Bool
-shown k q [] = false
-shown k q (l ∷ ls) = ((eqb (l .row .kind) k && eqb (l .row .off) q) && among (l .row .form) whole) || shown k q ls
+-- how many bytes of a field can be told from a way of printing
+abbrev told : ℕ → ℕ
+told f =
+    pick (among f (listed ∷ number ∷ pci ∷ orNull ∷ orOut ∷ ifThere ∷ [])) 4
+    (pick (eqb f mac) 6 (pick (among f (uuid ∷ hex ∷ address ∷ server ∷ name ∷ [])) 16 0))
+
+-- from a way of printing all n bytes of a field can be told, or all bytes of an object
+abbrev whole : ℕ → ℕ → Bool
+whole n f = leb n (told f)
+
+abbrev wholeObject : ℕ → Bool
+wholeObject f = among f (text ∷ bytesText ∷ bytes ∷ positions ∷ [])
+
+-- a line shows what a record of kind k has at q, in a way that passes
+abbrev shown : ℕ → ℕ → (ℕ → Bool) → List Line → Bool
+shown k q passes [] = false
+shown k q passes (l ∷ ls) = ((eqb (l .row .kind) k && eqb (l .row .off) q) && passes (l .row .form)) || shown k q passes ls
 
 abbrev fixedAt : Region → List Edit → Bool
 fixedAt r [] = false
@@ -35,12 +44,12 @@ abbrev known : Shape → Region → Bool
 known s r = fixedAt r (s .fixed) || (eqb (s .index .at) (r .at) && eqb (s .index .len) (r .len))
 
 abbrev fieldsShown : ℕ → Shape → Bool
-fieldsShown k s = every (λ (r : Region). known s r || shown k (r .at) lines) (s .fields)
+fieldsShown k s = every (λ (r : Region). known s r || shown k (r .at) (whole (r .len)) lines) (s .fields)
 
 -- what a heap record has is shown by lines of its own kind
 abbrev objectsShown : ℕ → Refs → Bool
 objectsShown k none = true
-objectsShown k (plain p need content rest) = shown k p lines && objectsShown k rest
+objectsShown k (plain p need content rest) = shown k p wholeObject lines && objectsShown k rest
 objectsShown k (nest p need shape own rest) = objectsShown k rest
 
 abbrev kinds : List ℕ
