@@ -22,7 +22,7 @@ use Rattle.bytes_writer.proofs.RecordLaws.{length-ref, ref-for}
 
 abbrev pub header_pieces : ℕ → List ℕ → ℕ → ℕ → ℕ → ℕ → List (List ℕ)
 header_pieces n oem h k d v =
-    (0x4_e ∷ 0x42 ∷ 0x46 ∷ 0x54 ∷ []) ∷ le 4 n ∷ (1 ∷ []) ∷ (0 ∷ []) ∷ oem ∷ le 4 h ∷ le 4 k ∷ ref_num h d ∷ (v ∷ []) ∷ replicate 13 0 ∷ []
+    (0x4E ∷ 0x42 ∷ 0x46 ∷ 0x54 ∷ []) ∷ le 4 n ∷ (1 ∷ []) ∷ (0 ∷ []) ∷ oem ∷ le 4 h ∷ le 4 k ∷ ref_num h d ∷ (v ∷ []) ∷ replicate 13 0 ∷ []
 
 pub header-long : (n : ℕ) (oem : List ℕ) (h k d v : ℕ) → length oem ≡ 26 → length (concat (header_pieces n oem h k d v)) ≡ 64
 header-long n oem h k d v e = simp (length-append, length-ref, e)

@@ -37,10 +37,10 @@ all_fine (p ∷ ps) = fine p && all_fine ps
 abbrev pub samples : List Pair
 samples =
     pair k1 k1 ""
-    ∷ pair k1 (with (edit 146 (0x_a1 ∷ []) ∷ edit 150 (1 ∷ []) ∷ [])) "2 0 18 2 1 0\n"
-    ∷ pair (with (edit 146 (0x_a1 ∷ []) ∷ edit 150 (1 ∷ []) ∷ [])) k1 "2 0 18 1 2 0\n"
+    ∷ pair k1 (with (edit 146 (0xA1 ∷ []) ∷ edit 150 (1 ∷ []) ∷ [])) "2 0 18 2 1 0\n"
+    ∷ pair (with (edit 146 (0xA1 ∷ []) ∷ edit 150 (1 ∷ []) ∷ [])) k1 "2 0 18 1 2 0\n"
     ∷ pair k1 (with (edit 152 (5 ∷ []) ∷ [])) ""
-    ∷ pair k1 (with (edit 129 (3 ∷ 0x_a7 ∷ []) ∷ [])) "2 0 1 1 3\n2 0 2 00000000000000000000000000000000 a7000000000000000000000000000000\n"
+    ∷ pair k1 (with (edit 129 (3 ∷ 0xA7 ∷ []) ∷ [])) "2 0 1 1 3\n2 0 2 00000000000000000000000000000000 a7000000000000000000000000000000\n"
     ∷ pair (identity_with []) (identity_with (edit 328 (1 ∷ []) ∷ [])) "10 1 4 3 1\n10 1 8 2 0 0\n10 1 14 1 0 0\n"
     ∷ pair (identity_with []) (identity_with (edit 162 (0 ∷ []) ∷ [])) "3 1 used 1\n"
     ∷ []

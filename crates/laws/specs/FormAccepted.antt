@@ -77,7 +77,7 @@ module _ (m : Meaning) (w : Lawful m) (short : form_length m ≤ limit) where
       let len = length-form m w.shapes in (
         yes_leb {a = 160} {b = length (form m)} (omega arith),
         (
-          eq (num (form m) 0 4) 0x5446424_e p.sig,
+          eq (num (form m) 0 4) 0x5446424E p.sig,
           (
             rw size_back (yes_and (leb 160 (form_length m)) _ (yes_leb {a = 160} {b = form_length m} (omega arith)) (yes_leb {a = form_length m} {b = length (form m)} (omega arith))),
             (

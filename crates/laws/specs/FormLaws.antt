@@ -144,7 +144,7 @@ module _ (m : Meaning) (w : Shaped m) where
     -- ---- the header's fields
 
     pub record Head (t : List ℕ) : Type 0 where
-      pub sig : num t 0 4 ≡ 0x5446424_e
+      pub sig : num t 0 4 ≡ 0x5446424E
       pub size : num t 4 4 ≡ form_length m
       pub major : get_or t 8 0 ≡ 1
       pub kept : part t 10 26 ≡ m.oem
@@ -161,7 +161,7 @@ module _ (m : Meaning) (w : Shaped m) where
     unfolding head_front head_back form_length
     head-back t c p =
         let k = small in
-        let s : List ℕ = 0x4_e ∷ 0x42 ∷ 0x46 ∷ 0x54 ∷ [] in
+        let s : List ℕ = 0x4E ∷ 0x42 ∷ 0x46 ∷ 0x54 ∷ [] in
         let r : List ℕ = driver_ref m in
         let z : List ℕ = minor_of m ∷ replicate 13 0 in
         let q₁ = holds-right t 0 s (le 4 (form_length m) ++ (1 ∷ [])) p.front in

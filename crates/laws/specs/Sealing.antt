@@ -44,7 +44,7 @@ module _ (m : Meaning) (w : Shaped m) where
   front-store : (t : List ℕ) (n c k r l : ℕ) → 160 ≤ length t → Pieces t n c k r → Pieces (splice t 4 (le 4 l)) l c k r
   unfolding head_front
   front-store t n c k r l z p =
-      let s : List ℕ = 0x4_e ∷ 0x42 ∷ 0x46 ∷ 0x54 ∷ [] in
+      let s : List ℕ = 0x4E ∷ 0x42 ∷ 0x46 ∷ 0x54 ∷ [] in
       let ok : 4 + length (le 4 l) ≤ length t = omega arith in
       let one : Holds t 8 (1 ∷ []) = holds-right t 4 (le 4 n) (1 ∷ []) (holds-right t 0 s (le 4 n ++ (1 ∷ [])) p.front) in
       record {

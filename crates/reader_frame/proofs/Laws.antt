@@ -163,7 +163,7 @@ unfolding staged tests head_tests judged size_tests head_of
 tests-are t =
     rw (control-is (head_of t), lengths-are t, misplaced-is t, versions-are t)
     (ap (λ (x : Answer). pick (leb 160 (length t)) x (answer 1 0 0))
-    (sym (stage (eqb (num t 0 4) 0x5446424_e) (leb 160 (num t 4 4) && leb (num t 4 4) (length t)) (leb (num t 4 4) limit) _)))
+    (sym (stage (eqb (num t 0 4) 0x5446424E) (leb 160 (num t 4 4) && leb (num t 4 4) (length t)) (leb (num t 4 4) limit) _)))
 
 -- ---- what passed tests give
 

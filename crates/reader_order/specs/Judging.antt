@@ -7,7 +7,7 @@ use Rattle.table.specs.Meaning.{limit}
 
 unfoldable pub size_tests : ℕ → ℕ → ℕ → List Test
 size_tests signature size lent =
-    test (eqb signature 0x5446424_e) 2 0 0 ∷ test (leb 160 size && leb size lent) 3 0 0 ∷ test (leb size limit) 4 0 0 ∷ []
+    test (eqb signature 0x5446424E) 2 0 0 ∷ test (leb 160 size && leb size lent) 3 0 0 ∷ test (leb size limit) 4 0 0 ∷ []
 
 unfoldable pub judged : ℕ → ℕ → ℕ → ℕ → ℕ → ℕ → ℕ → List Test
 judged major control hostlen short misplaced version wrong =

@@ -55,9 +55,9 @@ summed t = let z = splice t 9 (0 ∷ []) in splice z 9 (checksum z ∷ [])
 abbrev pub k1 : List ℕ
 k1 =
     sheet 162
-    (edit 0 (0x4_e ∷ 0x42 ∷ 0x46 ∷ 0x54 ∷ 0x_a2 ∷ [])
+    (edit 0 (0x4E ∷ 0x42 ∷ 0x46 ∷ 0x54 ∷ 0xA2 ∷ [])
     ∷ edit 8 (0x01 ∷ 0x96 ∷ [])
-    ∷ edit 36 (0x_a0 ∷ [])
+    ∷ edit 36 (0xA0 ∷ [])
     ∷ edit 40 (0x02 ∷ [])
     ∷ edit 64 (0x01 ∷ 0x01 ∷ [])
     ∷ edit 68 (0x40 ∷ [])
@@ -70,9 +70,9 @@ k1 =
     ∷ edit 102 (0x01 ∷ [])
     ∷ edit 110 (0x01 ∷ [])
     ∷ edit 128 (0x02 ∷ 0x01 ∷ [])
-    ∷ edit 146 (0x_a0 ∷ [])
+    ∷ edit 146 (0xA0 ∷ [])
     ∷ edit 150 (0x02 ∷ [])
-    ∷ edit 160 (0x6_e ∷ [])
+    ∷ edit 160 (0x6E ∷ [])
     ∷ [])
 
 abbrev pub with : List Edit → List ℕ
@@ -80,22 +80,22 @@ with es = summed (apply k1 es)
 
 -- K7: an empty text, the second heap byte alone, which is zero
 abbrev k7 : List ℕ
-k7 = with (edit 146 (0x_a1 ∷ []) ∷ edit 150 (1 ∷ []) ∷ [])
+k7 = with (edit 146 (0xA1 ∷ []) ∷ edit 150 (1 ∷ []) ∷ [])
 
 -- the form of K7: one heap byte, which is zero
 abbrev k7_form : List ℕ
-k7_form = summed (take 161 (apply k1 (edit 4 (0x_a1 ∷ []) ∷ edit 40 (1 ∷ []) ∷ edit 150 (1 ∷ []) ∷ edit 160 (0 ∷ []) ∷ [])))
+k7_form = summed (take 161 (apply k1 (edit 4 (0xA1 ∷ []) ∷ edit 40 (1 ∷ []) ∷ edit 150 (1 ∷ []) ∷ edit 160 (0 ∷ []) ∷ [])))
 
 -- one valid HFI with info, one valid SSNS, one unused security record; in the order of the one form. `flags` are the SSNS record's, `index` its security index
 abbrev k12_like : ℕ → ℕ → List ℕ
 k12_like flags index =
     summed
     (sheet 536
-    (edit 0 (0x4_e ∷ 0x42 ∷ 0x46 ∷ 0x54 ∷ 0x18 ∷ 0x02 ∷ 0 ∷ 0 ∷ 1 ∷ [])
+    (edit 0 (0x4E ∷ 0x42 ∷ 0x46 ∷ 0x54 ∷ 0x18 ∷ 0x02 ∷ 0 ∷ 0 ∷ 1 ∷ [])
     ∷ edit 36 (0x80 ∷ 0x01 ∷ 0 ∷ 0 ∷ 0x98 ∷ [])
     ∷ edit 64 (1 ∷ 1 ∷ 0 ∷ 0 ∷ 0x40 ∷ 0 ∷ 1 ∷ 0 ∷ 0x80 ∷ 0 ∷ 0 ∷ 0 ∷ 0x20 ∷ 0 ∷ 1 ∷ 0 ∷ [])
-    ∷ edit 80 (0x_a0 ∷ 0 ∷ 0 ∷ 0 ∷ 0x20 ∷ 0 ∷ 1 ∷ 1 ∷ [])
-    ∷ edit 88 (0x_c0 ∷ 0 ∷ 0 ∷ 0 ∷ 0x80 ∷ 0 ∷ 1 ∷ 1 ∷ [])
+    ∷ edit 80 (0xA0 ∷ 0 ∷ 0 ∷ 0 ∷ 0x20 ∷ 0 ∷ 1 ∷ 1 ∷ [])
+    ∷ edit 88 (0xC0 ∷ 0 ∷ 0 ∷ 0 ∷ 0x80 ∷ 0 ∷ 1 ∷ 1 ∷ [])
     ∷ edit 96 (0x40 ∷ 0x01 ∷ 0 ∷ 0 ∷ 0x40 ∷ 0 ∷ 1 ∷ 1 ∷ [])
     ∷ edit 110 (1 ∷ [])
     ∷ edit 128 (2 ∷ 1 ∷ [])
@@ -107,7 +107,7 @@ k12_like flags index =
     ∷ edit 208 (0x12 ∷ 0x02 ∷ 0 ∷ 0 ∷ 4 ∷ [])
     ∷ edit 237 (index ∷ 1 ∷ [])
     ∷ edit 246 (0x16 ∷ 0x02 ∷ 0 ∷ 0 ∷ 2 ∷ [])
-    ∷ edit 384 (0x6_e ∷ [])
+    ∷ edit 384 (0x6E ∷ [])
     ∷ edit 386 (7 ∷ 1 ∷ 3 ∷ 1 ∷ 1 ∷ 0 ∷ 1 ∷ [])
     ∷ edit 524 (0x_fF ∷ 0x_fF ∷ 192 ∷ 168 ∷ 0 ∷ 1 ∷ [])
     ∷ edit 530 (0x34 ∷ 0x34 ∷ 0x32 ∷ 0x30 ∷ 0x73 ∷ [])
@@ -119,31 +119,31 @@ abbrev full : List ℕ
 full =
     summed
     (sheet 616
-    (edit 0 (0x4_e ∷ 0x42 ∷ 0x46 ∷ 0x54 ∷ 0x68 ∷ 0x02 ∷ 0 ∷ 0 ∷ 1 ∷ [])
+    (edit 0 (0x4E ∷ 0x42 ∷ 0x46 ∷ 0x54 ∷ 0x68 ∷ 0x02 ∷ 0 ∷ 0 ∷ 1 ∷ [])
     ∷ edit 10 (0x41 ∷ 0x42 ∷ [])
     ∷ edit 35 (7 ∷ [])
-    ∷ edit 36 (0x_c0 ∷ 0x01 ∷ 0 ∷ 0 ∷ 0x_a8 ∷ 0 ∷ 0 ∷ 0 ∷ 0x_c0 ∷ 0x01 ∷ 0 ∷ 0 ∷ 2 ∷ [])
+    ∷ edit 36 (0xC0 ∷ 0x01 ∷ 0 ∷ 0 ∷ 0xA8 ∷ 0 ∷ 0 ∷ 0 ∷ 0xC0 ∷ 0x01 ∷ 0 ∷ 0 ∷ 2 ∷ [])
     ∷ edit 64 (1 ∷ 1 ∷ 0 ∷ 0 ∷ 0x40 ∷ 0 ∷ 1 ∷ 0 ∷ 0x80 ∷ 0 ∷ 0 ∷ 0 ∷ 0x20 ∷ 0 ∷ 1 ∷ 0 ∷ [])
-    ∷ edit 80 (0x_a0 ∷ 0 ∷ 0 ∷ 0 ∷ 0x20 ∷ 0 ∷ 1 ∷ 2 ∷ [])
-    ∷ edit 88 (0x_e0 ∷ 0 ∷ 0 ∷ 0 ∷ 0x80 ∷ 0 ∷ 1 ∷ 1 ∷ [])
+    ∷ edit 80 (0xA0 ∷ 0 ∷ 0 ∷ 0 ∷ 0x20 ∷ 0 ∷ 1 ∷ 2 ∷ [])
+    ∷ edit 88 (0xE0 ∷ 0 ∷ 0 ∷ 0 ∷ 0x80 ∷ 0 ∷ 1 ∷ 1 ∷ [])
     ∷ edit 96 (0x60 ∷ 0x01 ∷ 0 ∷ 0 ∷ 0x40 ∷ 0 ∷ 1 ∷ 1 ∷ [])
-    ∷ edit 104 (0x_a0 ∷ 0x01 ∷ 0 ∷ 0 ∷ 0x20 ∷ 0 ∷ 1 ∷ 1 ∷ [])
+    ∷ edit 104 (0xA0 ∷ 0x01 ∷ 0 ∷ 0 ∷ 0x20 ∷ 0 ∷ 1 ∷ 1 ∷ [])
     ∷ edit 128 (2 ∷ 0x17 ∷ 9 ∷ [])
-    ∷ edit 146 (0x_c2 ∷ 0x01 ∷ 0 ∷ 0 ∷ 2 ∷ [])
+    ∷ edit 146 (0xC2 ∷ 0x01 ∷ 0 ∷ 0 ∷ 2 ∷ [])
     ∷ edit 192 (3 ∷ 2 ∷ 1 ∷ 3 ∷ [])
-    ∷ edit 208 (0x_c4 ∷ 0x01 ∷ 0 ∷ 0 ∷ 0x80 ∷ [])
+    ∷ edit 208 (0xC4 ∷ 0x01 ∷ 0 ∷ 0 ∷ 0x80 ∷ [])
     ∷ edit 224 (4 ∷ 1 ∷ 0 ∷ 0x15 ∷ 1 ∷ 3 ∷ 7 ∷ 0 ∷ 1 ∷ [])
     ∷ edit 234 (0x46 ∷ 0x02 ∷ 0 ∷ 0 ∷ 3 ∷ 0 ∷ 0x49 ∷ 0x02 ∷ 0 ∷ 0 ∷ 1 ∷ [])
-    ∷ edit 269 (1 ∷ 2 ∷ 0 ∷ 0x4_a ∷ 0x02 ∷ 0 ∷ 0 ∷ 1 ∷ 0 ∷ 0x4_b ∷ 0x02 ∷ 0 ∷ 0 ∷ 2 ∷ 0 ∷ 0x4_d ∷ 0x02 ∷ 0 ∷ 0 ∷ 18 ∷ [])
-    ∷ edit 352 (5 ∷ 1 ∷ 0x8_b ∷ 0x0_a ∷ 1 ∷ 0 ∷ 0x61 ∷ 0x02 ∷ 0 ∷ 0 ∷ 1 ∷ 0 ∷ 0x62 ∷ 0x02 ∷ 0 ∷ 0 ∷ 1 ∷ 0 ∷ 0x63 ∷ 0x02 ∷ 0 ∷ 0 ∷ 1 ∷ [])
+    ∷ edit 269 (1 ∷ 2 ∷ 0 ∷ 0x4A ∷ 0x02 ∷ 0 ∷ 0 ∷ 1 ∷ 0 ∷ 0x4B ∷ 0x02 ∷ 0 ∷ 0 ∷ 2 ∷ 0 ∷ 0x4D ∷ 0x02 ∷ 0 ∷ 0 ∷ 18 ∷ [])
+    ∷ edit 352 (5 ∷ 1 ∷ 0x8B ∷ 0x0A ∷ 1 ∷ 0 ∷ 0x61 ∷ 0x02 ∷ 0 ∷ 0 ∷ 1 ∷ 0 ∷ 0x62 ∷ 0x02 ∷ 0 ∷ 0 ∷ 1 ∷ 0 ∷ 0x63 ∷ 0x02 ∷ 0 ∷ 0 ∷ 1 ∷ [])
     ∷ edit 382 (0x64 ∷ 0x02 ∷ 0 ∷ 0 ∷ 1 ∷ 0 ∷ 0x65 ∷ 0x02 ∷ 0 ∷ 0 ∷ 1 ∷ [])
     ∷ edit 416 (6 ∷ 1 ∷ 1 ∷ 2 ∷ 1 ∷ 0 ∷ 0x66 ∷ 0x02 ∷ 0 ∷ 0 ∷ 2 ∷ [])
-    ∷ edit 448 (0x64 ∷ 0x73 ∷ 0x6_e ∷ [])
+    ∷ edit 448 (0x64 ∷ 0x73 ∷ 0x6E ∷ [])
     ∷ edit 452 (7 ∷ 1 ∷ 3 ∷ 1 ∷ 2 ∷ 0 ∷ 5 ∷ [])
     ∷ edit 540 (0x_fE ∷ 0x80 ∷ [])
     ∷ edit 556 (0x44 ∷ 0x02 ∷ 0 ∷ 0 ∷ 2 ∷ [])
     ∷ edit 580 (0x68 ∷ 0 ∷ 10 ∷ 0 ∷ 1 ∷ 0x50 ∷ 2 ∷ 0x71 ∷ [])
-    ∷ edit 589 (9 ∷ 1 ∷ 1 ∷ 0 ∷ 3 ∷ 0 ∷ 0 ∷ 0 ∷ 5 ∷ 0 ∷ 6 ∷ 0 ∷ 0x5_f ∷ 0x02 ∷ 0 ∷ 0 ∷ 2 ∷ [])
+    ∷ edit 589 (9 ∷ 1 ∷ 1 ∷ 0 ∷ 3 ∷ 0 ∷ 0 ∷ 0 ∷ 5 ∷ 0 ∷ 6 ∷ 0 ∷ 0x5F ∷ 0x02 ∷ 0 ∷ 0 ∷ 2 ∷ [])
     ∷ edit 607 (0x70 ∷ 0 ∷ 1 ∷ 2 ∷ 3 ∷ 4 ∷ 5 ∷ 6 ∷ [])
     ∷ []))
 
@@ -156,7 +156,7 @@ noise =
     edit 51 (0x_fF ∷ [])
     ∷ edit 67 (0x_fF ∷ [])
     ∷ edit 70 (0x_fF ∷ 0x_fF ∷ [])
-    ∷ edit 129 (0x_f7 ∷ [])
+    ∷ edit 129 (0xF7 ∷ [])
     ∷ edit 152 (0x_fF ∷ [])
     ∷ edit 160 (0x_fF ∷ 0x_fF ∷ 0x_fE ∷ 0x_fF ∷ [])
     ∷ edit 176 (0x_fF ∷ 0x_fF ∷ [])
@@ -176,10 +176,10 @@ abbrev long_records : List ℕ
 long_records =
     summed
     (apply (full ++ replicate 80 0)
-    (edit 4 (0x_b8 ∷ 0x02 ∷ [])
+    (edit 4 (0xB8 ∷ 0x02 ∷ [])
     ∷ edit 80 (0x68 ∷ 0x02 ∷ 0 ∷ 0 ∷ 40 ∷ [])
     ∷ edit 656 (3 ∷ 2 ∷ 1 ∷ 3 ∷ [])
-    ∷ edit 672 (0x_c4 ∷ 0x01 ∷ 0 ∷ 0 ∷ 0x80 ∷ [])
+    ∷ edit 672 (0xC4 ∷ 0x01 ∷ 0 ∷ 0 ∷ 0x80 ∷ [])
     ∷ edit 688 (0x_fF ∷ [])
     ∷ []))
 
@@ -188,25 +188,25 @@ abbrev identity : List ℕ
 identity =
     summed
     (sheet 347
-    (edit 0 (0x4_e ∷ 0x42 ∷ 0x46 ∷ 0x54 ∷ 0x5_b ∷ 0x01 ∷ 0 ∷ 0 ∷ 1 ∷ [])
-    ∷ edit 36 (0x_c0 ∷ 0 ∷ 0 ∷ 0 ∷ 0x9_b ∷ [])
+    (edit 0 (0x4E ∷ 0x42 ∷ 0x46 ∷ 0x54 ∷ 0x5B ∷ 0x01 ∷ 0 ∷ 0 ∷ 1 ∷ [])
+    ∷ edit 36 (0xC0 ∷ 0 ∷ 0 ∷ 0 ∷ 0x9B ∷ [])
     ∷ edit 50 (1 ∷ [])
     ∷ edit 64 (1 ∷ 1 ∷ 0 ∷ 0 ∷ 0x40 ∷ 0 ∷ 1 ∷ 0 ∷ 0x80 ∷ 0 ∷ 0 ∷ 0 ∷ 0x20 ∷ 0 ∷ 1 ∷ 0 ∷ [])
-    ∷ edit 80 (0x_a0 ∷ 0 ∷ 0 ∷ 0 ∷ 0x20 ∷ 0 ∷ 1 ∷ 1 ∷ [])
+    ∷ edit 80 (0xA0 ∷ 0 ∷ 0 ∷ 0 ∷ 0x20 ∷ 0 ∷ 1 ∷ 1 ∷ [])
     ∷ edit 94 (1 ∷ [])
     ∷ edit 102 (1 ∷ [])
     ∷ edit 110 (1 ∷ [])
     ∷ edit 128 (2 ∷ 1 ∷ [])
-    ∷ edit 146 (0x_c0 ∷ 0 ∷ 0 ∷ 0 ∷ 2 ∷ [])
+    ∷ edit 146 (0xC0 ∷ 0 ∷ 0 ∷ 0 ∷ 2 ∷ [])
     ∷ edit 160 (3 ∷ 1 ∷ 1 ∷ 3 ∷ [])
-    ∷ edit 176 (0x_c2 ∷ 0 ∷ 0 ∷ 0 ∷ 0x80 ∷ [])
-    ∷ edit 192 (0x6_e ∷ [])
+    ∷ edit 176 (0xC2 ∷ 0 ∷ 0 ∷ 0 ∷ 0x80 ∷ [])
+    ∷ edit 192 (0x6E ∷ [])
     ∷ edit 194 (7 ∷ 1 ∷ 3 ∷ 2 ∷ 1 ∷ 0 ∷ 1 ∷ [])
     ∷ edit 213 (3 ∷ 0x_fE ∷ [])
     ∷ edit 298 (0x42 ∷ 0x01 ∷ 0 ∷ 0 ∷ 2 ∷ 0 ∷ 0x44 ∷ 0x01 ∷ 0 ∷ 0 ∷ 20 ∷ [])
     ∷ edit 322 (0x68 ∷ [])
     ∷ edit 324 (10 ∷ 1 ∷ 1 ∷ 0 ∷ 3 ∷ [])
-    ∷ edit 332 (0x58 ∷ 0x01 ∷ 0 ∷ 0 ∷ 2 ∷ 0 ∷ 0x5_a ∷ 0x01 ∷ 0 ∷ 0 ∷ 1 ∷ [])
+    ∷ edit 332 (0x58 ∷ 0x01 ∷ 0 ∷ 0 ∷ 2 ∷ 0 ∷ 0x5A ∷ 0x01 ∷ 0 ∷ 0 ∷ 1 ∷ [])
     ∷ edit 344 (0x69 ∷ 0x61 ∷ 0x64 ∷ [])
     ∷ []))
 
@@ -223,8 +223,8 @@ identity_cut n es = summed (take n (apply identity es))
 abbrev identities : List Case
 identities =
     taken identity identity
-    ∷ taken (identity_with (edit 200 (0x_f1 ∷ []) ∷ edit 310 (replicate 12 0x_fF) ∷ edit 328 (replicate 4 0x_fF) ∷ edit 50 (0x_fF ∷ 0x_fF ∷ []) ∷ [])) identity
-    ∷ taken (identity_with (edit 197 (1 ∷ []) ∷ edit 200 (0x0_d ∷ []) ∷ edit 304 (replicate 6 0x_fF) ∷ []))
+    ∷ taken (identity_with (edit 200 (0xF1 ∷ []) ∷ edit 310 (replicate 12 0x_fF) ∷ edit 328 (replicate 4 0x_fF) ∷ edit 50 (0x_fF ∷ 0x_fF ∷ []) ∷ [])) identity
+    ∷ taken (identity_with (edit 197 (1 ∷ []) ∷ edit 200 (0x0D ∷ []) ∷ edit 304 (replicate 6 0x_fF) ∷ []))
     (identity_cut 324 (edit 4 (0x44 ∷ []) ∷ edit 40 (0x84 ∷ []) ∷ edit 50 (0 ∷ []) ∷ edit 197 (1 ∷ []) ∷ edit 200 (5 ∷ []) ∷ edit 304 (replicate 6 0) ∷ []))
     ∷ taken (identity_with (edit 304 (replicate 6 0) ∷ [])) (identity_cut 324 (edit 4 (0x44 ∷ []) ∷ edit 40 (0x84 ∷ []) ∷ edit 304 (replicate 6 0) ∷ []))
     ∷ taken (identity_with (edit 200 (9 ∷ []) ∷ edit 213 (0 ∷ []) ∷ edit 328 (1 ∷ []) ∷ []))
@@ -301,9 +301,9 @@ texts =
     ∷ refused (full_with (edit 607 (0 ∷ []) ∷ edit 586 (1 ∷ []) ∷ [])) 18 4 1
     ∷ taken (full_with (edit 607 (0 ∷ []) ∷ edit 605 (1 ∷ []) ∷ []))
     (summed
-    (take 607 (apply full (edit 4 (0x67 ∷ []) ∷ edit 40 (0x_a7 ∷ []) ∷ edit 358 (0x60 ∷ []) ∷ edit 364 (0x61 ∷ []) ∷ edit 370 (0x62 ∷ []) ∷ edit 382 (0x63 ∷ []) ∷ edit 388 (0x64 ∷ []) ∷ edit 422 (0x65 ∷ []) ∷ edit 605 (1 ∷ []) ∷ []))
+    (take 607 (apply full (edit 4 (0x67 ∷ []) ∷ edit 40 (0xA7 ∷ []) ∷ edit 358 (0x60 ∷ []) ∷ edit 364 (0x61 ∷ []) ∷ edit 370 (0x62 ∷ []) ∷ edit 382 (0x63 ∷ []) ∷ edit 388 (0x64 ∷ []) ∷ edit 422 (0x65 ∷ []) ∷ edit 605 (1 ∷ []) ∷ []))
     ++ (0 ∷ 1 ∷ 2 ∷ 3 ∷ 4 ∷ 5 ∷ 6 ∷ 0 ∷ [])))
-    ∷ taken (full_with (edit 422 (0x_c2 ∷ 1 ∷ []) ∷ [])) (full_with (edit 614 (0x6_e ∷ []) ∷ []))
+    ∷ taken (full_with (edit 422 (0xC2 ∷ 1 ∷ []) ∷ [])) (full_with (edit 614 (0x6E ∷ []) ∷ []))
     ∷ taken (full_with (edit 449 (0 ∷ []) ∷ edit 583 (0 ∷ []) ∷ edit 613 (0 ∷ []) ∷ [])) (full_with (edit 449 (0 ∷ []) ∷ edit 583 (0 ∷ []) ∷ edit 613 (0 ∷ []) ∷ []))
     ∷ []
 
@@ -315,9 +315,9 @@ samples =
     ∷ refused (take 161 k1) 3 0 0
     ∷ refused (take 159 k1) 1 0 0
     ∷ refused (with (edit 150 (0 ∷ []) ∷ [])) 11 2 0
-    ∷ refused (with (edit 146 (0x_a1 ∷ []) ∷ [])) 11 2 0
+    ∷ refused (with (edit 146 (0xA1 ∷ []) ∷ [])) 11 2 0
     ∷ taken k7 k7_form
-    ∷ refused (with (edit 36 (0x_f0 ∷ 0x_fF ∷ 0x_fF ∷ 0x_fF ∷ 0x20 ∷ []) ∷ [])) 8 1 0
+    ∷ refused (with (edit 36 (0xF0 ∷ 0x_fF ∷ 0x_fF ∷ 0x_fF ∷ 0x20 ∷ []) ∷ [])) 8 1 0
     ∷ taken (with (edit 152 (5 ∷ []) ∷ [])) k1
     ∷ refused (with (edit 36 (159 ∷ []) ∷ [])) 8 1 0
     ∷ refused (k12_like 5 0) 13 4 1
@@ -347,7 +347,7 @@ listing b es = full_with (edit 272 (0x61 ∷ 2 ∷ 0 ∷ 0 ∷ length b ∷ 0 �
 
 -- HFI 1 is used too. Its info starts 16 bytes behind that of HFI 2 and lies over it, so that the table gets no longer
 abbrev both : List Edit
-both = edit 160 (3 ∷ 1 ∷ 1 ∷ 3 ∷ []) ∷ edit 176 (0x_d4 ∷ 1 ∷ 0 ∷ 0 ∷ 0x80 ∷ []) ∷ edit 468 (7 ∷ 1 ∷ 3 ∷ 1 ∷ 1 ∷ 0 ∷ 1 ∷ []) ∷ []
+both = edit 160 (3 ∷ 1 ∷ 1 ∷ 3 ∷ []) ∷ edit 176 (0xD4 ∷ 1 ∷ 0 ∷ 0 ∷ 0x80 ∷ []) ∷ edit 468 (7 ∷ 1 ∷ 3 ∷ 1 ∷ 1 ∷ 0 ∷ 1 ∷ []) ∷ []
 
 -- three HFIs, all unused, in the place of security and discovery record
 abbrev three : List Edit
@@ -406,7 +406,7 @@ bound-reached = tt
 abbrev pub read_samples : List ReadCase
 read_samples =
     found k1 2 0 (field 1) true 0 (1 ∷ [])
-    ∷ found k1 2 0 (object 18) true 160 (0x6_e ∷ [])
+    ∷ found k1 2 0 (object 18) true 160 (0x6E ∷ [])
     ∷ found k7 2 0 (object 18) true 161 []
     ∷ denied k1 2 1 (object 18) 16 0 0
     ∷ denied k1 3 0 whole 16 0 0
@@ -429,25 +429,25 @@ rewrites-fine = tt
 
 -- K1 with two bytes before its NQN
 abbrev holed : List Edit → List ℕ
-holed es = summed (apply (k1 ++ (0 ∷ 0 ∷ [])) (edit 4 (0x_a4 ∷ []) ∷ edit 40 (4 ∷ []) ∷ edit 146 (0x_a2 ∷ []) ∷ edit 160 (0x_bE ∷ 0x5_c ∷ 0x6_e ∷ []) ∷ es))
+holed es = summed (apply (k1 ++ (0 ∷ 0 ∷ [])) (edit 4 (0xA4 ∷ []) ∷ edit 40 (4 ∷ []) ∷ edit 146 (0xA2 ∷ []) ∷ edit 160 (0x_bE ∷ 0x5C ∷ 0x6E ∷ []) ∷ es))
 
 -- closed: Length stays, and the two bytes set free are zero
 abbrev filled : List Edit → List ℕ
-filled es = summed (apply (k1 ++ (0 ∷ 0 ∷ [])) (edit 4 (0x_a4 ∷ []) ∷ es))
+filled es = summed (apply (k1 ++ (0 ∷ 0 ∷ [])) (edit 4 (0xA4 ∷ []) ∷ es))
 
 -- three bytes before the heap of all levels of heap records, each object three bytes further
 abbrev pushed : List ℕ
 pushed =
     summed
     (apply (take 192 identity ++ (7 ∷ 8 ∷ 9 ∷ drop 192 identity))
-    (edit 4 (0x5_e ∷ [])
-    ∷ edit 40 (0x9_e ∷ [])
-    ∷ edit 146 (0x_c3 ∷ [])
-    ∷ edit 176 (0x_c5 ∷ [])
+    (edit 4 (0x5E ∷ [])
+    ∷ edit 40 (0x9E ∷ [])
+    ∷ edit 146 (0xC3 ∷ [])
+    ∷ edit 176 (0xC5 ∷ [])
     ∷ edit 301 (0x45 ∷ [])
     ∷ edit 307 (0x47 ∷ [])
-    ∷ edit 335 (0x5_b ∷ [])
-    ∷ edit 341 (0x5_d ∷ [])
+    ∷ edit 335 (0x5B ∷ [])
+    ∷ edit 341 (0x5D ∷ [])
     ∷ []))
 
 -- In order: K1, which has no hole; two bytes before its NQN, with a map of one byte and of two; the same where the driver signature shares a byte of it; no map; a
@@ -458,10 +458,10 @@ close_samples =
     shut k1 (0x82 ∷ []) 0 k1 (3 ∷ [])
     ∷ shut (holed []) (14 ∷ []) 2 (filled []) (12 ∷ [])
     ∷ shut (holed []) (7 ∷ 0x_fF ∷ []) 2 (filled []) (12 ∷ 0 ∷ [])
-    ∷ shut (holed (edit 44 (0x_a3 ∷ 0 ∷ 0 ∷ 0 ∷ 1 ∷ []) ∷ [])) (0 ∷ []) 2 (filled (edit 44 (0x_a1 ∷ 0 ∷ 0 ∷ 0 ∷ 1 ∷ []) ∷ [])) (12 ∷ [])
+    ∷ shut (holed (edit 44 (0xA3 ∷ 0 ∷ 0 ∷ 0 ∷ 1 ∷ []) ∷ [])) (0 ∷ []) 2 (filled (edit 44 (0xA1 ∷ 0 ∷ 0 ∷ 0 ∷ 1 ∷ []) ∷ [])) (12 ∷ [])
     ∷ unclosed (holed []) [] 14 0 0
     ∷ unclosed (take 161 k1) [] 3 0 0
-    ∷ shut pushed (replicate 21 7) 155 (summed (apply (identity ++ (0 ∷ 0 ∷ 0 ∷ [])) (edit 4 (0x5_e ∷ []) ∷ []))) (0x_f8 ∷ (replicate 18 0x_fF ++ (0x3_f ∷ 0 ∷ [])))
+    ∷ shut pushed (replicate 21 7) 155 (summed (apply (identity ++ (0 ∷ 0 ∷ 0 ∷ [])) (edit 4 (0x5E ∷ []) ∷ []))) (0xF8 ∷ (replicate 18 0x_fF ++ (0x3F ∷ 0 ∷ [])))
     ∷ shut (identity_with (edit 328 (1 ∷ []) ∷ [])) (replicate 20 0) 0 (identity_with (edit 40 (0x98 ∷ []) ∷ edit 328 (1 ∷ []) ∷ edit 344 (0 ∷ 0 ∷ 0 ∷ []) ∷ []))
     (replicate 19 0x_fF ++ (0 ∷ []))
     ∷ unclosed (identity_with (edit 146 (0x46 ∷ 1 ∷ []) ∷ [])) (replicate 19 0) 14 0 0
@@ -486,8 +486,8 @@ abbrev pub build_samples : List BuildCase
 build_samples =
     let oem : List ℕ = replicate 26 0 in
     stepped empty (replicate 162 7) (beginning oem (0 ∷ 0 ∷ 0 ∷ 0 ∷ []) []) (state 2 0 0 0 0 0 160 0) opened
-    ∷ stepped (state 2 0 0 0 0 0 160 0) opened (a_host (replicate 32 0) (0x6_e ∷ [])) (state 7 0 0 0 0 0 162 0) unfinished
-    ∷ halted (state 2 0 0 0 0 0 160 0) opened (a_host (replicate 32 0) (0x6_e ∷ 0 ∷ [])) 18 2 0
+    ∷ stepped (state 2 0 0 0 0 0 160 0) opened (a_host (replicate 32 0) (0x6E ∷ [])) (state 7 0 0 0 0 0 162 0) unfinished
+    ∷ halted (state 2 0 0 0 0 0 160 0) opened (a_host (replicate 32 0) (0x6E ∷ 0 ∷ [])) 18 2 0
     ∷ halted (state 2 0 0 0 0 0 160 0) opened (a_host (replicate 32 0) []) 11 2 0
     ∷ stepped (state 7 0 0 0 0 0 162 0) unfinished finishing (state 8 0 0 0 0 0 162 0) k1
     ∷ halted (state 8 0 0 0 0 0 162 0) k1 finishing 15 0 0

@@ -46,7 +46,7 @@ minor_of m = pick (newer_body m.lists) 1 0
 
 -- the header up to its checksum (n is Length), and behind it (k is the heap length, r the minor)
 unfoldable pub head_front : ℕ → List ℕ
-head_front n = 0x4_e ∷ 0x42 ∷ 0x46 ∷ 0x54 ∷ (le 4 n ++ (1 ∷ []))
+head_front n = 0x4E ∷ 0x42 ∷ 0x46 ∷ 0x54 ∷ (le 4 n ++ (1 ∷ []))
 
 unfoldable pub head_back : Meaning → ℕ → ℕ → List ℕ
 head_back m k r = m.oem ++ (le 4 (heap_at m) ++ (le 4 k ++ (driver_ref m ++ (r ∷ replicate 13 0))))

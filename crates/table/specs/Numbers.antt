@@ -21,7 +21,7 @@ tests t =
     let size = num t 4 4 in
     let csl = num t 68 2 in
     test (leb 160 (length t)) 1 0 0
-    ∷ test (eqb (num t 0 4) 0x5446424_e) 2 0 0
+    ∷ test (eqb (num t 0 4) 0x5446424E) 2 0 0
     ∷ test (leb 160 size && leb size (length t)) 3 0 0
     ∷ test (leb size limit) 4 0 0
     ∷ test (eqb (total (take size t) % 256) 0) 5 0 0

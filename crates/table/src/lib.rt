@@ -13,7 +13,7 @@ pub use records::{
 pub const LIMIT: usize = 65536;
 
 // The table's first four bytes, 4E 42 46 54, as a number.
-pub const SIGNATURE: usize = 0x5446424_e;
+pub const SIGNATURE: usize = 0x5446424E;
 
 // Header and control record: where the host stands in the one form.
 pub const FRONT: usize = Header::SIZE + Control::SIZE;
