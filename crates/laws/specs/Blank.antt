@@ -258,7 +258,7 @@ there-effect {l} {l'} {ls} count p x es b b' a h o f d c =
       newer = ap (λ (r : Bool). newer_list es || r) c.newer ∙ or_swap (newer_list es) (newer_entry x) (newer_body b);
     }
 
-pub effect : {l : Layout} {ls : List Layout} (count : ℕ → ℕ) (p : ℕ) (x : Entry l) (b b' : Body ls) (a h : ℕ) → OkLayout l → T (all_ok ls) → FitBody count b → Put p x ls b b' → Effect p x b b' a h
+pub effect : {l : Layout} (count : ℕ → ℕ) (p : ℕ) (x : Entry l) {ls : List Layout} (b b' : Body ls) (a h : ℕ) → OkLayout l → T (all_ok ls) → FitBody count b → Put p x ls b b' → Effect p x b b' a h
 effect count p x b b' a h o t f (here {rest = rest} es n e k q r) =
     rw (e, q, r) (here-effect count x es n rest a h o (fit-left count 1 es (unused ∷ replicate n unused) (rw q at f.0)) k)
 effect count p x b b' a h o t f (there {l' = l'} {ls = ks} {b = c} {b' = c'} es d u) =

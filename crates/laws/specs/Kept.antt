@@ -41,7 +41,7 @@ pub kept-through : (a b c : Meaning) → Kept a b → Kept b c → Kept a c
 kept-through a b c f g = record { owner_kept = λ img ss e. g.owner_kept img ss (f.owner_kept img ss e); lists_kept = through-body a.lists b.lists c.lists f.lists_kept g.lists_kept }
 
 -- one more record at the first untold position
-pub put-kept : {l : Layout} {ls : List Layout} (p : ℕ) (x : Entry l) (b b' : Body ls) → Put p x ls b b' → KeptBody b b'
+pub put-kept : {l : Layout} (p : ℕ) (x : Entry l) {ls : List Layout} (b b' : Body ls) → Put p x ls b b' → KeptBody b b'
 put-kept {l} p x b b' (here {rest = rest} es n e k q r) =
     ((λ i img ss f. ap (λ (z : List (Entry l)). get_or z i unused) r ∙ over es i img ss (ap (λ (z : List (Entry l)). get_or z i unused) (sym q) ∙ f)), same_body rest)
   where

@@ -52,7 +52,7 @@ module _ {l : Layout} (es : List (Entry l)) (p : ℕ) (from : 1 ≤ p) (upto : p
   put-none : {ls : List Layout} (rest : Body ls) → AllBlank rest → Put {l = l} p unused (l ∷ ls) (more es rest) (more es rest)
   put-none rest k = here (take (p - 1) es) (length es - p) place_here k split-here split-here
 
-pub fit-body-put : {l : Layout} {ls : List Layout} (count : ℕ → ℕ) (p : ℕ) (x : Entry l) (b b' : Body ls) → FitBody count b → FitEntry (env count p) x → Put p x ls b b' → FitBody count b'
+pub fit-body-put : {l : Layout} (count : ℕ → ℕ) (p : ℕ) (x : Entry l) {ls : List Layout} (b b' : Body ls) → FitBody count b → FitEntry (env count p) x → Put p x ls b b' → FitBody count b'
 fit-body-put count p x b b' f g (here es n e k q r) =
     let l₁ : length (es ++ (x ∷ replicate n unused)) ≡ length (es ++ (unused ∷ replicate n unused)) = length-append es
     (x ∷ replicate n unused) ∙ sym (length-append es (unused ∷ replicate n unused)) in (
@@ -145,7 +145,7 @@ here-next {l} {ls} x es (suc n) rest t k =
     let g : drop (length es + 1) (es ++ (x ∷ us)) ≡ us = sym (drop-drop 1 (length es) (es ++ (x ∷ us))) ∙ ap (drop 1) (drop_at es (x ∷ us) (length es) refl) in
     rw (lt-ltb (suc (length es)) (length (es ++ (x ∷ us))) (omega arith)) (at-blank (es ++ (x ∷ us)) rest (suc (length es) + 1) (rw (d, f) g) k)
 
-pub blank-next : {l : Layout} {ls : List Layout} (p : ℕ) (x : Entry l) (b b' : Body ls) → T (distinct ls) → Put p x ls b b'
+pub blank-next : {l : Layout} (p : ℕ) (x : Entry l) {ls : List Layout} (b b' : Body ls) → T (distinct ls) → Put p x ls b b'
     → BlankFrom (turn_after l.kind p ls (lengths_of b)).kind (turn_after l.kind p ls (lengths_of b)).position b'
 blank-next {l} p x b b' t (here {rest = rest} es n e k q r) =
     let l₁ : length (es ++ (unused ∷ replicate n unused)) ≡ length (es ++ (x ∷ replicate n unused)) = length-append es

@@ -28,13 +28,13 @@ pub struct Row {
 // What each part of a row's number counts by; the kind has the lowest byte.
 const OFF: u64 = 0x100;
 
-const FORM: u64 = 0x10000;
+const FORM: u64 = 0x1_0000;
 
-const WEIGHT: u64 = 0x1000000;
+const WEIGHT: u64 = 0x100_0000;
 
-const BY: u64 = 0x100000000;
+const BY: u64 = 0x1_0000_0000;
 
-const VIEW: u64 = 0x10000000000;
+const VIEW: u64 = 0x100_0000_0000;
 
 const HEADER: u64 = 0;
 

@@ -109,7 +109,7 @@ k12_like flags index =
     ∷ edit 246 (0x16 ∷ 0x02 ∷ 0 ∷ 0 ∷ 2 ∷ [])
     ∷ edit 384 (0x6E ∷ [])
     ∷ edit 386 (7 ∷ 1 ∷ 3 ∷ 1 ∷ 1 ∷ 0 ∷ 1 ∷ [])
-    ∷ edit 524 (0x_fF ∷ 0x_fF ∷ 192 ∷ 168 ∷ 0 ∷ 1 ∷ [])
+    ∷ edit 524 (0xFF ∷ 0xFF ∷ 192 ∷ 168 ∷ 0 ∷ 1 ∷ [])
     ∷ edit 530 (0x34 ∷ 0x34 ∷ 0x32 ∷ 0x30 ∷ 0x73 ∷ [])
     ∷ []))
 
@@ -140,7 +140,7 @@ full =
     ∷ edit 416 (6 ∷ 1 ∷ 1 ∷ 2 ∷ 1 ∷ 0 ∷ 0x66 ∷ 0x02 ∷ 0 ∷ 0 ∷ 2 ∷ [])
     ∷ edit 448 (0x64 ∷ 0x73 ∷ 0x6E ∷ [])
     ∷ edit 452 (7 ∷ 1 ∷ 3 ∷ 1 ∷ 2 ∷ 0 ∷ 5 ∷ [])
-    ∷ edit 540 (0x_fE ∷ 0x80 ∷ [])
+    ∷ edit 540 (0xFE ∷ 0x80 ∷ [])
     ∷ edit 556 (0x44 ∷ 0x02 ∷ 0 ∷ 0 ∷ 2 ∷ [])
     ∷ edit 580 (0x68 ∷ 0 ∷ 10 ∷ 0 ∷ 1 ∷ 0x50 ∷ 2 ∷ 0x71 ∷ [])
     ∷ edit 589 (9 ∷ 1 ∷ 1 ∷ 0 ∷ 3 ∷ 0 ∷ 0 ∷ 0 ∷ 5 ∷ 0 ∷ 6 ∷ 0 ∷ 0x5F ∷ 0x02 ∷ 0 ∷ 0 ∷ 2 ∷ [])
@@ -153,22 +153,22 @@ full_with es = summed (apply full es)
 -- the same said with noise in every reserved bit of flags, in the unused record, in reserved bytes and in the reference that is ignored
 abbrev noise : List Edit
 noise =
-    edit 51 (0x_fF ∷ [])
-    ∷ edit 67 (0x_fF ∷ [])
-    ∷ edit 70 (0x_fF ∷ 0x_fF ∷ [])
+    edit 51 (0xFF ∷ [])
+    ∷ edit 67 (0xFF ∷ [])
+    ∷ edit 70 (0xFF ∷ 0xFF ∷ [])
     ∷ edit 129 (0xF7 ∷ [])
-    ∷ edit 152 (0x_fF ∷ [])
-    ∷ edit 160 (0x_fF ∷ 0x_fF ∷ 0x_fE ∷ 0x_fF ∷ [])
-    ∷ edit 176 (0x_fF ∷ 0x_fF ∷ [])
-    ∷ edit 194 (0x_fF ∷ [])
-    ∷ edit 228 (0x_fF ∷ [])
-    ∷ edit 230 (0x_fF ∷ 0x_fF ∷ [])
-    ∷ edit 355 (0x_fA ∷ 0x_fF ∷ 0x_fF ∷ [])
-    ∷ edit 376 (0x_fF ∷ 0x_fF ∷ 0x_fF ∷ 0x_fF ∷ 0 ∷ 0 ∷ [])
-    ∷ edit 417 (0x_fF ∷ [])
-    ∷ edit 458 (0x_fD ∷ [])
-    ∷ edit 505 (0x_fF ∷ [])
-    ∷ edit 593 (0x_fF ∷ 0x_fF ∷ 0x_fF ∷ 0x_fF ∷ [])
+    ∷ edit 152 (0xFF ∷ [])
+    ∷ edit 160 (0xFF ∷ 0xFF ∷ 0xFE ∷ 0xFF ∷ [])
+    ∷ edit 176 (0xFF ∷ 0xFF ∷ [])
+    ∷ edit 194 (0xFF ∷ [])
+    ∷ edit 228 (0xFF ∷ [])
+    ∷ edit 230 (0xFF ∷ 0xFF ∷ [])
+    ∷ edit 355 (0xFA ∷ 0xFF ∷ 0xFF ∷ [])
+    ∷ edit 376 (0xFF ∷ 0xFF ∷ 0xFF ∷ 0xFF ∷ 0 ∷ 0 ∷ [])
+    ∷ edit 417 (0xFF ∷ [])
+    ∷ edit 458 (0xFD ∷ [])
+    ∷ edit 505 (0xFF ∷ [])
+    ∷ edit 593 (0xFF ∷ 0xFF ∷ 0xFF ∷ 0xFF ∷ [])
     ∷ []
 
 -- the same said with HFI records of 40 bytes, behind the heap
@@ -180,7 +180,7 @@ long_records =
     ∷ edit 80 (0x68 ∷ 0x02 ∷ 0 ∷ 0 ∷ 40 ∷ [])
     ∷ edit 656 (3 ∷ 2 ∷ 1 ∷ 3 ∷ [])
     ∷ edit 672 (0xC4 ∷ 0x01 ∷ 0 ∷ 0 ∷ 0x80 ∷ [])
-    ∷ edit 688 (0x_fF ∷ [])
+    ∷ edit 688 (0xFF ∷ [])
     ∷ []))
 
 -- one HFI whose info has version 2 and IP origin 3, with a host name; its extended info has a client identifier, IAID and DUID; in the order of the one form
@@ -202,7 +202,7 @@ identity =
     ∷ edit 176 (0xC2 ∷ 0 ∷ 0 ∷ 0 ∷ 0x80 ∷ [])
     ∷ edit 192 (0x6E ∷ [])
     ∷ edit 194 (7 ∷ 1 ∷ 3 ∷ 2 ∷ 1 ∷ 0 ∷ 1 ∷ [])
-    ∷ edit 213 (3 ∷ 0x_fE ∷ [])
+    ∷ edit 213 (3 ∷ 0xFE ∷ [])
     ∷ edit 298 (0x42 ∷ 0x01 ∷ 0 ∷ 0 ∷ 2 ∷ 0 ∷ 0x44 ∷ 0x01 ∷ 0 ∷ 0 ∷ 20 ∷ [])
     ∷ edit 322 (0x68 ∷ [])
     ∷ edit 324 (10 ∷ 1 ∷ 1 ∷ 0 ∷ 3 ∷ [])
@@ -223,13 +223,13 @@ identity_cut n es = summed (take n (apply identity es))
 abbrev identities : List Case
 identities =
     taken identity identity
-    ∷ taken (identity_with (edit 200 (0xF1 ∷ []) ∷ edit 310 (replicate 12 0x_fF) ∷ edit 328 (replicate 4 0x_fF) ∷ edit 50 (0x_fF ∷ 0x_fF ∷ []) ∷ [])) identity
-    ∷ taken (identity_with (edit 197 (1 ∷ []) ∷ edit 200 (0x0D ∷ []) ∷ edit 304 (replicate 6 0x_fF) ∷ []))
+    ∷ taken (identity_with (edit 200 (0xF1 ∷ []) ∷ edit 310 (replicate 12 0xFF) ∷ edit 328 (replicate 4 0xFF) ∷ edit 50 (0xFF ∷ 0xFF ∷ []) ∷ [])) identity
+    ∷ taken (identity_with (edit 197 (1 ∷ []) ∷ edit 200 (0x0D ∷ []) ∷ edit 304 (replicate 6 0xFF) ∷ []))
     (identity_cut 324 (edit 4 (0x44 ∷ []) ∷ edit 40 (0x84 ∷ []) ∷ edit 50 (0 ∷ []) ∷ edit 197 (1 ∷ []) ∷ edit 200 (5 ∷ []) ∷ edit 304 (replicate 6 0) ∷ []))
     ∷ taken (identity_with (edit 304 (replicate 6 0) ∷ [])) (identity_cut 324 (edit 4 (0x44 ∷ []) ∷ edit 40 (0x84 ∷ []) ∷ edit 304 (replicate 6 0) ∷ []))
     ∷ taken (identity_with (edit 200 (9 ∷ []) ∷ edit 213 (0 ∷ []) ∷ edit 328 (1 ∷ []) ∷ []))
     (identity_cut 344 (edit 4 (0x58 ∷ []) ∷ edit 40 (0x98 ∷ []) ∷ edit 200 (9 ∷ []) ∷ edit 213 (0 ∷ []) ∷ edit 328 (1 ∷ []) ∷ edit 332 (replicate 12 0) ∷ []))
-    ∷ taken (identity_with (edit 328 (1 ∷ []) ∷ edit 332 (replicate 12 0x_fF) ∷ []))
+    ∷ taken (identity_with (edit 328 (1 ∷ []) ∷ edit 332 (replicate 12 0xFF) ∷ []))
     (identity_cut 344 (edit 4 (0x58 ∷ []) ∷ edit 40 (0x98 ∷ []) ∷ edit 328 (1 ∷ []) ∷ edit 332 (replicate 12 0) ∷ []))
     ∷ refused (identity_with (edit 197 (0 ∷ []) ∷ [])) 12 3 1
     ∷ refused (identity_with (edit 197 (3 ∷ []) ∷ [])) 12 3 1
@@ -266,7 +266,7 @@ further =
     ∷ refused (with (edit 78 (2 ∷ []) ∷ [])) 9 1 0
     ∷ refused (with (edit 44 (1 ∷ []) ∷ edit 150 (0 ∷ []) ∷ [])) 11 0 0
     ∷ refused (with (edit 129 (0x19 ∷ []) ∷ edit 150 (0 ∷ []) ∷ [])) 10 2 0
-    ∷ refused (full_with (edit 354 (0x_eB ∷ []) ∷ [])) 10 5 1
+    ∷ refused (full_with (edit 354 (0xEB ∷ []) ∷ [])) 10 5 1
     ∷ refused (full_with (edit 270 (1 ∷ []) ∷ edit 282 (0 ∷ []) ∷ [])) 11 4 1
     ∷ refused (full_with (edit 453 (2 ∷ []) ∷ edit 560 (0 ∷ []) ∷ [])) 12 3 2
     ∷ refused (full_with (edit 288 (17 ∷ []) ∷ [])) 12 4 1
@@ -278,8 +278,8 @@ further =
 abbrev minors : List Case
 minors =
     taken (with (edit 50 (1 ∷ []) ∷ [])) k1
-    ∷ taken (with (edit 66 (0x_fF ∷ []) ∷ [])) k1
-    ∷ taken (with (edit 50 (1 ∷ []) ∷ edit 66 (0x_fF ∷ []) ∷ [])) k1
+    ∷ taken (with (edit 66 (0xFF ∷ []) ∷ [])) k1
+    ∷ taken (with (edit 50 (1 ∷ []) ∷ edit 66 (0xFF ∷ []) ∷ [])) k1
     ∷ refused (with (edit 8 (2 ∷ []) ∷ edit 50 (1 ∷ []) ∷ [])) 6 0 0
     ∷ refused (with (edit 65 (2 ∷ []) ∷ edit 66 (1 ∷ []) ∷ [])) 7 1 0
     ∷ further
@@ -317,7 +317,7 @@ samples =
     ∷ refused (with (edit 150 (0 ∷ []) ∷ [])) 11 2 0
     ∷ refused (with (edit 146 (0xA1 ∷ []) ∷ [])) 11 2 0
     ∷ taken k7 k7_form
-    ∷ refused (with (edit 36 (0xF0 ∷ 0x_fF ∷ 0x_fF ∷ 0x_fF ∷ 0x20 ∷ []) ∷ [])) 8 1 0
+    ∷ refused (with (edit 36 (0xF0 ∷ 0xFF ∷ 0xFF ∷ 0xFF ∷ 0x20 ∷ []) ∷ [])) 8 1 0
     ∷ taken (with (edit 152 (5 ∷ []) ∷ [])) k1
     ∷ refused (with (edit 36 (159 ∷ []) ∷ [])) 8 1 0
     ∷ refused (k12_like 5 0) 13 4 1
@@ -369,7 +369,7 @@ secondaries =
     ∷ look 20 4 1 4 (listing (1 ∷ 1 ∷ []) (edit 232 (2 ∷ []) ∷ []))
     ∷ look 20 4 1 4 (listing (2 ∷ 2 ∷ []) (edit 282 (0 ∷ []) ∷ []))
     ∷ look 11 4 1 4 (listing (2 ∷ 2 ∷ []) (edit 244 (0 ∷ []) ∷ []))
-    ∷ look 11 4 1 4 (full_with (edit 272 (0x_bE ∷ 1 ∷ 0 ∷ 0 ∷ 2 ∷ []) ∷ []))
+    ∷ look 11 4 1 4 (full_with (edit 272 (0xBE ∷ 1 ∷ 0 ∷ 0 ∷ 2 ∷ []) ∷ []))
     ∷ reaching
 
 -- Each with its answer and its looks, as the second program gives them. In order: K1 refused by tests 1, 8 and 9, for its driver signature, for a host that is not
@@ -429,7 +429,7 @@ rewrites-fine = tt
 
 -- K1 with two bytes before its NQN
 abbrev holed : List Edit → List ℕ
-holed es = summed (apply (k1 ++ (0 ∷ 0 ∷ [])) (edit 4 (0xA4 ∷ []) ∷ edit 40 (4 ∷ []) ∷ edit 146 (0xA2 ∷ []) ∷ edit 160 (0x_bE ∷ 0x5C ∷ 0x6E ∷ []) ∷ es))
+holed es = summed (apply (k1 ++ (0 ∷ 0 ∷ [])) (edit 4 (0xA4 ∷ []) ∷ edit 40 (4 ∷ []) ∷ edit 146 (0xA2 ∷ []) ∷ edit 160 (0xBE ∷ 0x5C ∷ 0x6E ∷ []) ∷ es))
 
 -- closed: Length stays, and the two bytes set free are zero
 abbrev filled : List Edit → List ℕ
@@ -457,13 +457,13 @@ abbrev pub close_samples : List CloseCase
 close_samples =
     shut k1 (0x82 ∷ []) 0 k1 (3 ∷ [])
     ∷ shut (holed []) (14 ∷ []) 2 (filled []) (12 ∷ [])
-    ∷ shut (holed []) (7 ∷ 0x_fF ∷ []) 2 (filled []) (12 ∷ 0 ∷ [])
+    ∷ shut (holed []) (7 ∷ 0xFF ∷ []) 2 (filled []) (12 ∷ 0 ∷ [])
     ∷ shut (holed (edit 44 (0xA3 ∷ 0 ∷ 0 ∷ 0 ∷ 1 ∷ []) ∷ [])) (0 ∷ []) 2 (filled (edit 44 (0xA1 ∷ 0 ∷ 0 ∷ 0 ∷ 1 ∷ []) ∷ [])) (12 ∷ [])
     ∷ unclosed (holed []) [] 14 0 0
     ∷ unclosed (take 161 k1) [] 3 0 0
-    ∷ shut pushed (replicate 21 7) 155 (summed (apply (identity ++ (0 ∷ 0 ∷ 0 ∷ [])) (edit 4 (0x5E ∷ []) ∷ []))) (0xF8 ∷ (replicate 18 0x_fF ++ (0x3F ∷ 0 ∷ [])))
+    ∷ shut pushed (replicate 21 7) 155 (summed (apply (identity ++ (0 ∷ 0 ∷ 0 ∷ [])) (edit 4 (0x5E ∷ []) ∷ []))) (0xF8 ∷ (replicate 18 0xFF ++ (0x3F ∷ 0 ∷ [])))
     ∷ shut (identity_with (edit 328 (1 ∷ []) ∷ [])) (replicate 20 0) 0 (identity_with (edit 40 (0x98 ∷ []) ∷ edit 328 (1 ∷ []) ∷ edit 344 (0 ∷ 0 ∷ 0 ∷ []) ∷ []))
-    (replicate 19 0x_fF ++ (0 ∷ []))
+    (replicate 19 0xFF ++ (0 ∷ []))
     ∷ unclosed (identity_with (edit 146 (0x46 ∷ 1 ∷ []) ∷ [])) (replicate 19 0) 14 0 0
     ∷ unclosed (identity_with (edit 146 (0x46 ∷ 1 ∷ []) ∷ [])) (replicate 20 0) 19 0 0
     ∷ unclosed (identity_with (edit 308 (21 ∷ []) ∷ [])) (replicate 20 0) 19 0 0

@@ -54,11 +54,11 @@ pub a-mac : mac_of (0x52 ∷ 0x54 ∷ 0x00 ∷ 0xa1 ∷ 0xb2 ∷ 0x01 ∷ []) �
 unfolding mac_of hex_of hex_digit
 a-mac = refl
 
-pub a-function : pci_of 0x140FD ≡ ascii "0001:40:1f.5"
+pub a-function : pci_of 0x1_40fd ≡ ascii "0001:40:1f.5"
 unfolding pci_of hex_of hex_digit
 a-function = refl
 
-pub a-short-function : short_pci_of 0x1E605C40 ≡ ascii "0:5c:8.0"
+pub a-short-function : short_pci_of 0x1e60_5c40 ≡ ascii "0:5c:8.0"
 unfolding short_pci_of unpadded_of hex_of hex_digit
 a-short-function = refl
 
