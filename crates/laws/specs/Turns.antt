@@ -172,6 +172,9 @@ blank-leave k p (more {l = l} {ls = ls} es rest) t f u d =
         → BlankFrom (turn_after k p ls (lengths_of rest)).kind (turn_after k p ls (lengths_of rest)).position rest)
         → BlankFrom (turn_after k p (l ∷ ls) (lengths_of (more es rest))).kind
         (turn_after k p (l ∷ ls) (lengths_of (more es rest))).position (more es rest)
-    go true e a b r = rw (eqb-true k l.kind e) (blank-next p unused (more es rest) (more es rest) t (put-none es p f a b.0 rest b.1))
+    go true e a b r =
+        let after : ℕ → Turn = λ j. turn_after j p (l ∷ ls) (lengths_of (more es rest)) in
+        subst (λ (j : ℕ). BlankFrom (after j).kind (after j).position (more es rest)) (sym (eqb-true k l.kind e))
+        (blank-next p unused (more es rest) (more es rest) t (put-none es p f a b.0 rest b.1))
     go false e a b r =
         rw e (skip-blank es rest (turn_after k p ls (lengths_of rest)) (after-other l.kind p k ls (lengths_of rest) e (and_yes (missing l.kind ls) (distinct ls) t).0) (r a b))
