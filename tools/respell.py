@@ -16,7 +16,7 @@ ROOT = pathlib.Path(__file__).resolve().parent.parent
 LEMMAS = "all_in fields_in heap_len in_list in_order is_right laid_out lists_at no_pairs no_plain plain_by same_then slots_at turn_is".split()
 
 WORD = re.compile(r"(?<![\w'])[A-Za-z_ℓμ][A-Za-z0-9_'ℓμ]*")
-STRING = re.compile(r'"(?:[^"\\]|\\.)*"')
+STRING = re.compile(r'"(?:[^"\\]|\\.)*"|\bb\'(?:[^\'\\]|\\.)\'')
 LEMMA = re.compile(r"(?<![\w.'-])(" + "|".join(LEMMAS) + r")(?![\w'-])")
 
 

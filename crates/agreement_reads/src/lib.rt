@@ -1,1 +1,2 @@
 // That definitions and second program agree on reads and rewrites stands in specs/.
+#![tactic(auto)]

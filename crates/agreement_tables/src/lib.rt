@@ -1,1 +1,2 @@
 // That definitions and second program agree on checks and builder calls stands in specs/.
+#![tactic(auto)]

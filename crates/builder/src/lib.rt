@@ -1,5 +1,7 @@
 // The builder: begin, the records in the order of their turns, each told or left unused, then finish. Each call is lent the buffer, is given
 // the state that the last one returned, and hands a state back; any state and any buffer may be handed in.
+#![tactic(auto)]
+
 pub mod leaves; // a position left unused
 
 pub use builder_begin::begin;

@@ -1,4 +1,6 @@
 // The beginning of a build: all that is known before the records.
+#![tactic(auto)]
+
 ghost use Rattle.std.specs.Prelude.{◌≡◌, [], ◌∷◌, ◌+◌, ◌≤◌, length};
 ghost use Rattle.table.specs.Bytes.{splice};
 ghost use Rattle.table.specs.Meaning.{laid_out};

@@ -1,4 +1,6 @@
 // The end of a build. The reader judges the bytes as they would be: they are stored, judged, and put back where it refuses them (D82).
+#![tactic(auto)]
+
 ghost use Rattle.std.specs.Prelude.{◌≡◌, true, ◌≤◌, length, take, eqb};
 ghost use Rattle.table.specs.Bytes.{pick};
 ghost use Rattle.table.specs.Numbers.{check};

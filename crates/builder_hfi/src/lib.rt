@@ -1,6 +1,8 @@
 // The builder's call for an HFI, which names its transport info; this names, under version 2, an HFI extended info where one is told. Any state,
 // buffer and told bytes may be handed in. `told` is a record as the caller tells it, `marked` its bytes once the builder has set those that are its
 // own to set (`builder_told::marks`); so are `info` and `extended` where they are slices.
+#![tactic(auto)]
+
 ghost use Rattle.std.specs.Prelude.{◌≡◌, true, ◌&&◌, [], ◌+◌, ◌≤◌, length, get_or, eqb};
 ghost use Rattle.table.specs.Bytes.{pick, splice};
 ghost use Rattle.table.specs.Layout.{text, base_of};

@@ -1,5 +1,7 @@
 // The builder's call for the host. Any state, buffer and told bytes may be handed in. `told` is a record as the caller tells it, `marked` its
 // bytes once the builder has set those that are its own to set (`builder_told::marks`).
+#![tactic(auto)]
+
 ghost use Rattle.std.specs.Prelude.{◌≡◌, true, ◌≤◌, length};
 ghost use Rattle.table.specs.Layout.{text, base_of};
 ghost use Rattle.table.specs.FixedLayouts as layouts;

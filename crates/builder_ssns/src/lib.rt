@@ -1,6 +1,8 @@
 // The builder's call for an SSNS record, which names, under flag 4, its extended info. Any state, buffer and told bytes may be handed in. `told`
 // is a record as the caller tells it, `marked` its bytes once the builder has set those that are its own to set (`builder_told::marks`); so is
 // `extended` where it is a slice.
+#![tactic(auto)]
+
 ghost use Rattle.std.specs.Prelude.{◌≡◌, true, [], ◌+◌, ◌≤◌, length};
 ghost use Rattle.table.specs.Bytes.{splice};
 ghost use Rattle.table.specs.Layout.{text, base_of};

@@ -1,4 +1,6 @@
 // The builder's states: whose turn it is, where its record stands, and which state comes behind it. Any state may be handed in, forged ones too.
+#![tactic(auto)]
+
 ghost use Rattle.std.specs.Prelude.{◌≡◌, true, [], ◌∷◌, ◌+◌, ◌≤◌, eqb};
 ghost use Rattle.table.specs.Bytes.{pick};
 ghost use Rattle.table.specs.Layout.{base_of};

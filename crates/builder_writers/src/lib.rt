@@ -1,5 +1,7 @@
 // A writer for each kind of record, lent the record's own part of the output. What is told of a record stands in `told`, as long as a record of that kind;
 // the objects that it names stand from `heap` on, one behind the other, and a writer is told how long they are.
+#![tactic(auto)]
+
 ghost use Rattle.std.specs.Prelude.{◌≡◌, [], ◌∷◌, ◌+◌, ◌≤◌, length};
 ghost use Rattle.table.specs.Layout.{base_of};
 ghost use Rattle.table.specs.FixedLayouts.{layout_of, host, hfi, ssns, security, discovery, info, extended, hfi_extended};

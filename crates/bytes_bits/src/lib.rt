@@ -1,4 +1,6 @@
 // A map of bits in lent bytes: bit n is bit n mod 8, the lowest first, of byte n / 8.
+#![tactic(auto)]
+
 ghost use Rattle.std.specs.Prelude.{◌≡◌, ℕ, ◌+◌, ◌*◌, ◌/◌, ◌^◌, ◌≤◌, ◌<◌, length, get_or};
 ghost use Rattle.std.specs.Int.Count.{ones};
 ghost use Rattle.bytes_bits.specs.Bits.{bit_at, bits_below, with_bit, with_bits};

@@ -1,4 +1,6 @@
 // Header and control record, each into its own part.
+#![tactic(auto)]
+
 ghost use Rattle.std.specs.Prelude.{◌≡◌, [], ◌∷◌, ◌++◌, ◌+◌, ◌≤◌, length};
 ghost use Rattle.table.specs.Bytes.{le, splice};
 ghost use Rattle.bytes_front.specs.Front.{header_for, entry_for, control_for};
@@ -34,7 +36,7 @@ const CONTROL_REST: usize = DISCOVERY_LIST + 8;
 const CONTROL_RESERVED: usize = Control::SIZE - CONTROL_REST;
 
 // How many records each list has.
-#[derive(Drop)]
+#[derive(Clone, Copy)]
 pub struct Counts {
     pub hfi: u8,
     pub ssns: u8,

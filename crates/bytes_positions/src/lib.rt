@@ -1,4 +1,6 @@
 // Whether bytes are positions in a list: no more than there are, and none of them twice.
+#![tactic(auto)]
+
 ghost use Rattle.std.specs.Prelude.{◌≡◌};
 ghost use Rattle.table.specs.Bytes.{once};
 ghost use Rattle.table.specs.Layout.{are_positions};

@@ -1,4 +1,6 @@
 // Whether a form fits: 17 before 14.
+#![tactic(auto)]
+
 ghost use Rattle.std.specs.Prelude.{◌≡◌, ◌∷◌, [], leb};
 ghost use Rattle.table.specs.Rules.{test, first_fail};
 ghost use Rattle.table.specs.Meaning.{limit};

@@ -1,4 +1,6 @@
 // Whether bytes are text: exactly one of them is zero, the last.
+#![tactic(auto)]
+
 ghost use Rattle.std.specs.Prelude.{◌≡◌, not, ◌+◌, ◌≤◌, length};
 ghost use Rattle.table.specs.Layout.{is_text};
 ghost use Rattle.laws.specs.TextLaws.{no_zero};

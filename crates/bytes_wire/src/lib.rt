@@ -1,4 +1,6 @@
 // Little-endian numbers and references in a table, and the sum of a table's bytes.
+#![tactic(auto)]
+
 ghost use Rattle.std.specs.Prelude.{◌≡◌, ◌+◌, ◌%◌, ◌<◌, ◌≤◌, length, drop};
 ghost use Rattle.table.specs.Bytes.{num, total};
 ghost use Rattle.table.specs.Layout.{reference_at};

@@ -7,7 +7,7 @@ use crate::stores::put_ref;
 use table::Offsets;
 
 // What each reference's object takes: its length, and its bytes in the heap.
-#[derive(Drop)]
+#[derive(Clone, Copy)]
 pub struct Sizes {
     pub len: [usize; 6],
     pub span: [u32; 6],

@@ -1,4 +1,6 @@
 // Answers, with fields, places, lengths and counts, as numbers, and a field's bytes stored for the caller: what the C functions hand back.
+#![tactic(auto)]
+
 ghost use Rattle.std.specs.Prelude.{◌≡◌, ◌<◌, ◌≤◌, eqb};
 ghost use Rattle.table.specs.Bytes.{pick};
 ghost use Rattle.table.specs.Meaning.{limit};

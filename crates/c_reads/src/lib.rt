@@ -1,4 +1,6 @@
 // Reads of fields, objects and whole records for callers in C: what they answer as one number.
+#![tactic(auto)]
+
 ghost use Rattle.std.specs.Prelude.{◌≡◌, length};
 ghost use Rattle.table.specs.Reads.{read_field, read_place, read_record};
 ghost use Rattle.c_answers.specs.Packed.{packed, packed_field, packed_place, value_after};

@@ -1,4 +1,6 @@
 // A builder's state as 16 bytes for callers in C, and what a call hands back to them.
+#![tactic(auto)]
+
 ghost use Rattle.std.specs.Prelude.{◌≡◌, [], ◌∷◌, ◌<◌, length};
 ghost use Rattle.c_answers.specs.Packed.{packed};
 ghost use Rattle.c_states.specs.States.{state_of, state_bytes, state_after, SmallState};

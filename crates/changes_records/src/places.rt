@@ -15,7 +15,7 @@ use table::{Control, Header, Host};
 pub const END: u8 = 7;
 
 // Where a walk stands: at the counts (0), the header (1), the host (2), or in the list of a kind, before the position behind so many.
-#[derive(Drop)]
+#[derive(Clone, Copy)]
 pub struct Walk {
     pub list: u8,
     pub position: usize,

@@ -11,7 +11,7 @@ use reads::records::record_in;
 use table::{Extended, Hfi, HfiExtended, Info, Ssns};
 
 // How many bytes of the buffer are taken, and whether both tables have the heap record.
-#[derive(Drop)]
+#[derive(Clone, Copy)]
 pub struct Level {
     pub at: usize,
     pub both: bool,

@@ -1,4 +1,6 @@
 // Closing up a table's heap in place: the reader's answer, then 14, then 19; only where all pass is a byte of table or map written.
+#![tactic(auto)]
+
 ghost use Rattle.std.specs.Prelude.{◌≡◌, not, ◌∷◌, [], ◌*◌, ◌≤◌, ◌<◌, length, T, leb};
 ghost use Rattle.table.specs.Bytes.{le, splice};
 ghost use Rattle.table.specs.Rules.{first_fail, test};
@@ -16,7 +18,7 @@ use closer_stores::store_sites;
 use table::Answer;
 
 // What closing up answers: how many bytes of the heap changed their place, 0 where it is refused.
-#[derive(Drop)]
+#[derive(Clone, Copy)]
 pub struct Compacted {
     pub answer: Answer,
     pub moved: usize,

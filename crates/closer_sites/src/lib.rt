@@ -1,5 +1,7 @@
 // A walk over the sites of a table: the references that count and are present, in the order of the one form. Each step looks at one reference, or goes
 // on to the next record. In every kind the reference to a heap record is the last one, so that nothing is to be kept for the way back.
+#![tactic(auto)]
+
 ghost use Rattle.std.specs.Prelude.{◌≡◌, ◌+◌, ◌≤◌, ◌<◌, length, get_or};
 ghost use Rattle.table.specs.Layout.{base_of, offsets};
 ghost use Rattle.table.specs.FixedLayouts.{layout_of};
@@ -18,7 +20,7 @@ pub const END: u8 = 7;
 
 // Where the walk stands: before reference `next` of the record of a kind at a place. Behind that record come those of a list from a position on, the first
 // of them at 0, and then the further lists; the host counts as a list here.
-#[derive(Drop)]
+#[derive(Clone, Copy)]
 pub struct Walk {
     pub list: u8,
     pub position: usize,
@@ -28,7 +30,7 @@ pub struct Walk {
 }
 
 // What a reference names: where it stands itself, its two halves, and the kind of a heap record or 0. The length is 0 where it names nothing or is ignored.
-#[derive(Drop)]
+#[derive(Clone, Copy)]
 pub struct Named {
     pub at: usize,
     pub off: usize,
@@ -37,7 +39,7 @@ pub struct Named {
 }
 
 // What one step found, and where it left the walk.
-#[derive(Drop)]
+#[derive(Clone, Copy)]
 pub struct Stepped {
     pub named: Named,
     pub walk: Walk,

@@ -1,4 +1,6 @@
 // A heap closed up in place: its marked bytes slide to its start, in their order, and zeros stand behind them.
+#![tactic(auto)]
+
 ghost use Rattle.std.specs.Prelude.{◌≡◌, not, ◌&&◌, ◌*◌, ◌≤◌, ◌<◌, length, get_or, set, eqb};
 ghost use Rattle.table.specs.Bytes.{padded, pick};
 ghost use Rattle.table.specs.Closing.{moved_of, one, ones, sift};

@@ -1,5 +1,7 @@
 // Each site's offset as it will be, stored into the table in which the sites are found. A step of the walk is taken before its site is stored to; the map
 // tells how many heap bytes stay below a place.
+#![tactic(auto)]
+
 ghost use Rattle.std.specs.Prelude.{◌≡◌, not, ◌+◌, ◌-◌, ◌*◌, ◌≤◌, ◌<◌, length, T, eqb};
 ghost use Rattle.table.specs.Bytes.{le, pick, splice};
 ghost use Rattle.table.specs.Numbers.{heap_in};

@@ -1,4 +1,6 @@
 // A table built from its description, and what is promised of it.
+#![tactic(auto)]
+
 ghost use Rattle.std.specs.Prelude.{◌≡◌, take};
 ghost use Rattle.io.specs.Counts as io;
 ghost use Rattle.table.specs.Numbers as definition;
@@ -10,7 +12,7 @@ use description_sections::walking::{Walk, close, walked};
 use table::Answer;
 
 // What is wrong and in which line; what the builder answers; where nothing is wrong, how many bytes the table has.
-#[derive(Drop)]
+#[derive(Clone, Copy)]
 pub struct Built {
     pub wrong: u8,
     pub line: usize,

@@ -1,4 +1,6 @@
 // A section as far as it is read: its bytes, its objects in the lent room, and the line that told each, so that a fault can be named by its line.
+#![tactic(auto)]
+
 pub mod lines; // lines, words and sections
 pub mod wrongs; // what may be wrong with a description
 
@@ -17,7 +19,7 @@ use table::Hfi;
 
 // Its first line; the bytes of its record and, from 128 on, of the heap record that this names, and from 32 on of the HFI extended info; the line that
 // told each field or object, or 0; where each object begins and ends in the room lent for them, and how much of that is taken.
-#[derive(Drop)]
+#[derive(Clone, Copy)]
 pub struct Draft {
     pub kind: u8,
     pub used: bool,
@@ -30,7 +32,7 @@ pub struct Draft {
 }
 
 // A draft, and what was wrong with its last line.
-#[derive(Drop)]
+#[derive(Clone, Copy)]
 pub struct Drafted {
     pub wrong: u8,
     pub draft: Draft,

@@ -9,7 +9,7 @@ use table::{Discovery, Header, Hfi, Host, Security, Ssns};
 pub const NO_KIND: u8 = 255;
 
 // A section's kind, and whether the position is used.
-#[derive(Drop)]
+#[derive(Clone, Copy)]
 pub struct Section {
     pub kind: u8,
     pub used: bool,
@@ -118,7 +118,7 @@ pub fn section_of(line: &[u8]) -> Section {
 }
 
 // How many sections of a kind there are, and the line that begins the n-th of them, or 0.
-#[derive(Drop)]
+#[derive(Clone, Copy)]
 pub struct Found {
     pub count: usize,
     pub line: usize,

@@ -6,7 +6,7 @@ use bytes_writer::stores::copy_into;
 use description_values::{Taken, refused};
 
 // Whether the text is an address, and which.
-#[derive(Drop)]
+#[derive(Clone, Copy)]
 pub struct Address {
     pub fine: bool,
     pub bytes: [u8; 16],

@@ -1,4 +1,6 @@
 // Numbers with a mark between them, one or two bytes each, read into bytes.
+#![tactic(auto)]
+
 pub mod addresses; // Internet addresses
 
 ghost use Rattle.std.specs.Prelude.{◌≤◌, ◌<◌, length};
@@ -7,7 +9,7 @@ use description_values::numbers::number_of;
 use description_values::{Taken, refused};
 
 // The mark, the digits, how many of them a number has at most, and whether it fills two bytes, the high one first.
-#[derive(Drop)]
+#[derive(Clone, Copy)]
 pub struct Parts {
     pub mark: u8,
     pub hexadecimal: bool,

@@ -10,7 +10,7 @@ use description_lists::mark_from;
 use table::{Answer, State};
 
 // The line that was read last, or the one that is wrong; what the builder answered last, and its state.
-#[derive(Drop)]
+#[derive(Clone, Copy)]
 pub struct Walk {
     pub wrong: u8,
     pub line: usize,

@@ -7,7 +7,7 @@ use crate::{Taken, refused};
 const GREATEST: u64 = 4294967295;
 
 // Whether the text is a number, and which.
-#[derive(Drop)]
+#[derive(Clone, Copy)]
 pub struct Number {
     pub fine: bool,
     pub value: u64,
@@ -36,8 +36,8 @@ fn digit(b: u8) -> u64
             return (b - 87) as u64;
         }
     }
-    if b'_a' <= b {
-        if b <= b'_f' {
+    if b'A' <= b {
+        if b <= b'F' {
             return (b - 55) as u64;
         }
     }

@@ -5,7 +5,7 @@ use crate::numbers::number_of;
 use crate::{Taken, refused};
 
 // One byte as it is written: whether it is one, which, and how many bytes of the text it takes.
-#[derive(Drop)]
+#[derive(Clone, Copy)]
 pub struct Written {
     pub fine: bool,
     pub value: u8,

@@ -1,4 +1,6 @@
 // What a line of a description tells, by its section and its first word: which field or object, and how its value is written.
+#![tactic(auto)]
+
 use table::{Discovery, Header, Hfi, Host, Security, Ssns};
 
 pub mod hfi; // transport info and HFI extended info
@@ -12,7 +14,7 @@ use hfi::hfi_place;
 use subsystem::subsystem_place;
 
 // How a value is written.
-#[derive(Drop)]
+#[derive(Clone, Copy)]
 pub enum Form {
     Number,
     Text,
@@ -31,7 +33,7 @@ pub const INNER: usize = 128;
 pub const IDENTITY: usize = 32;
 
 // Where a field stands and how many bytes it has; of an object, which has none there, where its reference stands, and which of the record's objects it is.
-#[derive(Drop)]
+#[derive(Clone, Copy)]
 pub struct Place {
     pub form: Form,
     pub at: usize,

@@ -1,4 +1,6 @@
 // A record's flags as numbers, without their reserved bits, and the two-bit fields among them. What a reader tests of them a builder tests too.
+#![tactic(auto)]
+
 ghost use Rattle.std.specs.Prelude.{◌≡◌, ◌+◌, ◌≤◌, length};
 ghost use Rattle.table.specs.Bytes.{num};
 ghost use Rattle.table.specs.Layout.{base_of, pairs_right};

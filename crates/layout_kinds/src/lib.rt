@@ -1,4 +1,6 @@
 // What differs from kind to kind, looked up by its number. A number that is no kind has size 0 and no references, as in the definitions.
+#![tactic(auto)]
+
 ghost use Rattle.std.specs.Prelude.{◌≡◌, ◌≤◌, length, take};
 ghost use Rattle.table.specs.Layout.{offsets, base_of};
 ghost use Rattle.table.specs.FixedLayouts.{layout_of};

@@ -1,4 +1,6 @@
 // Which references of a record count: required, optional, or ignored under its flags.
+#![tactic(auto)]
+
 ghost use Rattle.std.specs.Prelude.{◌≡◌, ◌+◌, ◌≤◌, length};
 ghost use Rattle.table.specs.FixedLayouts.{security, hfi_extended};
 ghost use Rattle.table.specs.Reads.{need_at};

@@ -1,4 +1,6 @@
 // The C functions, and nothing else. include/nbft.h declares them.
+#![tactic(auto)]
+
 ghost use Rattle.std.specs.Prelude.{◌≡◌, length};
 ghost use Rattle.table.specs.Numbers.{check};
 ghost use Rattle.table.specs.Looks.{looks};

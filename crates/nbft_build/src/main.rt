@@ -1,5 +1,7 @@
 // `nbft_build SPEC OUT`: a table built from its description, and its length. Where the description is wrong, a line on standard error says
 // which of its lines and why; where the builder refuses what it says, number, kind and position too, and the words.
+#![tactic(auto)]
+
 use description::build;
 use description_draft::wrongs::{NOTHING, REFUSED, write_words};
 use libc::STDERR_FILENO;

@@ -1,5 +1,7 @@
 // `nbft_check FILE`: whether the file holds a good table, and if not, its first fault. One line of
 // numbers for programs, one of words for people. What hinders the check goes to standard error.
+#![tactic(auto)]
+
 use tool::MOST;
 
 fn check_file(argument: usize) {

@@ -1,5 +1,7 @@
 // `nbft_diff FILE FILE`: what two tables say differently, a line for each difference, and nothing where they say the same. Of a table that is refused
 // number, kind and position of its first fault instead, and on standard error the file's name and the words.
+#![tactic(auto)]
+
 ghost use Rattle.reader.specs.Accepted.{Accepted};
 
 use changes_records::places::{END, first, lines_at, next};

@@ -1,5 +1,7 @@
 // `nbft_rewrite IN OUT`: a table's one form into another file, and its length; `nbft_rewrite --same FILE FILE`: whether two tables say the
 // same. Of a table that is refused, number, kind and position of the first fault, and the words.
+#![tactic(auto)]
+
 use rewrite_files::files::{compare_files, rewrite_file};
 
 fn main() {

@@ -12,7 +12,7 @@ use tool::{MOST, print_bytes, put_name};
 const NAME_MAX: usize = 4102;
 
 // Whether a table is there, and whether none has been shown so far.
-#[derive(Drop)]
+#[derive(Clone, Copy)]
 struct Met {
     there: bool,
     none: bool,
@@ -102,7 +102,7 @@ fn put_table_name(path: &[u8], k: u8, name: &mut [u8]) -> usize
     requires { (length path.now + 6 ≤ length name.old) × (k ≤ 9) }
     ensures { IsPrefixLen result name.new }
 {
-    let ending = [b'/', b'_n', b'_b', b'_f', b'_t', 48 + k];
+    let ending = [b'/', b'N', b'B', b'F', b'T', 48 + k];
     if k == 0 {
         return put_name(path, &ending[..5], name);
     }

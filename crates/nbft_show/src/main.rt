@@ -1,5 +1,7 @@
 // `nbft_show [--json] [--all] [FILE]..`: what tables say, for people or as JSON. Of a table that is refused, number, kind and position of the first fault,
 // and the words.
+#![tactic(auto)]
+
 mod files; // tables from files, folders and standard input
 mod options; // what is asked for
 

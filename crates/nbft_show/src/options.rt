@@ -1,7 +1,7 @@
 // What is asked for: options anywhere among the files, and whether files are named.
 
 // Of the files: 0 none, 1 one, 2 several.
-#[derive(Drop)]
+#[derive(Clone, Copy)]
 pub struct Asked {
     pub known: bool,
     pub json: bool,
@@ -10,7 +10,7 @@ pub struct Asked {
 }
 
 // An argument: a file, one of the two options, or an option that there is not.
-#[derive(Drop)]
+#[derive(Clone, Copy)]
 enum Word {
     File,
     Json,

@@ -1,4 +1,6 @@
 // The reader: whether a table is good, and if not, the first fault. Tests 1 to 9, then the driver signature, the host, and the records by position.
+#![tactic(auto)]
+
 ghost use Rattle.std.specs.Prelude.{◌≡◌, ◌+◌, ◌≤◌, ◌<◌, length};
 ghost use Rattle.table.specs.Bytes.{num, part};
 ghost use Rattle.table.specs.Layout.{region};

@@ -1,4 +1,6 @@
 // Tests 1 to 9: header and control record are read once and then judged.
+#![tactic(auto)]
+
 ghost use Rattle.std.specs.Prelude.{◌≡◌, ◌≤◌};
 ghost use Rattle.table.specs.Rules.{first_fail};
 ghost use Rattle.table.specs.Numbers.{tests};

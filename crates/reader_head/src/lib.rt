@@ -1,12 +1,14 @@
 // What header and control record say, as a struct by value: the tests of the frame, 1 to 9, look at it and not at the table. The walks over the records
 // behind them (reader, lists, indexes) read an entry or a place from the table again, where they need it.
+#![tactic(auto)]
+
 ghost use Rattle.std.specs.Prelude.{◌≡◌, ◌+◌, ◌≤◌, length};
 ghost use Rattle.reader_head.specs.Head.{long_region, entry_in, head_of, Narrow, NarrowRegion, NarrowEntry};
 
 use table::{Control, Region};
 
 // A list as the control record has it: where it starts, how long each record is, their version and their number.
-#[derive(Drop)]
+#[derive(Clone, Copy)]
 pub struct Entry {
     pub at: usize,
     pub step: usize,
@@ -15,7 +17,7 @@ pub struct Entry {
 }
 
 // What header and control record say, as far as the tests look at it.
-#[derive(Drop)]
+#[derive(Clone, Copy)]
 pub struct Head {
     pub signature: usize,
     pub size: usize,

@@ -1,4 +1,6 @@
 // Heap records by their own bytes: the transport info of an HFI, the HFI extended info that it may name, and the extended info of an SSNS.
+#![tactic(auto)]
+
 ghost use Rattle.std.specs.Prelude.{◌≡◌, ◌||◌, [], ◌+◌, ◌≤◌, ◌<◌, length, get_or, eqb};
 ghost use Rattle.table.specs.Bytes.{pick};
 ghost use Rattle.table.specs.Layout.{base_of};

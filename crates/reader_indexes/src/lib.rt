@@ -1,4 +1,6 @@
 // Indexes: each names a position of a list, whose record must be valid. Only the valid bit is looked at here; the record's own turn finds its other faults.
+#![tactic(auto)]
+
 pub mod names; // the indexes of a record, by kind
 
 ghost use Rattle.std.specs.Prelude.{◌≡◌, ◌+◌, ◌*◌, ◌≤◌, ◌<◌, length, get_or, eqb, [], ◌∷◌};

@@ -1,4 +1,6 @@
 // Records: their fields, their references in a loop over the kind's table of offsets, their indexes; and lists, walked by their stated record length.
+#![tactic(auto)]
+
 ghost use Rattle.std.specs.Prelude.{◌≡◌, ◌+◌, ◌*◌, ◌≤◌, ◌<◌, length};
 ghost use Rattle.table.specs.Layout.{base_of, region};
 ghost use Rattle.table.specs.FixedLayouts.{layout_of};

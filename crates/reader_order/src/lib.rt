@@ -1,4 +1,6 @@
 // Tests 2 to 4 and 6 to 9 by what was read and counted: the first fault wins.
+#![tactic(auto)]
+
 ghost use Rattle.std.specs.Prelude.{◌≡◌};
 ghost use Rattle.table.specs.Rules.{first_fail};
 ghost use Rattle.reader_order.specs.Judging.{size_tests, judged};

@@ -1,4 +1,6 @@
 // A reference: offset and length of an object, which must lie in the heap. The heap is the bytes from `from` on, `n` of them.
+#![tactic(auto)]
+
 ghost use Rattle.std.specs.Prelude.{◌≡◌, true, ◌+◌, ◌≤◌, ◌<◌, length};
 ghost use Rattle.table.specs.Bytes.{pick, part};
 ghost use Rattle.table.specs.Layout.{is_text, region, reference_at};
@@ -10,7 +12,7 @@ use bytes_text::is_text;
 use table::Need;
 
 // What a reference names.
-#[derive(Drop)]
+#[derive(Clone, Copy)]
 pub enum Ref {
     Absent,
     Wrong,

@@ -1,4 +1,6 @@
 // The regions of a table: host, lists and heap as spans, which lie in the table and apart from each other.
+#![tactic(auto)]
+
 ghost use Rattle.std.specs.Prelude.{◌≡◌, ◌∷◌, [], ◌≤◌};
 ghost use Rattle.reader_regions.specs.Regions.{list_span, host_span, heap_span, outsides, overlaps, misplaced};
 ghost use Rattle.reader_head.specs.Head.{Narrow, NarrowRegion, NarrowEntry};

@@ -1,5 +1,7 @@
 // The rules of a record: its own fields, and its references, each by kind and offset with the heap record that it refers to. The heap is lent
 // as a part of the table, a heap record as a part of the heap.
+#![tactic(auto)]
+
 pub mod own_fields; // a record's own fields, by kind
 
 ghost use Rattle.std.specs.Prelude.{◌≡◌, ◌+◌, ◌≤◌, length, get_or};

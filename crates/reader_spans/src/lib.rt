@@ -1,9 +1,11 @@
 // Spans of a table: whether one lies outside given bounds, and whether two share a byte.
+#![tactic(auto)]
+
 ghost use Rattle.std.specs.Prelude.{◌≡◌, ◌≤◌};
 ghost use Rattle.reader_spans.specs.Spans.{outside, overlap, Ends};
 
 // A region that is none where `present` is 0: an empty list and a heap of length 0 have no place.
-#[derive(Drop)]
+#[derive(Clone, Copy)]
 pub struct Span {
     pub present: usize,
     pub at: usize,

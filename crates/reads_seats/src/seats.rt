@@ -13,7 +13,7 @@ use layout_flags::ssns_flags;
 use table::{Control, Discovery, Extended, Header, Hfi, HfiExtended, Host, Info, Security, Ssns};
 
 // Nowhere, or at a place, where it is used or not.
-#[derive(Drop)]
+#[derive(Clone, Copy)]
 pub enum Seat {
     Nowhere,
     At { at: usize, used: bool },

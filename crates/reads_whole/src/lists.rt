@@ -9,7 +9,7 @@ use reads_by_seat::counts::count_of;
 use table::{Extended, Hfi, HfiExtended, Host, Info, Ssns};
 
 // How many entries were written, and how many there are.
-#[derive(Drop)]
+#[derive(Clone, Copy)]
 pub struct Told {
     pub written: usize,
     pub total: usize,

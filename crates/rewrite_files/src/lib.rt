@@ -1,4 +1,6 @@
 // The one form of a table by value, and whether two tables say the same.
+#![tactic(auto)]
+
 ghost use Rattle.std.specs.Prelude.{◌≡◌, true, ◌↔◌, take};
 ghost use Rattle.io.specs.Counts.{IsPrefixLen};
 ghost use Rattle.table.specs.Meaning.{limit, form, meaning};
@@ -9,7 +11,7 @@ use table::{Answer, LIMIT};
 pub mod files; // the same of files that the program's arguments name
 
 // Where done, the form is the first `len` of `bytes`, which is no longer than a table can be.
-#[derive(Drop)]
+#[derive(Clone, Copy)]
 pub struct Form {
     pub answer: Answer,
     pub len: usize,
@@ -30,7 +32,7 @@ pub fn form_of(t: &[u8]) -> Form
 }
 
 // What the rewriter answers to each of two tables; where both are done, whether they say the same.
-#[derive(Drop)]
+#[derive(Clone, Copy)]
 pub struct Compared {
     pub first: Answer,
     pub second: Answer,

@@ -1,4 +1,6 @@
 // The checksum of the form. Where the driver signature is most of it, its bytes are not gone over again: the reader has its sum.
+#![tactic(auto)]
+
 ghost use Rattle.std.specs.Prelude.{◌≡◌, ◌+◌, ◌%◌, ◌<◌, ◌≤◌, [], ◌∷◌, length, take};
 ghost use Rattle.table.specs.Bytes.{part, splice, total, checksum};
 ghost use Rattle.reader.specs.Accepted.{Accepted};

@@ -1,5 +1,7 @@
 // The lists of the accepted table `t` laid anew in `out`, one behind the other from `place` on; what they name is laid from `next` on, where the heap
 // goes on.
+#![tactic(auto)]
+
 ghost use Rattle.std.specs.Prelude.{◌≡◌, ◌+◌, ◌*◌, ◌≤◌, length};
 ghost use Rattle.table.specs.Layout.{base_of};
 ghost use Rattle.table.specs.FixedLayouts.{layout_of};

@@ -1,5 +1,7 @@
 // What the references of a record name, laid anew where the heap goes on, and the references in the record laid. Those to objects come first; behind
 // them stands that to a heap record, if the kind has one.
+#![tactic(auto)]
+
 ghost use Rattle.std.specs.Prelude.{◌≡◌, true, [], ◌+◌, ◌≤◌, length};
 ghost use Rattle.table.specs.Bytes.{splice};
 ghost use Rattle.table.specs.Layout.{base_of};

@@ -1,4 +1,6 @@
 // What a table says, for people and as JSON. Both go by the rows of show_table.
+#![tactic(auto)]
+
 pub mod bytes; // bytes of any number, printed
 pub mod cells; // the value of a row, for people
 pub mod json; // JSON

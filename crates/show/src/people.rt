@@ -23,7 +23,7 @@ const CELLS: u8 = 2;
 const MOST_COLUMNS: usize = 16;
 
 // The widths of columns, each at the place of its number.
-#[derive(Drop)]
+#[derive(Clone, Copy)]
 pub struct Widths {
     pub at: [usize; MOST_COLUMNS],
 }

@@ -1,4 +1,6 @@
 // What is shown of a table, row by row: what is read, how it is printed, and where people see it. The definitions have the same rows with their keys.
+#![tactic(auto)]
+
 pub mod forms; // the ways of printing
 pub mod names; // the rows' keys and titles
 
@@ -15,7 +17,7 @@ use table::{Control, Discovery, Header, Hfi, Host, Security, Ssns};
 
 // Kind and offset of what is read, the way it is printed, the weight of a bit (or the kind of a list's records), the offset of another field, and
 // where people see it.
-#[derive(Drop)]
+#[derive(Clone, Copy)]
 pub struct Row {
     pub kind: u8,
     pub off: usize,

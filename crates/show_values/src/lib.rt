@@ -1,4 +1,6 @@
 // What is printed of a field, as a text: by the way of printing, the weight of a bit, and the sixteen bytes of the field and of another one.
+#![tactic(auto)]
+
 pub mod choices; // words for numbers, and values that hang on another field
 pub mod kinds; // how a value stands in JSON
 

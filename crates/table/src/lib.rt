@@ -1,4 +1,6 @@
 // The record kinds of the boot table as data: sizes and designators; and the types that definitions and code share.
+#![tactic(auto)]
+
 ghost use Rattle.std.specs.Prelude.{◌≡◌};
 ghost use Rattle.table.specs.Rules.{answer};
 ghost use Rattle.table.specs.Rules as rules;
@@ -22,7 +24,7 @@ pub const FRONT: usize = Header::SIZE + Control::SIZE;
 pub const SHORTEST: usize = FRONT + Host::SIZE;
 
 // What every call answers: a number of Rules 4.2 (docs/RULES.md), and the kind and position of the record at fault.
-#[derive(Drop)]
+#[derive(Clone, Copy)]
 pub struct Answer {
     pub number: u8,
     pub kind: u8,
@@ -48,28 +50,28 @@ pub fn refuse(number: u8, kind: u8, position: usize) -> Answer
 }
 
 // What the rules of a record find: a number of Rules 4.2 or 0, and how many looks at records it took to say so.
-#[derive(Drop)]
+#[derive(Clone, Copy)]
 pub struct Found {
     pub number: u8,
     pub looks: usize,
 }
 
 // The same of whole lists, and of a table: an answer, and its looks.
-#[derive(Drop)]
+#[derive(Clone, Copy)]
 pub struct Looked {
     pub answer: Answer,
     pub looks: usize,
 }
 
 // Some bytes: where they start and how many they are.
-#[derive(Drop)]
+#[derive(Clone, Copy)]
 pub struct Region {
     pub at: usize,
     pub len: usize,
 }
 
 // Whether a reference counts.
-#[derive(Drop)]
+#[derive(Clone, Copy)]
 pub enum Need {
     Ignored,
     Optional,
@@ -77,14 +79,14 @@ pub enum Need {
 }
 
 // Where the references of a record stand, by ascending offset: the first `count` of `at`.
-#[derive(Drop)]
+#[derive(Clone, Copy)]
 pub struct Offsets {
     pub at: [usize; 6],
     pub count: usize,
 }
 
 // What a read of a record gives: its image, references as zero, filled up to 128 bytes.
-#[derive(Drop)]
+#[derive(Clone, Copy)]
 pub struct Image {
     pub answer: Answer,
     pub used: bool,
@@ -93,7 +95,7 @@ pub struct Image {
 }
 
 // What a read of a field gives: its bytes in table order, filled up to 16.
-#[derive(Drop)]
+#[derive(Clone, Copy)]
 pub struct Field {
     pub answer: Answer,
     pub used: bool,
@@ -102,7 +104,7 @@ pub struct Field {
 }
 
 // Where the object of a reference stands in the caller's bytes.
-#[derive(Drop)]
+#[derive(Clone, Copy)]
 pub struct Place {
     pub answer: Answer,
     pub present: bool,
@@ -111,7 +113,7 @@ pub struct Place {
 }
 
 // What a rewrite answers: the number of bytes of the one form, 0 where refused.
-#[derive(Drop)]
+#[derive(Clone, Copy)]
 pub struct Rewritten {
     pub answer: Answer,
     pub len: usize,
@@ -119,7 +121,7 @@ pub struct Rewritten {
 
 // How far a build has come. Turn 0 is the empty state (all fields zero), 2 to 6 wait for a record of that kind, 7 for finish, 8 is finished. `minor` is the
 // header minor that the records told so far ask for.
-#[derive(Drop)]
+#[derive(Clone, Copy)]
 pub struct State {
     pub turn: u16,
     pub position: u16,
@@ -132,7 +134,7 @@ pub struct State {
 }
 
 // What a builder call hands back.
-#[derive(Drop)]
+#[derive(Clone, Copy)]
 pub struct Step {
     pub answer: Answer,
     pub state: State,

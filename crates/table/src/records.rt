@@ -2,7 +2,7 @@
 // A record is held by its bytes in table layout, so that a caller's bytes can be taken as they are.
 
 // The table's first bytes. It has no ID of its own; reads ask for it by kind 0.
-#[derive(Drop)]
+#[derive(Clone, Copy)]
 pub struct Header {
     pub bytes: [u8; Header::SIZE],
 }
@@ -14,7 +14,7 @@ impl Header {
 }
 
 // It stands behind the header. Its offsets are the table's, so that it is read from the table's first byte on.
-#[derive(Drop)]
+#[derive(Clone, Copy)]
 pub struct Control {
     pub bytes: [u8; Control::SIZE],
 }
@@ -46,7 +46,7 @@ impl Control {
     pub const DISCOVERY_COUNT: usize = 111;
 }
 
-#[derive(Drop)]
+#[derive(Clone, Copy)]
 pub struct Host {
     pub bytes: [u8; Host::SIZE],
 }
@@ -57,7 +57,7 @@ impl Host {
     pub const ID: u8 = 2;
 }
 
-#[derive(Drop)]
+#[derive(Clone, Copy)]
 pub struct Hfi {
     pub bytes: [u8; Hfi::SIZE],
 }
@@ -68,7 +68,7 @@ impl Hfi {
     pub const ID: u8 = 3;
 }
 
-#[derive(Drop)]
+#[derive(Clone, Copy)]
 pub struct Ssns {
     pub bytes: [u8; Ssns::SIZE],
 }
@@ -79,7 +79,7 @@ impl Ssns {
     pub const ID: u8 = 4;
 }
 
-#[derive(Drop)]
+#[derive(Clone, Copy)]
 pub struct Security {
     pub bytes: [u8; Security::SIZE],
 }
@@ -90,7 +90,7 @@ impl Security {
     pub const ID: u8 = 5;
 }
 
-#[derive(Drop)]
+#[derive(Clone, Copy)]
 pub struct Discovery {
     pub bytes: [u8; Discovery::SIZE],
 }
@@ -102,7 +102,7 @@ impl Discovery {
 }
 
 // HFI transport info, in the heap.
-#[derive(Drop)]
+#[derive(Clone, Copy)]
 pub struct Info {
     pub bytes: [u8; Info::SIZE],
 }
@@ -114,7 +114,7 @@ impl Info {
 }
 
 // SSNS extended info, in the heap.
-#[derive(Drop)]
+#[derive(Clone, Copy)]
 pub struct Extended {
     pub bytes: [u8; Extended::SIZE],
 }
@@ -126,7 +126,7 @@ impl Extended {
 }
 
 // HFI extended info (DHCP identity), in the heap, named by an info of version 2.
-#[derive(Drop)]
+#[derive(Clone, Copy)]
 pub struct HfiExtended {
     pub bytes: [u8; HfiExtended::SIZE],
 }

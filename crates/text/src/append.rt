@@ -3,7 +3,7 @@ ghost use Rattle.std.specs.Prelude.{◌≡◌, [], ◌∷◌, ◌++◌, ◌+◌,
 ghost use Rattle.io.specs.Counts.{IsPrefixLen};
 
 // The first `len` of `bytes`. The longest text is a line on a fault: 114 bytes.
-#[derive(Drop)]
+#[derive(Clone, Copy)]
 pub struct Text {
     pub len: usize,
     pub bytes: [u8; 128],

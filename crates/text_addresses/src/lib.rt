@@ -1,5 +1,7 @@
 // Internet addresses of 16 bytes: a dotted quad where IPv4 is mapped, and else what the C library's inet_ntop prints,
 // as other tools do. That is RFC 5952 but for one case: behind just six zero groups the last two are a dotted quad.
+#![tactic(auto)]
+
 ghost use Rattle.std.specs.Prelude.{◌≡◌, ◌++◌, ◌+◌, ◌*◌, ◌≤◌, ◌<◌, length, take, drop, get_or};
 ghost use Rattle.io.specs.Counts.{IsPrefixLen};
 ghost use Rattle.text.specs.Ascii.{ascii};
@@ -14,7 +16,7 @@ use text_hex::with_unpadded;
 
 // The zero groups in a part of an address: how many come first, and where the longest run starts and how
 // many it has.
-#[derive(Drop)]
+#[derive(Clone, Copy)]
 pub struct Runs {
     pub first: usize,
     pub at: usize,

@@ -1,4 +1,6 @@
 // Bytes in hexadecimal, the address of a network interface, and a function of a device.
+#![tactic(auto)]
+
 pub mod escaping; // bytes of unknown meaning
 pub mod rows; // rows of bytes, and UUIDs
 

@@ -1,4 +1,6 @@
 // What every tool does: read a file whole, write one whole or not at all, print texts, and say what a check answers.
+#![tactic(auto)]
+
 pub mod writing; // a file written
 
 ghost use Rattle.std.specs.Prelude.{◌≡◌, take};
@@ -15,7 +17,7 @@ pub use writing::{put_name, write_file};
 pub const MOST: usize = 70000;
 
 // What stands in front of the file's bytes, and whether they are all of it.
-#[derive(Drop)]
+#[derive(Clone, Copy)]
 pub struct Got {
     pub whole: bool,
     pub len: usize,
