@@ -1,0 +1,9 @@
+use mathlib.Core.Path.{refl}
+use native.Mathlib.Omega.{arith}
+use Rattle.builder_hfi.proofs.Laws.{version-is}
+use borrow.Author.Rules.{rules}
+use Rattle.builder_hfi.proofs.is_newer.Goals as goal
+
+pub returns : goal.returns
+returns c =
+    rw (version-is c.args.info.now (λ i. omega (arith, c.type_inv.info i))) refl

@@ -1,0 +1,13 @@
+use mathlib.Core.Path.{ap, ◌∙◌}
+use lib.ListN.{length}
+use Rattle.table.specs.Layout.{text}
+use Rattle.builder_told.specs.Faults.{fault_under}
+use Rattle.builder_told.proofs.Laws.{fault-told}
+use borrow.Author.Rules.{rules}
+use Rattle.builder_told.proofs.objects.fits_text.Goals as goal
+
+pub returns : goal.returns
+returns c =
+    let object = c.args.object.now in
+    let need = c.args.need in
+    c.fault_under.ensures ∙ ap (fault_under need (length object)) c.text_fault.ensures ∙ fault-told need text object

@@ -1,0 +1,24 @@
+use mathlib.Core.List.{List}
+use Prim.Native.Nat.{ℕ, ◌+◌, ◌-◌, ◌*◌, ◌/◌, ◌%◌, ◌≤◌}
+use native.Mathlib.Omega.{arith}
+use Rattle.bytes_bits.proofs.Laws.{bits-then}
+use borrow.Author.Rules.{rules}
+use Rattle.bytes_bits.proofs.mark_all.Reads as reads
+use Rattle.bytes_bits.proofs.mark_bytes.Reads as mark-bytes-reads
+use Rattle.bytes_bits.proofs.mark_each.Reads as mark-each-reads
+use Rattle.bytes_bits.proofs.mark_all.Goals as goal
+
+pub mark_bytes-requires : goal.mark_bytes-requires
+mark_bytes-requires c = (search rules, λ i. omega (arith, c.type_inv.map i))
+
+pub returns : goal.returns
+returns c =
+    let m : List ℕ = c.args.map.now in
+    let a : ℕ = c.args.a in
+    let n : ℕ = c.args.n in
+    let x : ℕ = (8 - a % 8) % 8 in
+    let y : ℕ = 8 * ((n - x) / 8) in
+    let h : 8 ≤ n = omega (arith, c.if-n-lt8.false) in
+    bits-then m a (x + y) (a + x + y) ((n - x) % 8) n (omega arith) (omega arith)
+    (bits-then m a x (8 * ((a + x) / 8)) y (x + y) (omega arith) (omega arith) c.mark_each-2.ensures c.mark_bytes.ensures)
+    c.mark_each-3.ensures

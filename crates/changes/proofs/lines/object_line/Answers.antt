@@ -1,0 +1,13 @@
+use borrow.Author.Rules.{rules}
+use Rattle.text.specs.Numerals.{numeral}
+use Rattle.changes.specs.Changes.{text_of}
+use Rattle.changes.proofs.LineLaws.{object-columns}
+use Rattle.changes.proofs.lines.object_line.Goals as goal
+
+pub returns : goal.returns
+unfolding text_of
+returns c =
+    let a = c.args in (
+      c.with_column-2.ensures.1,
+      cc (object-columns (numeral a.kind) (numeral a.position) (numeral a.offset) (numeral a.one) (numeral a.other) (numeral a.at)),
+    )

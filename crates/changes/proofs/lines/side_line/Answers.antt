@@ -1,0 +1,9 @@
+use borrow.Author.Rules.{rules}
+use Rattle.text.specs.Numerals.{numeral}
+use Rattle.changes.proofs.LineLaws.{side-columns}
+use Rattle.changes.proofs.lines.side_line.Goals as goal
+
+pub returns : goal.returns
+returns c =
+    let a = c.args in
+    (c.with_column.ensures.1, cc (side-columns (numeral a.kind) (numeral a.position) a.word.now (numeral a.side)))

@@ -1,0 +1,20 @@
+use mathlib.Core.Path.{◌≡◌, sym, ◌∙◌}
+use Rattle.changes_records.proofs.TextLaws.{like-text, one-outcome, unlike-text}
+use Rattle.table.proofs.Rules.{picks}
+use borrow.Author.Rules.{rules}
+use Rattle.changes_records.proofs.records.field_text.Reads as reads
+use Rattle.changes.proofs.lines.field_line.Reads as field-line-reads
+use Rattle.check.proofs.same.Reads as same__reads
+use Rattle.text.proofs.append.empty.Reads as empty-reads
+use Rattle.changes_records.proofs.records.field_text.Goals as goal
+
+pub returns-then-same : goal.returns-then-same
+returns-then-same c =
+    let a = c.args in
+    let e : a.one.now ≡ a.other.now = c.same.ensures.0 c.if-same.true in
+    (c.empty.ensures.1, c.empty.ensures.2 ∙ sym (like-text a.one.now a.other.now _ e))
+
+pub returns : goal.returns
+returns c =
+    let a = c.args in
+    (c.field_line.ensures.0, c.field_line.ensures.1 ∙ sym (unlike-text a.one.now a.other.now _ (λ e. one-outcome (c.same.ensures.1 e) c.if-same.false)))

@@ -1,0 +1,23 @@
+use mathlib.Core.Path.{◌≡◌, refl, sym, ap, ◌∙◌}
+use mathlib.Core.List.{◌++◌, append-nil}
+use Prim.Native.Nat.{ℕ, ◌+◌, ◌-◌, ◌*◌, ◌≤◌, ◌<◌}
+use native.Mathlib.Omega.{arith}
+use lib.ListN.{length, take}
+use Rattle.table.specs.FixedLayouts.{layout_of}
+use Rattle.changes.specs.Changes.{each, offset_lines, texts_of}
+use Rattle.changes_records.specs.Told.{plain_lines}
+use Rattle.changes_records.proofs.TextLaws.{base-most, grown}
+use Rattle.table.proofs.Rules.{picks}
+use Rattle.changes_records.proofs.records.image_lines.Reads as reads
+use Rattle.changes_records.proofs.records.offset_text.Reads as offset-text-reads
+use Rattle.changes_records.proofs.records.put_text.Reads as put-text-reads
+use Rattle.changes_records.proofs.records.image_lines.Given as goal
+
+abbrev pub invariant-loop-offset : goal.invariant-loop-offset
+invariant-loop-offset l =
+    (l.offset ≤ length l.one) × (l.from ≤ l.at) × (l.at ≤ l.from + 128 * l.offset)
+    × (take l.at l.out ≡ take l.from l.initial.out ++ texts_of (each (offset_lines l.kind l.position (layout_of l.kind).shape.fields l.one l.other (plain_lines l.t l.u l.kind l.position)) 0 l.offset))
+    × (length l.out ≡ length l.initial.out)
+
+abbrev pub decreases-loop-offset : goal.decreases-loop-offset
+decreases-loop-offset l = length l.one - l.offset

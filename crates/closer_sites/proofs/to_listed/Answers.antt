@@ -1,0 +1,32 @@
+use mathlib.Core.Path.{◌≡◌, sym, ap, ◌∙◌}
+use native.Mathlib.Omega.{arith}
+use Prim.Native.Nat.{ℕ, ◌+◌, ◌*◌}
+use Rattle.closer_sites.specs.Walk.{walk}
+use Rattle.closer_sites.proofs.Laws.{list-in, list-to, seat_walk}
+use Rattle.table.proofs.Rules.{picks}
+use borrow.Author.Rules.{rules}
+use Rattle.closer_sites.proofs.to_listed.Reads as reads
+use Rattle.bytes_wire.proofs.wide.Reads as wide-reads
+use Rattle.closer_sites.proofs.first_of.Reads as first-of-reads
+use Rattle.closer_sites.proofs.walk_of.Reads as walk_of-reads
+use Rattle.reads_seats.proofs.seats.list_seat.Reads as list-seat-reads
+use Rattle.closer_sites.proofs.to_listed.Goals as goal
+
+pub list_seat-seat-requires : goal.list_seat-seat-requires
+list_seat-seat-requires c =
+    let w = c.args.w in
+    let t = c.args.t.now in
+    let e : 56 + 8 * c.wide.result ≡ 56 + 8 * w.list = omega (arith, c.wide.ensures.0) in
+    (omega (arith, c.requires.1), omega (arith, c.requires.2), omega (arith, c.requires.0.lent, c.requires.2, e), rw e (list-in t c.requires.0 w.list c.requires.1 c.requires.2))
+
+pub returns-in-Nowhere : goal.returns-in-Nowhere
+returns-in-Nowhere c =
+    let h = rw c.wide.ensures.0 at c.list_seat-seat.ensures.0 in
+    c.walk_of.ensures ∙ ap (seat_walk c.args.w) (sym c.in-Nowhere.is) ∙ list-to c.args.t.now c.args.w c.list_seat-seat.result h
+
+pub returns-in-At : goal.returns-in-At
+returns-in-At c =
+    c.walk_of-in-At.ensures
+    ∙ ap (walk c.args.w.list (c.args.w.position + 1) c.args.w.list c.in-At.at) c.first_of.ensures
+    ∙ ap (seat_walk c.args.w) (sym c.in-At.is)
+    ∙ list-to c.args.t.now c.args.w c.list_seat-seat.result (rw c.wide.ensures.0 at c.list_seat-seat.ensures.0)

@@ -1,0 +1,15 @@
+use Rattle.closer_sites.specs.Walk.{record_of}
+use Rattle.table.proofs.Rules.{picks}
+use borrow.Author.Rules.{rules}
+use Rattle.closer_sites.proofs.to_record.Reads as reads
+use Rattle.closer_sites.proofs.to_host.Reads as to-host-reads
+use Rattle.closer_sites.proofs.to_listed.Reads as to-listed-reads
+use Rattle.closer_sites.proofs.to_record.Goals as goal
+
+pub returns-then-w-eq-ID : goal.returns-then-w-eq-ID
+unfolding record_of
+returns-then-w-eq-ID c = rw c.if-w-eq-ID.true c.to_host.ensures
+
+pub returns : goal.returns
+unfolding record_of
+returns c = search picks

@@ -1,0 +1,97 @@
+use mathlib.Core.Path.{◌≡◌, refl, ap, ◌∙◌}
+use mathlib.Core.List.{List}
+use Prim.Native.Nat.{ℕ, ◌+◌, ◌-◌, ◌≤◌, ◌<◌}
+use native.Mathlib.Omega.{arith}
+use lib.ListN.{length}
+use Rattle.laws.specs.Fields.{Bytes}
+use Rattle.reader.proofs.AcceptedLaws.{laid}
+use Rattle.closer_sites.specs.declared.Walk.{Walk}
+use Rattle.closer_sites.specs.declared.Named.{Named}
+use Rattle.closer_sites.specs.Walk.{Walkable, step_of}
+use Rattle.closer_sites.specs.Going.{left}
+use Rattle.table.specs.Bytes.{num}
+use Rattle.table.specs.Numbers.{heap_in}
+use Rattle.reader_frame.specs.Bounds.{LaidOut}
+use Rattle.closer_stores.proofs.TurnLaws.{Turn, put, turn_end, turn-first, turn-found, turn-length, turn-less, turn-next, turn-open, turn_step}
+use Rattle.table.proofs.Rules.{picks}
+use Rattle.closer_stores.proofs.store_sites.Goals.{After-slice_known-1, In-loop-w}
+use Rattle.closer_stores.proofs.store_sites.Goals as goal
+
+pub u32_at-start-requires : goal.u32_at-start-requires
+u32_at-start-requires c =
+    omega (arith, (laid c.args.t.now c.requires.0).lent)
+
+bytes : (c : After-slice_known-1) → Bytes c.args.t.now
+bytes c i = omega (arith, c.type_inv.t i)
+
+pub loop-w-init : goal.loop-w-init
+loop-w-init c =
+    (rw c.first-w.ensures (turn-first c.args.t.now c.requires.0 (bytes (goal.at.loop-w-init c).After-slice_known-1) c.requires.1), refl)
+
+-- a turn that has not come to the end
+module _ (c : In-loop-w) where
+  abbrev known : tie.After-slice-known invariant-loop decreases-loop
+  known = c
+
+  abbrev T₀ : List ℕ
+  T₀ = known.before.args.t.now
+
+  abbrev U : List ℕ
+  U = c.loop-w.t
+
+  abbrev W : Walk
+  W = c.loop-w.w
+
+  turn : Turn T₀ U W
+  turn = c.loop-w.invariant.0
+
+  open-still : W.list < 7
+  open-still = turn-open T₀ known.before.pre.0 (bytes known) known.before.pre.1 U W turn c.loop-w-test.true
+
+  steps : LaidOut U × Walkable (length U) W
+  steps = turn_step T₀ known.before.pre.0 (bytes known) known.before.pre.1 U W turn open-still
+
+  less : left (step_of U W).walk < left W
+  less = turn-less T₀ known.before.pre.0 (bytes known) known.before.pre.1 U W turn open-still
+
+  wanted : let y = (step_of U W).named in
+      0 < y.len → (num T₀ 36 4 ≤ y.off) × (y.off - num T₀ 36 4 ≤ (heap_in T₀).len) × (y.off < 4294967296) × (y.at + 4 ≤ length U)
+  wanted = turn-found T₀ known.before.pre.0 (bytes known) known.before.pre.1 U W turn open-still
+
+  next : (v : List ℕ) → v ≡ put U known.before.args.map.now (num T₀ 36 4) (step_of U W).named → Turn T₀ v (step_of U W).walk
+  next =
+      let p = known.before.pre in
+      turn-next T₀ p.0 (bytes known) p.1 U W turn open-still known.before.args.map.now p.2 p.3
+
+pub step-s-requires : goal.step-s-requires
+step-s-requires c =
+    let x = steps c in
+    (x.0, x.1, open-still c)
+
+pub store_found-requires : goal.store_found-requires
+store_found-requires c =
+    let e : c.step-s.result ≡ step_of (U c) (W c) = c.step-s.ensures.0 in
+    let z = c.u32_at-start.ensures.0 in
+    rw e (λ h. let x = wanted c h in (omega (arith, x.0, z), omega (arith, x.1, z, (known c).before.requires.2), x.2, x.3))
+
+pub loop-w-smaller : goal.loop-w-smaller
+loop-w-smaller c =
+    rw c.step-s.ensures.0 (less c)
+
+pub loop-w-preserved : goal.loop-w-preserved
+loop-w-preserved c =
+    let n : List ℕ = c.Store-found.new.0 in
+    let m : List ℕ = (known c).before.args.map.now in
+    let e : c.step-s.result ≡ step_of (U c) (W c) = c.step-s.ensures.0 in
+    let y : Named = (step_of (U c) (W c)).named in
+    let r = c.u32_at-start in
+    let v : n ≡ put (U c) m r.result y = rw e at c.Store-found.ensures in
+    let x : Turn (T₀ c) n c.step-s.result.walk = rw e (next c n (v ∙ ap (λ (k : ℕ). put (U c) m k y) r.ensures.0)) in
+    let p = (known c).before.requires in
+    (x, turn-length (T₀ c) p.0 (bytes (known c)) p.1 n c.step-s.result.walk x)
+
+pub returns : goal.returns
+returns c =
+    let l = c.loop-w in
+    let p = c.requires in
+    turn_end c.args.t.now p.0 (bytes (goal.at.returns c).After-slice_known-1) p.1 l.t l.w l.invariant.0 c.loop-w-test.false

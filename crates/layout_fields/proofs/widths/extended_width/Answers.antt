@@ -1,0 +1,32 @@
+use Rattle.table.specs.FixedLayouts.{extended}
+use mathlib.Core.Path.{refl}
+use Rattle.table.proofs.Rules.{picks}
+use Rattle.layout_fields.proofs.widths.extended_width.Goals as goal
+
+pub returns-in-0 : goal.returns-in-0
+unfolding extended
+returns-in-0 c = rw c.in-0.is refl
+
+pub returns-in-1 : goal.returns-in-1
+unfolding extended
+returns-in-1 c = rw c.in-1.is refl
+
+pub returns-in-2 : goal.returns-in-2
+unfolding extended
+returns-in-2 c = rw c.in-2.is refl
+
+pub returns-in-4 : goal.returns-in-4
+unfolding extended
+returns-in-4 c = rw c.in-4.is refl
+
+pub returns-in-8 : goal.returns-in-8
+unfolding extended
+returns-in-8 c = rw c.in-8.is refl
+
+pub returns-in-10 : goal.returns-in-10
+unfolding extended
+returns-in-10 c = rw c.in-10.is refl
+
+pub returns-in_default : goal.returns-in_default
+unfolding extended
+returns-in_default c = search picks

@@ -1,0 +1,9 @@
+use native.Mathlib.Omega.{arith}
+use Rattle.layout_flags.proofs.Laws.{security-flags}
+use borrow.Author.Rules.{rules}
+use Rattle.layout_flags.proofs.security_flags.Goals as goal
+
+pub returns : goal.returns
+returns c =
+    rw (security-flags c.args.t.now c.args.a
+    (λ i. omega (arith, c.type_inv.t i))) (cc)

@@ -1,0 +1,28 @@
+use Rattle.nbft.proofs.BuildLaws.{begin-placed}
+use Rattle.c_states.proofs.StateLaws.{shown}
+use Rattle.table.specs.declared.State.{State}
+use Rattle.builder_begin.specs.Begins.{begin_with}
+use mathlib.Core.List.{List, [], ◌∷◌}
+use mathlib.Core.Path.{ap, ◌∙◌}
+use Prim.Native.Nat.{ℕ}
+use borrow.Author.Rules.{rules}
+use Rattle.nbft.proofs.building.nbft_begin.Goals as goal
+
+pub show-requires : goal.show-requires
+show-requires c =
+    let a = c.args in
+    let c4 = c.Counts-of.result in
+    rw c.begin-step.ensures.0 (begin-placed c.state_of.result a.out.now
+    a.header.now (c4.hfi ∷ c4.ssns ∷ c4.security ∷ c4.discovery ∷ []) a.signature.now)
+
+pub returns : goal.returns
+returns c =
+    let a = c.args in
+    shown (λ (s : State). begin_with s a.out.now a.header.now a.counts.now a.signature.now)
+    c.state_of.result a.state.now _ _ c.begin-step.result _ c.state_of.ensures.0
+    (c.begin-step.ensures.0
+    ∙
+    ap (λ (cs : List ℕ). (begin_with c.state_of.result a.out.now a.header.now cs a.signature.now).step)
+    c.Counts-of.ensures) (c.begin-step.ensures.1
+    ∙ ap (λ (cs : List ℕ). (begin_with c.state_of.result a.out.now a.header.now cs
+    a.signature.now).buffer) c.Counts-of.ensures) c.show.ensures.0 c.show.ensures.1

@@ -1,0 +1,19 @@
+use Rattle.builder_record.specs.Calls.{tell_host}
+use Rattle.nbft.proofs.BuildLaws.{host-placed}
+use Rattle.c_states.proofs.StateLaws.{shown}
+use Rattle.table.specs.declared.State.{State}
+use borrow.Author.Rules.{rules}
+use Rattle.nbft.proofs.building.nbft_host.Goals as goal
+
+pub show-requires : goal.show-requires
+show-requires c =
+    let a = c.args in
+    rw c.host-step.ensures.0
+    (host-placed c.state_of.result c.state_of.ensures.1 a.out.now a.told.now a.nqn.now)
+
+pub returns : goal.returns
+returns c =
+    let a = c.args in
+    shown (λ (s : State). tell_host s a.out.now a.told.now a.nqn.now) c.state_of.result
+    a.state.now _ _ c.host-step.result _ c.state_of.ensures.0 c.host-step.ensures.0
+    c.host-step.ensures.1 c.show.ensures.0 c.show.ensures.1

@@ -1,0 +1,8 @@
+use Rattle.reader_frame.specs.Tests.{wrong_versions}
+use Rattle.table.proofs.Rules.{picks}
+use borrow.Author.Rules.{rules}
+use Rattle.reader_frame.proofs.wrong_versions.Goals as goal
+
+pub returns : goal.returns
+unfolding wrong_versions
+returns c = search picks

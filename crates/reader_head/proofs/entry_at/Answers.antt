@@ -1,0 +1,6 @@
+use Rattle.table.proofs.Rules.{picks}
+use borrow.Author.Rules.{rules}
+use Rattle.reader_head.proofs.entry_at.Goals as goal
+
+pub returns : goal.returns
+returns c = (cc, record { at = search picks; step = search picks; count = search picks })

@@ -1,0 +1,18 @@
+use Rattle.reader_heap_records.specs.HeapRecords.{own_fault, own_faults}
+use Rattle.laws.specs.ListWalk.{refs-within}
+use Rattle.laws.specs.RefWalk.{first_over, lists_at_lem, over-stop, over-more, over_none}
+use Rattle.table.specs.FixedLayouts.{layout_of}
+use Rattle.table.specs.Layout.{offsets}
+use Prim.Native.Nat.{ℕ, ◌≤◌, ◌<◌, ◌-◌}
+use native.Mathlib.Omega.{arith}
+use lib.ListN.{length, drop}
+use mathlib.Core.Path.{◌≡◌, refl, ◌∙◌}
+use Rattle.table.proofs.Rules.{picks}
+use Rattle.reader_heap_records.proofs.own_fault.Given as goal
+
+abbrev pub invariant-loop-i : goal.invariant-loop-i
+invariant-loop-i l =
+    (l.i ≤ l.count) × (first_over (own_fault l.kind l.heap l.from l.x) (drop l.i (offsets (layout_of l.kind).refs)) ≡ first_over (own_fault l.kind l.heap l.from l.x) (offsets (layout_of l.kind).refs))
+
+abbrev pub decreases-loop-i : goal.decreases-loop-i
+decreases-loop-i l = l.count - l.i

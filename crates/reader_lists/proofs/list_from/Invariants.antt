@@ -1,0 +1,22 @@
+use mathlib.Core.Path.{◌≡◌, sym, ap, ◌∙◌}
+use Prim.Native.Nat.{ℕ, ◌≤◌, ◌-◌, ◌+◌, ◌*◌}
+use native.Mathlib.Nat.{zero-mul, zero-add, add_comm, add-zero, sub-zero}
+use native.Mathlib.Omega.{arith}
+use lib.ListN.{length}
+use Rattle.table.specs.Layout.{region}
+use Rattle.reader_indexes.proofs.Laws.{stride}
+use Rattle.reader_lists.specs.Lists.{from_looks, list_from, record_fault, record_looks}
+use Rattle.reader_lists.proofs.Laws.{turn-stop, turn_more, turn-none, took-stop, took_more, took-none, next_start}
+use Rattle.table.proofs.Rules.{picks}
+use Rattle.reader_lists.proofs.list_from.Given as goal
+
+abbrev pub invariant-loop-i : goal.invariant-loop-i
+invariant-loop-i l =
+    (l.i ≤ l.count)
+    × (l.base ≡ l.at + l.i * l.step)
+    × (list_from l.kind (region l.from (length l.heap)) l.t l.step (l.i + 1) l.base (l.count - l.i) ≡ list_from l.kind (region l.from (length l.heap)) l.t l.step 1 l.at l.count)
+    × (l.looks + from_looks l.kind (region l.from (length l.heap)) l.t l.step (l.i + 1) l.base (l.count - l.i) ≡ from_looks l.kind (region l.from (length l.heap)) l.t l.step 1 l.at l.count)
+    × (l.looks ≤ l.i * 8589934596)
+
+abbrev pub decreases-loop-i : goal.decreases-loop-i
+decreases-loop-i l = l.count - l.i

@@ -1,0 +1,16 @@
+use Rattle.reader_references.specs.References.{ref_number}
+use Rattle.table.proofs.Rules.{picks}
+use borrow.Author.Rules.{rules}
+use Rattle.reader_references.proofs.optional_number.Goals as goal
+
+pub returns-in-Absent : goal.returns-in-Absent
+unfolding Rattle.reader_references.specs.References.ref_number
+returns-in-Absent c = search picks
+
+pub returns-in-Wrong : goal.returns-in-Wrong
+unfolding Rattle.reader_references.specs.References.ref_number
+returns-in-Wrong c = search picks
+
+pub returns-in-Part : goal.returns-in-Part
+unfolding Rattle.reader_references.specs.References.ref_number
+returns-in-Part c = search picks

@@ -1,0 +1,46 @@
+use mathlib.Core.Path.{refl, sym, ◌∙◌}
+use native.Mathlib.Omega.{arith}
+use lib.ListN.{length}
+use Rattle.table.specs.declared.Need.TheVariants.{Optional}
+use Rattle.table.specs.Layout.{region, reference_at}
+use Rattle.reader_references.specs.declared.Ref.TheVariants.{Absent, Wrong}
+use Rattle.reader_references.specs.References.{ref_number}
+use Rattle.reader_references.proofs.Laws.{Inside, part-inside, ref-absent, ref-wrong, text-nowhere, text-there}
+use borrow.Author.Rules.{rules}
+use Rattle.reader_references.proofs.optional_text.Goals.{In-Part}
+use Rattle.reader_references.proofs.optional_text.Goals as goal
+
+inside : (c : In-Part) → let a = c.args in Inside a.from (length a.heap.now) c.in-Part.at c.in-Part.len
+inside c =
+    let a = c.args in
+    let r = reference_at a.t.now a.r in
+    part-inside a.from (length a.heap.now) r.at r.len _ _ (sym c.ref_at-x.ensures ∙ c.in-Part.is)
+
+pub overflow_sub-at : goal.overflow_sub-at
+overflow_sub-at c = omega (arith, inside (goal.at.overflow_sub-at c).In-Part)
+
+pub text_number-requires : goal.text_number-requires
+text_number-requires c = omega (arith, inside (goal.at.text_number-requires c).In-Part)
+
+pub returns-in-Absent : goal.returns-in-Absent
+unfolding ref_number
+returns-in-Absent c =
+    let a = c.args in
+    let x = reference_at a.t.now a.r in
+    let e = sym c.ref_at-x.ensures ∙ c.in-Absent.is in
+    text-nowhere Optional a.heap.now a.from x Absent (sym e) (ref-absent (region a.from (length a.heap.now)) x.at x.len e)
+
+pub returns-in-Wrong : goal.returns-in-Wrong
+unfolding ref_number
+returns-in-Wrong c =
+    let a = c.args in
+    let x = reference_at a.t.now a.r in
+    let e = sym c.ref_at-x.ensures ∙ c.in-Wrong.is in
+    text-nowhere Optional a.heap.now a.from x Wrong (sym e) (ref-wrong (region a.from (length a.heap.now)) x.at x.len e)
+
+pub returns-in-Part : goal.returns-in-Part
+returns-in-Part c =
+    let a = c.args in
+    let x = c.x-1.given in
+    c.text_number.ensures
+    ∙ text-there Optional a.heap.now a.from (reference_at a.t.now a.r) c.in-Part.at c.in-Part.len (sym c.ref_at-x.ensures ∙ c.in-Part.is) refl

@@ -1,0 +1,57 @@
+use Rattle.reader_references.proofs.Laws.{ref-part, ref-wrong, ref-absent, reached, Inside, part-yes, part_no}
+use Rattle.table.specs.Rules.{reaches}
+use Rattle.table.specs.Layout.{region, reference_at}
+use lib.ListN.{length}
+use Prim.Native.Nat.{◌-◌}
+use mathlib.Core.Bool.{true}
+use mathlib.Core.Path.{◌≡◌, sym, ◌∙◌}
+use native.Mathlib.Nat.{add-sub_cancel_left}
+use native.Mathlib.Omega.{arith}
+use borrow.Author.Rules.{rules}
+use Rattle.reader_references.proofs.part_at.Goals.{In-Part}
+use Rattle.reader_references.proofs.part_at.Goals as goal
+
+there : (c : In-Part) → let s = c.args in let x = reference_at s.t.now s.r in
+    (reaches (region s.from (length s.heap.now)) x.at x.len ≡ true) × (c.in-Part.at ≡ x.at) × (c.in-Part.len ≡ x.len)
+there c =
+    let s = c.args in
+    let x = reference_at s.t.now s.r in
+    ref-part (region s.from (length s.heap.now)) x.at x.len _ _ (sym c.ref_at-x.ensures ∙ c.in-Part.is)
+
+inside : (c : In-Part) → let s = c.args in Inside s.from (length s.heap.now)
+    c.in-Part.at c.in-Part.len
+inside c =
+    let s = c.args in
+    let x = reference_at s.t.now s.r in
+    rw ((there c).1, (there c).2) (reached s.from (length s.heap.now) x.at x.len (there c).0)
+
+pub overflow_sub-start : goal.overflow_sub-start
+overflow_sub-start c = omega (arith, inside (goal.at.overflow_sub-start c).In-Part)
+
+pub overflow_add-end : goal.overflow_add-end
+overflow_add-end c = omega (arith, inside (goal.at.overflow_add-end c).In-Part, c.requires.1)
+
+pub slice_bounds-result-end-in-Part : goal.slice_bounds-result-end-in-Part
+slice_bounds-result-end-in-Part c = omega (arith, inside (goal.at.slice_bounds-result-end-in-Part c).In-Part)
+
+pub returns-in-Absent : goal.returns-in-Absent
+returns-in-Absent c =
+    let s = c.args in
+    let x = reference_at s.t.now s.r in
+    part_no s.heap.now s.from x.at x.len
+    (ref-absent (region s.from (length s.heap.now)) x.at x.len (sym c.ref_at-x.ensures ∙ c.in-Absent.is))
+
+pub returns-in-Wrong : goal.returns-in-Wrong
+returns-in-Wrong c =
+    let s = c.args in
+    let x = reference_at s.t.now s.r in
+    part_no s.heap.now s.from x.at x.len
+    (ref-wrong (region s.from (length s.heap.now)) x.at x.len (sym c.ref_at-x.ensures ∙ c.in-Wrong.is))
+
+pub returns-in-Part : goal.returns-in-Part
+returns-in-Part c =
+    let s = c.args in
+    let x = reference_at s.t.now s.r in
+    let f = there (goal.at.returns-in-Part c).In-Part in
+    rw (add-sub_cancel_left (c.in-Part.at - s.from) c.in-Part.len, f.1, f.2)
+    (part-yes s.heap.now s.from x.at x.len f.0)

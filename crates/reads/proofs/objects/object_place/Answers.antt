@@ -1,0 +1,25 @@
+use Rattle.reads_seats.proofs.ObjectLaws.{accepted}
+use Rattle.table.specs.Reads.{no_place, read_place}
+use Rattle.table.specs.Numbers.{check}
+use Rattle.table.specs.declared.Answer.{Answer}
+use borrow.Author.Tests.{eq-eqb, ne_eqb}
+use mathlib.Core.Path.{sym, ap, ◌∙◌}
+use borrow.Author.Rules.{rules}
+use Rattle.reads.proofs.objects.object_place.Goals as goal
+
+pub returns-then-a-ne0 : goal.returns-then-a-ne0
+unfolding read_place
+returns-then-a-ne0 c =
+    let e = ap (λ (x : Answer). x.number) c.check-a.ensures in
+    rw (ne_eqb (check c.args.t.now).number 0 (λ z. c.if-a-ne0.true (e ∙ z)))
+    (c.no_place.ensures ∙ ap no_place c.check-a.ensures)
+
+pub place_in-requires : goal.place_in-requires
+place_in-requires c = accepted c.args.t.now (sym (ap (λ (x : Answer). x.number) c.check-a.ensures) ∙ c.if-a-ne0.false)
+
+pub returns : goal.returns
+unfolding read_place
+returns c =
+    let e = ap (λ (x : Answer). x.number) c.check-a.ensures in
+    rw (eq-eqb (check c.args.t.now).number 0
+    (sym e ∙ c.if-a-ne0.false)) c.IsPlace-in.ensures

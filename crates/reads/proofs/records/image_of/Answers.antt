@@ -1,0 +1,6 @@
+use mathlib.Core.Path.{refl}
+use borrow.Author.Rules.{rules}
+use Rattle.reads.proofs.records.image_of.Goals as goal
+
+pub returns : goal.returns
+returns c = rw (c.done-answer.ensures, c.base_size-len.ensures, c.image_bytes-bytes.ensures) refl

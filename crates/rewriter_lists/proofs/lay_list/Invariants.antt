@@ -1,0 +1,28 @@
+use Rattle.rewriter_lists.proofs.RunLaws.{one_less, list-turn, list-ended}
+use Rattle.rewriter_objects.specs.Laid.{laid}
+use Rattle.rewriter_sizes.proofs.PartLaws.{size-more, size-done, list_all}
+use Rattle.rewriter_sizes.specs.Parts.{list_of, list_from}
+use Rattle.table.specs.Objects.{size_list, recs_list, heap_list}
+use Rattle.table.specs.FixedLayouts.{layout_of}
+use Rattle.table.specs.Layout.{Entry, base_of}
+use lib.ListN.{length}
+use native.Mathlib.Omega.{arith}
+use native.Mathlib.Nat.{sub-zero}
+use Prim.Native.Nat.{◌+◌, ◌-◌, ◌*◌, ◌≤◌}
+use mathlib.Core.List.{List}
+use mathlib.Core.Path.{◌≡◌, refl, sym, ap, ◌∙◌}
+use Rattle.table.proofs.Rules.{picks}
+use Rattle.rewriter_lists.proofs.lay_list.Given as goal
+
+abbrev pub invariant-loop-position : goal.invariant-loop-position
+invariant-loop-position l =
+    (l.position ≤ l.count)
+    × (l.at + (l.count - l.position) * base_of (layout_of l.kind) ≤ l.cursor)
+    × (l.cursor + size_list (list_from l.t l.kind l.count l.position) ≡ l.next + size_list (list_of l.t l.kind))
+    × (length l.out ≡ length l.initial.out)
+    × (laid l.out l.at (recs_list l.cursor (list_from l.t l.kind l.count l.position)) l.cursor
+    (heap_list l.cursor (list_from l.t l.kind l.count l.position))
+    ≡ laid l.initial.out l.place (recs_list l.next (list_of l.t l.kind)) l.next (heap_list l.next (list_of l.t l.kind)))
+
+abbrev pub decreases-loop-position : goal.decreases-loop-position
+decreases-loop-position l = l.count - l.position

@@ -1,0 +1,18 @@
+use mathlib.Core.Path.{◌≡◌, refl, sym, ap, ◌∙◌}
+use mathlib.Core.Bool.{Bool, true, false, ◌||◌}
+use Prim.Native.Nat.{◌+◌, ◌-◌, ◌≤◌}
+use native.Mathlib.Omega.{arith}
+use Rattle.table.specs.Bytes.{pick}
+use Rattle.table.specs.Objects.{newer_list}
+use Rattle.table.specs.Meaning.{meaning, minor_of}
+use Rattle.rewriter_sizes.specs.Parts.{list_from}
+use Rattle.rewriter_sizes.proofs.MinorLaws.{newer-more, newer-done, minor-is}
+use Rattle.table.proofs.Rules.{picks}
+use Rattle.rewriter_sizes.proofs.minor.form_minor.Given as goal
+
+-- no HFI before asks for it
+abbrev pub invariant-loop-position : goal.invariant-loop-position
+invariant-loop-position l = (l.position ≤ l.count) × (newer_list (list_from l.t 3 l.count l.position) ≡ newer_list (list_from l.t 3 l.count 0))
+
+abbrev pub decreases-loop-position : goal.decreases-loop-position
+decreases-loop-position l = l.count - l.position

@@ -1,0 +1,15 @@
+use Rattle.rewriter_sizes.proofs.PartLaws.{size-more, size-done, list_all}
+use Rattle.rewriter_sizes.specs.Parts.{list_of, list_from}
+use Rattle.table.specs.Objects.{size_list}
+use native.Mathlib.Nat.{zero-add}
+use native.Mathlib.Omega.{arith}
+use Prim.Native.Nat.{◌+◌, ◌-◌, ◌*◌, ◌≤◌}
+use mathlib.Core.Path.{◌≡◌, ap, ◌∙◌}
+use Rattle.table.proofs.Rules.{picks}
+use Rattle.rewriter_sizes.proofs.sizes.list_size.Given as goal
+
+abbrev pub invariant-loop-position : goal.invariant-loop-position
+invariant-loop-position l = (l.position ≤ l.count) × (l.sum + size_list (list_from l.t l.kind l.count l.position) ≡ size_list (list_of l.t l.kind)) × (l.sum ≤ 1200000 * l.position)
+
+abbrev pub decreases-loop-position : goal.decreases-loop-position
+decreases-loop-position l = l.count - l.position

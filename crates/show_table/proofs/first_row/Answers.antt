@@ -1,0 +1,36 @@
+use mathlib.Core.Path.{refl}
+use Rattle.show_table.specs.Shown.{first_of}
+use Rattle.table.proofs.Rules.{picks}
+use Rattle.show_table.proofs.first_row.Goals as goal
+
+pub returns-in-0 : goal.returns-in-0
+unfolding first_of
+returns-in-0 c = rw c.in-0.is refl
+
+pub returns-in-1 : goal.returns-in-1
+unfolding first_of
+returns-in-1 c = rw c.in-1.is refl
+
+pub returns-in-2 : goal.returns-in-2
+unfolding first_of
+returns-in-2 c = rw c.in-2.is refl
+
+pub returns-in-3 : goal.returns-in-3
+unfolding first_of
+returns-in-3 c = rw c.in-3.is refl
+
+pub returns-in-4 : goal.returns-in-4
+unfolding first_of
+returns-in-4 c = rw c.in-4.is refl
+
+pub returns-in-5 : goal.returns-in-5
+unfolding first_of
+returns-in-5 c = rw c.in-5.is refl
+
+pub returns-in-6 : goal.returns-in-6
+unfolding first_of
+returns-in-6 c = rw c.in-6.is refl
+
+pub returns-in_default : goal.returns-in_default
+unfolding first_of
+returns-in_default c = search picks

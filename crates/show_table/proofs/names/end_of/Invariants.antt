@@ -1,0 +1,17 @@
+use mathlib.Core.Path.{◌≡◌, sym, ap, ◌∙◌}
+use mathlib.Core.List.{List, ◌++◌, append-nil}
+use Prim.Native.Nat.{ℕ, ◌+◌, ◌-◌, ◌≤◌}
+use native.Mathlib.Omega.{arith}
+use borrow.Author.Tests.{eq-eqb, ne_eqb}
+use Rattle.show_table.proofs.Laws.{until-bar, until-step, until_end}
+use lib.ListN.{length, take, drop}
+use Rattle.show_table.specs.Names.{until_bar}
+use Rattle.table.proofs.Rules.{picks}
+use Rattle.show_table.proofs.names.end_of.Given as goal
+
+abbrev pub invariant-loop-at : goal.invariant-loop-at
+invariant-loop-at l =
+    (l.from ≤ l.at) × (l.at ≤ length l.names) × (take (l.at - l.from) (drop l.from l.names) ++ until_bar (drop l.at l.names) ≡ until_bar (drop l.from l.names))
+
+abbrev pub decreases-loop-at : goal.decreases-loop-at
+decreases-loop-at l = length l.names - l.at

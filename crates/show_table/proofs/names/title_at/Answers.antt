@@ -1,0 +1,25 @@
+use mathlib.Core.Path.{◌≡◌, ◌∙◌}
+use native.Mathlib.Omega.{arith}
+use lib.ListN.{get_or-eq_default}
+use Rattle.show_table.specs.Names.{name_at}
+use Rattle.show_table.specs.Shown.{Line, lines, line_at, no_line}
+use Rattle.show_table.proofs.Laws.{names-right}
+use Rattle.table.proofs.Rules.{picks}
+use borrow.Author.Rules.{rules}
+use Rattle.show_table.proofs.names.title_at.Goals as goal
+
+pub returns-then-i-ge100 : goal.returns-then-i-ge100
+unfolding lines
+returns-then-i-ge100 c =
+    let e : line_at c.args.i ≡ no_line = get_or-eq_default lines no_line c.if-i-ge100.true in
+    (omega (arith, c.empty.ensures.0), c.empty.ensures.1, rw e c.empty.ensures.2)
+
+pub name_at-requires : goal.name_at-requires
+unfolding lines
+name_at-requires c = (names-right (λ (l : Line). l.title) _ lines tt c.args.i (omega (arith, c.if-i-ge100.false))).1
+
+pub returns : goal.returns
+unfolding lines
+returns c =
+    let right = names-right (λ (l : Line). l.title) _ lines tt c.args.i (omega (arith, c.if-i-ge100.false)) in
+    (c.name_at.ensures.0, c.name_at.ensures.1, c.name_at.ensures.2 ∙ right.0)
