@@ -47,7 +47,6 @@ overflow_add-at c =
     let a = c.args in
     let t = a.t.now in
     let k = a.kind in
-    let ok = c.requires.accepted in
     let l = c.loop-position in
     let n = c.count_of-count.result in
     omega (

@@ -12,9 +12,6 @@ lay_list-ssns_next-requires c =
     let ok = c.requires.accepted in
     let sp = span-parts t (λ i. omega (arith, c.type_inv.t i)) ok in
     let sb = size-body t (λ i. omega (arith, c.type_inv.t i)) ok a.next in
-    let w = c.list_span.ensures.0 in
-    let v = c.list_span-2.ensures.0 in
-    let x = c.list_span-3.ensures.0 in
     (ok, (omega (arith, sp, c.requires.t_bound), omega (arith, sb, c.requires.t_bound)))
 
 pub lay_list-security_next-requires : goal.lay_list-security_next-requires
@@ -25,8 +22,6 @@ lay_list-security_next-requires c =
     let sp = span-parts t (λ i. omega (arith, c.type_inv.t i)) ok in
     let sb = size-body t (λ i. omega (arith, c.type_inv.t i)) ok a.next in
     let w = c.list_span.ensures.0 in
-    let v = c.list_span-2.ensures.0 in
-    let x = c.list_span-3.ensures.0 in
     let p = c.lay_list-ssns_next in
     (ok, (omega (arith, sp, c.requires.t_bound, w, p.ensures.0), omega (arith, sb, c.requires.t_bound, p.ensures.0, p.auto.out)))
 
@@ -39,7 +34,6 @@ lay_list-discovery_next-requires c =
     let sb = size-body t (λ i. omega (arith, c.type_inv.t i)) ok a.next in
     let w = c.list_span.ensures.0 in
     let v = c.list_span-2.ensures.0 in
-    let x = c.list_span-3.ensures.0 in
     let p = c.lay_list-ssns_next in
     let q = c.lay_list-security_next in (
       ok,
