@@ -4,7 +4,7 @@
 mod reason; // why a call failed, in words
 pub mod writing; // a file written
 
-ghost use Rattle.std.specs.Prelude.{◌≡◌, take};
+ghost use Rattle.std.specs.Prelude.{◌≡◌, IfSome, take};
 ghost use Rattle.io.specs.Counts.{IsPrefixLen};
 ghost use Rattle.text.specs.Numerals.{numbers_line};
 ghost use Rattle.text_answers.specs.Words.{fault_line};
@@ -18,9 +18,9 @@ use text::Text;
 pub use writing::{put_name, write_file};
 
 // Standard output and standard error.
-const OUT: i32 = 1;
+const STDOUT_FILENO: i32 = 1;
 
-const ERR: i32 = 2;
+pub const STDERR_FILENO: i32 = 2;
 
 // A table has at most 65,536 bytes, and a file may go on behind its table.
 pub const MOST: usize = 70000;
@@ -33,13 +33,8 @@ pub struct Got {
 }
 
 pub fn complain(what: &[u8], why: &[u8]) {
-    io::write_all(ERR, what);
-    io::write_all(ERR, why);
-}
-
-// A number behind what is complained of.
-pub fn complain_number(n: u64) {
-    io::print_decimal(ERR, n);
+    io::write_all(STDERR_FILENO, what);
+    io::write_all(STDERR_FILENO, why);
 }
 
 // Whether the file ends where reading stopped. The count of bytes alone does not tell an end from
@@ -54,8 +49,8 @@ fn ends_here<R: Read>(file: &mut R, path: &[u8], most: usize) -> bool {
         Ok(0) => true,
         Ok(_) => {
             complain(path, b": more bytes than the ");
-            complain_number(most as u64);
-            complain(b" that are read\n", b"");
+            io::print_decimal(STDERR_FILENO, most as u64);
+            io::write_all(STDERR_FILENO, b" that are read\n");
             false
         }
     }
@@ -91,7 +86,9 @@ fn read_open<R: Read>(file: &mut R, path: &[u8], into: &mut [u8]) -> Got
 }
 
 // A name as text, which is what files are opened by; where it is none, a line on standard error says so.
-fn name_text(path: &[u8]) -> Option<&str> {
+fn name_text(path: &[u8]) -> Option<&str>
+    ensures { IfSome result (λ name. name.now ≡ path.now) }
+{
     match std::str::from_utf8(path) {
         Ok(name) => Some(name),
         Err(_) => {
@@ -232,7 +229,7 @@ pub fn helped<R: Env>(rt: &R, usage: &[u8]) -> bool {
     if !argument_is(rt, 1, b"--help") {
         return false;
     }
-    io::write_all(OUT, usage);
+    io::write_all(STDOUT_FILENO, usage);
     true
 }
 
@@ -241,11 +238,11 @@ pub fn print(t: Text)
 {
     let len = t.len;
     let bytes = t.bytes;
-    io::write_all(OUT, &bytes[..len]);
+    io::write_all(STDOUT_FILENO, &bytes[..len]);
 }
 
 pub fn print_bytes(s: &[u8]) {
-    io::write_all(OUT, s);
+    io::write_all(STDOUT_FILENO, s);
 }
 
 pub fn answer_line(a: Answer) -> Text

@@ -44,8 +44,9 @@ pub fn fail(what: &[u8], e: Error) {
         bytes: [0; 128],
     };
     let _ = write!(words, "{e}").is_ok();
-    let bytes = words.bytes;
-    let n = bare_len(words.len, e).min(128);
+    let n = bare_len(words.len, e);
+    let bytes = &words.bytes[..];
+    let end = n.min(bytes.len());
     complain(what, b": ");
-    complain(&bytes[..n], b"\n");
+    complain(&bytes[..end], b"\n");
 }

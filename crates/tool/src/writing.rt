@@ -53,7 +53,10 @@ fn fill_open<F: Write + OpenFile>(file: &mut F, path: &[u8], content: &[u8]) -> 
 
 // A file that is there already is left alone: it may be another program's.
 fn write_new<R: Files>(rt: &R, name: &str, content: &[u8]) -> bool {
-    let opened = OpenOptions::new().write(true).create_new(true).open(rt, name);
+    let opened = OpenOptions::new()
+        .write(true)
+        .create_new(true)
+        .open(rt, name);
     let mut file = match opened {
         Ok(file) => file,
         Err(e) => {
