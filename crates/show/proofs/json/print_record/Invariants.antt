@@ -3,7 +3,7 @@ use Rattle.table.proofs.Rules.{picks}
 use Rattle.show.proofs.json.print_record.Given as goal
 
 abbrev pub invariant-loop-i : goal.invariant-loop-i
-invariant-loop-i l = 0 ≤ i
+invariant-loop-i l = 0 ≤ l.i
 
 abbrev pub decreases-loop-i : goal.decreases-loop-i
-decreases-loop-i l = l.to - i
+decreases-loop-i l = l.to - l.i
