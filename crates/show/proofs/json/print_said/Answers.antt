@@ -1,8 +1,6 @@
 use mathlib.Core.Path.{sym, ap, ◌∙◌}
 use Rattle.table.specs.declared.Answer.{Answer}
 use Rattle.reads_seats.proofs.ObjectLaws.{accepted}
-use Rattle.table.proofs.Rules.{picks}
-use borrow.Author.Rules.{rules}
 use Rattle.show.proofs.json.print_said.Goals as goal
 
 pub print_table-requires : goal.print_table-requires

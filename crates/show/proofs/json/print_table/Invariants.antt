@@ -1,5 +1,4 @@
 use Prim.Native.Nat.{◌≤◌, ◌-◌}
-use Rattle.table.proofs.Rules.{picks}
 use Rattle.show.proofs.json.print_table.Given as goal
 
 abbrev pub invariant-loop-i : goal.invariant-loop-i

@@ -1,5 +1,4 @@
 use Prim.Native.Nat.{◌≤◌, ◌<◌, ◌-◌, ◌+◌}
-use Rattle.table.proofs.Rules.{picks}
 use Rattle.show.proofs.lines.print_records.Given as goal
 
 abbrev pub invariant-loop-position : goal.invariant-loop-position

@@ -1,6 +1,5 @@
 use Prim.Native.Nat.{◌≤◌, ◌-◌}
 use lib.ListN.{length}
-use Rattle.table.proofs.Rules.{picks}
 use Rattle.show.proofs.numbers.count_numbers.Given as goal
 
 abbrev pub invariant-loop-at : goal.invariant-loop-at

@@ -1,5 +1,4 @@
 use Prim.Native.Nat.{◌≤◌, ◌<◌, ◌-◌, ◌+◌}
-use Rattle.table.proofs.Rules.{picks}
 use Rattle.show.proofs.people.column_width.Given as goal
 
 abbrev pub invariant-loop-position : goal.invariant-loop-position

@@ -1,5 +1,4 @@
 use Prim.Native.Nat.{◌≤◌, ◌<◌, ◌-◌, ◌+◌}
-use Rattle.table.proofs.Rules.{picks}
 use Rattle.show.proofs.people.print_table.Given as goal
 
 abbrev pub invariant-loop-position : goal.invariant-loop-position

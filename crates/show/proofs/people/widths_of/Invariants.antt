@@ -1,7 +1,6 @@
 use Prim.Native.Nat.{◌≤◌, ◌-◌}
 use lib.ListN.{length}
 use mathlib.Core.Path.{◌≡◌}
-use Rattle.table.proofs.Rules.{picks}
 use Rattle.show.proofs.people.widths_of.Given as goal
 
 abbrev pub invariant-loop-k : goal.invariant-loop-k

@@ -1,7 +1,5 @@
 use mathlib.Core.Path.{ap}
 use Rattle.table.specs.declared.Image.{Image}
-use Rattle.table.proofs.Rules.{picks}
-use borrow.Author.Rules.{rules}
 use Rattle.show.proofs.records.is_used.Goals as goal
 
 pub returns : goal.returns

@@ -1,7 +1,6 @@
 use mathlib.Core.Path.{ap₂, ◌∙◌}
 use Rattle.table.specs.declared.Field.{Field}
 use Rattle.show_values.specs.Values.{field_text}
-use borrow.Author.Rules.{rules}
 use Rattle.show.proofs.records.text_in.Goals as goal
 
 pub returns : goal.returns
