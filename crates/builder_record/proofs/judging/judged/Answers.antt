@@ -21,7 +21,7 @@ kind-is c =
 in-turn : (c : After-pairs_right) →
     waits c.args.state (layout_of c.args.kind).kind ≡ true
 in-turn c =
-    ap (waits c.args.state) (kind-is c)
+    ap (waits c.args.state) (kind-of c.args.kind c.requires.0 c.requires.1)
     ∙ sym c.waits.ensures
     ∙ c.if-not-waits.false
 
