@@ -1,7 +1,8 @@
 # Wickgarland: a verified library for the NVMe boot firmware table (NBFT).
 #
 #   make run      check a sample table, show what it says, rewrite it, build it from its description, and compare two
-#   make test     every test: the second program, its vectors, the library beside it, and all proofs
+#   make test     every test: all proofs, then the second program, its vectors, and library and programs beside it
+#   make programs  the five programs, proved and compiled, under target/bin/
 #   make library  the static library, target/staticlib/libnbft.a (include/nbft.h declares its functions)
 #   make lib      library, header and nbft.pc for pkg-config, under build/
 #   make install  the same under PREFIX, /usr/local if none is given (DESTDIR goes before it); after `make lib`
@@ -21,19 +22,7 @@
 CARGO  := MAKEFLAGS= cargo
 SECOND := second/target/release/second
 AGREED := crates
-ENDED  := target/ended
-
-# Provers at a time: rt waits for all that it started together, so that with one for each of two cores the shorter proof leaves a core idle.
-# Two, four or twelve at a time prove as much in a minute; with more the waits are fewer (docs/TIMES.md).
-export RT_JOBS ?= 8
-
-# Each prover copies what it builds on, up to some 330 MB, into a folder of its own for temporary files. In memory that takes a tenth less
-# time than on a disk: where there is room for it, and programs may be run from there, since rt runs ours so.
-MEMORY := $(shell room=$$(df --output=avail --block-size=1G /dev/shm 2>/dev/null | tail -n 1) && [ "$${room:-0}" -ge 8 ] && \
-            [ -w /dev/shm ] && ! grep -q ' /dev/shm tmpfs [^ ]*noexec' /proc/mounts && echo /dev/shm)
-ifneq ($(MEMORY),)
-export TMPDIR ?= $(MEMORY)
-endif
+PROOFS := target/proofs.log
 
 # The library and the programs are x86-64 code. On another processor what links them is compiled for x86-64 too, by the compiler that
 # .ci/emulator installs, and an emulator runs it.
@@ -48,19 +37,20 @@ X86_CC  := x86_64-linux-gnu-gcc
 LINKING := PATH=/usr/bin:$$PATH CARGO_TARGET_X86_64_UNKNOWN_LINUX_GNU_LINKER=x86_64-linux-gnu-gcc $(CARGO)
 endif
 BINDINGS := RUSTFLAGS=-Dwarnings RUSTDOCFLAGS=-Dwarnings $(if $(RUN),CARGO_TARGET_X86_64_UNKNOWN_LINUX_GNU_RUNNER=$(RUN)) $(LINKING)
-BIN     := $(RUN) target/bin
+BINS    := $(or $(NBFT_BIN),target/bin)
+BIN     := $(RUN) $(BINS)
 LIBRARY := $(or $(NBFT_LIB),target/staticlib)
 LINKED  := $(RUN) second/linked/target/$(X86)/release/linked
 
 PREFIX ?= /usr/local
 
-.PHONY: run test proofs compared second-tests comparisons compared-checks compared-reads compared-records compared-rewrites \
+PROGRAMS := nbft_check nbft_show nbft_rewrite nbft_build nbft_diff
+
+.PHONY: run programs test proofs built compared second-tests comparisons compared-checks compared-reads compared-records compared-rewrites \
         compared-closings compared-builds compared-pairs compared-shown library lib install examples bindings readme interop soak vectors \
         clean second linked
 
-# The programs are proved, then compiled: the first run takes some minutes.
-run:
-	rt check nbft_check nbft_show nbft_rewrite nbft_build nbft_diff
+run: programs
 	@echo "nbft_check samples/machine.nbft: number, kind and position, and what they mean"
 	@$(BIN)/nbft_check samples/machine.nbft
 	@echo "nbft_show samples/machine.nbft"
@@ -76,35 +66,31 @@ run:
 	@echo "nbft_diff samples/machine.nbft samples/mixed.nbft: what the two say differently"
 	@$(BIN)/nbft_diff samples/machine.nbft samples/mixed.nbft
 
-# All proofs, and beside them what is compared: where the one leaves a core idle the other has it, and if either fails so does the test.
-# The comparisons start when the library is proved and end long before the last edit is tried, so that the last line is that of `rt ci`:
-# 'N passed, M failed'. What an earlier run left is removed first: the wait is for a library that this run proved.
-test:
-	rt fmt --check
-	@rm -rf target
-	@$(MAKE) --no-print-directory --jobs=2 proofs compared
+# What is not proved yet is proved first, which takes minutes. `rt` has no command that makes a program and does not run it.
+programs:
+	@mkdir -p target/bin
+	@for each in $(PROGRAMS); do (cd crates/$$each && rt run -- --help >/dev/null) && install crates/$$each/out/$$each target/bin || exit 1; done
 
-# The mark tells who waits for the library that none will come any more.
+# All proofs, on the checkout as it is found, and then all that is compared with what was built of them. The last line is that of `rt ci`,
+# 'N passed, M failed', once more; if anything behind it fails so does the test.
+test: proofs
+	@$(MAKE) --no-print-directory built
+	@$(MAKE) --no-print-directory NBFT_LIB="$(CURDIR)/target/staticlib" NBFT_BIN="$(CURDIR)/target/bin" compared
+	@tail -n 1 $(PROOFS)
+
 proofs:
-	@rt ci; status=$$?; mkdir -p target; touch $(ENDED); exit $$status
+	@.ci/proofs $(PROOFS)
 
-# Whether crates are proved, and whether programs are there: rt has no mark for these before it has run them.
-proved    = { true $(foreach crate,$(1),&& [ -e target/stamp/$(crate) ]); }
-answering = { true $(foreach program,$(1),&& $(BIN)/$(program) --help >/dev/null 2>&1); }
+# What `rt ci` has just built: the programs, and the library made of what it left.
+built:
+	@mkdir -p target/bin target/staticlib
+	.ci/library
+	@install -m 644 crates/nbft/out/libnbft.a target/staticlib
+	@for each in $(PROGRAMS); do install crates/$$each/out/$$each target/bin || exit 1; done
 
-# The library is built in a copy of what `rt ci` has proved: target/ is its own while it runs, and it counts every Rattle file below the
-# repository's top as the repository's. What has a stamp is whole, since a crate's stamp is written last.
 # Each target prints when it is done, so that its lines stay together.
 compared: second-tests
-	@until $(call proved,nbft) || [ -e $(ENDED) ]; do sleep 1; done
-	@$(call proved,nbft) || { echo "nothing is compared: rt ci has not proved the library"; exit 1; }
-	@copy=$$(mktemp -d) && trap 'rm -rf "$$copy"' EXIT && trap 'exit 1' HUP INT TERM && mkdir -p "$$copy/target/rlib" && \
-	cp -a crates crates.txt "$$copy" && cp -a target/stamp "$$copy/target" && \
-	for crate in $$(cd target/rlib && ls -d *.rlib); do \
-	[ ! -e "$$copy/target/stamp/$${crate%.rlib}" ] || cp -a "target/rlib/$$crate" "$$copy/target/rlib" || exit 1; done && \
-	$(MAKE) --no-print-directory --output-sync=target --directory="$$copy" --file="$(CURDIR)/Makefile" library && \
-	$(MAKE) --no-print-directory --output-sync=target NBFT_LIB="$$copy/target/staticlib" comparisons
-	@until $(call answering,nbft_check nbft_show nbft_rewrite nbft_build nbft_diff) || [ -e $(ENDED) ]; do sleep 1; done
+	@$(MAKE) --no-print-directory --jobs=2 --output-sync=target comparisons
 	@$(MAKE) --no-print-directory readme compared-pairs compared-shown
 
 # The second program's own tests, and that the committed vectors, samples and cases are what it writes.
@@ -146,12 +132,13 @@ compared-pairs: second
 # Generated tables, and pairs that say the same but for one thing, held to what nbft_show prints of them as JSON.
 SHOWN := 500
 compared-shown: second
-	@RUN="$(RUN)" .ci/shown $(or $(NBFT_BIN),target/bin)/nbft_show $(SECOND) $(SHOWN) 7
+	@RUN="$(RUN)" .ci/shown $(BINS)/nbft_show $(SECOND) $(SHOWN) 7
 
-# `rt staticlib` proves one crate after the other; `rt check` before it proves several at a time.
+# What is not proved yet is proved first, which takes minutes.
 library:
-	rt check nbft
-	rt staticlib nbft
+	cd crates/nbft && rt lib
+	@mkdir -p target/staticlib
+	@install -m 644 crates/nbft/out/libnbft.a target/staticlib
 
 # The folder build/ is a prefix like any other: what stands there can be used before it is installed. All that works with a library
 # takes the one in the folder NBFT_LIB, if that is given.
@@ -181,7 +168,7 @@ bindings: $(if $(NBFT_LIB),,library)
 
 # With the programs that stand in the folder NBFT_BIN, if that is given. It proves and compiles nothing.
 readme:
-	RUN="$(RUN)" .ci/readme-examples $(or $(NBFT_BIN),target/bin) README.md docs/DESCRIPTIONS.md docs/SAMPLES.md
+	RUN="$(RUN)" .ci/readme-examples $(BINS) README.md docs/DESCRIPTIONS.md docs/SAMPLES.md
 
 # nvme-cli is fetched into target/nvme-cli, or into the folder that NVME_CLI names, unless it is there. What is compared is what nbft_show
 # prints if it is there, and else what the second program prints, which is the same.
@@ -206,7 +193,6 @@ linked: $(if $(NBFT_LIB),,library)
 	@cd second/linked && $(LINKING) build --target $(X86) --offline --quiet --release
 
 clean:
-	rm -rf target build second/target second/linked/target bench/target bindings/rust/target
+	rm -rf target build crates/*/out second/target second/linked/target bench/target bindings/rust/target
 
-# By the place of this file, which `compared` has read in a folder that has no benchmark.
-include $(dir $(lastword $(MAKEFILE_LIST)))bench/rules.mk
+include bench/rules.mk

@@ -1,4 +1,4 @@
-//! Says where libnbft.a is: in the folder NBFT_LIB, or where `rt staticlib nbft` writes it.
+//! Says where libnbft.a is: in the folder NBFT_LIB, or where `make library` leaves it.
 
 use std::path::PathBuf;
 

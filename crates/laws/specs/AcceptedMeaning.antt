@@ -11,7 +11,7 @@ use Rattle.std.proofs.Math.Dec.{T, leb, leb→le, eqb-suc-zero}
 use Rattle.std.proofs.Math.Facts.{and_yes}
 use Rattle.table.specs.declared.Region.{Region}
 use Rattle.table.specs.Bytes.{num, pick}
-use Rattle.table.specs.Layout.{Entry, Env, Layout, Slots, env, image, is_right, is_valid, low, region, unused, used, names_used}
+use Rattle.table.specs.Layout.{Entry, Env, Layout, Slots, env, image, is_right, is_valid, region, unused, used, names_used}
 use Rattle.table.specs.FixedLayouts.{discovery, header, hfi, host, list_kinds, security, ssns}
 use Rattle.table.specs.Objects.{count_in, is_used, read_body, read_entry, read_list, read_slots, used_in}
 use Rattle.table.specs.Rules.{answer, body_rule, cons_if, done, entry_rule, first, first_fail, first_of, inside, list_regions, list_rule, long_enough, refs_rule, used_rule}

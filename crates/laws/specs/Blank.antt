@@ -15,7 +15,6 @@ use Rattle.table.specs.Builder.{all_unused, start_of}
 use Rattle.laws.specs.Lawful.{FitBody, FitEntry, FitList, all_ok, ok_layout}
 use Rattle.laws.specs.ByteLaws.{pick_yes}
 use Rattle.laws.specs.ListLaws.{OkLayout, length-recs_list, ok-layout}
-use Rattle.laws.specs.FormLaws.{h₁}
 
 -- ---- definitions
 

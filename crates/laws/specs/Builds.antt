@@ -12,17 +12,17 @@ use Rattle.table.specs.declared.Answer.{Answer}
 use Rattle.table.specs.declared.Region.{Region}
 use Rattle.table.specs.declared.State.{State}
 use Rattle.table.specs.Bytes.{num, pick, splice}
-use Rattle.table.specs.Layout.{Body, Entry, Layout, Slots, env, more, shaped, stop}
+use Rattle.table.specs.Layout.{Body, Entry, Layout, Slots, env, more, stop}
 use Rattle.table.specs.FixedLayouts.{discovery, extended, header, hfi, host, info, list_kinds, security, ssns, hfi_extended}
 use Rattle.table.specs.Objects.{count_in, size_of, span_body, used_in}
-use Rattle.table.specs.Rules.{Test, answer, body_rule, done, first, first_fail, list_rule, test}
+use Rattle.table.specs.Rules.{Test, body_rule, done, first, first_fail, list_rule, test}
 use Rattle.table.specs.Meaning.{Meaning, form, form_length, heap_at, laid_out, limit, meaning}
 use Rattle.table.specs.Numbers.{check, driver_rule, heap_in, host_rule, records, tests}
 use Rattle.table.specs.Builder.{Outcome, begin, begun, count_of, counts, empty, end_of, fill, fill_answer, finish, finished, finishing, in_list, leave, moved, next, opened, outcome, place_of, placed, records_end, room_tests, same_state, sealed, slots_rule, told_image, told_slots, turn, turn_after, waits}
 use Rattle.laws.specs.Lawful.{FitBody, Shaped, ok_layout}
 use Rattle.laws.specs.ListLaws.{ok-layout}
 use Rattle.laws.specs.TestLaws.{AllPass, all_pass, self-numbered}
-use Rattle.laws.specs.FormLaws.{laid, round_trip}
+use Rattle.laws.specs.FormLaws.{round_trip}
 use Rattle.laws.specs.ToldLaws.{ok_marks, ok_told}
 use Rattle.laws.specs.Blank.{BlankFrom, Put, lengths_of, there}
 use Rattle.laws.specs.Turns.{after-other, blank-leave, end_is, missing, put-here, off}

@@ -1,5 +1,5 @@
 -- Bytes: numbers in little endian, and `Holds t a bs`: the list t has bs from place a on. Assumes nothing.
-use Rattle.std.specs.Prelude.{◌≡◌, refl, Bool, true, false, not, ◌&&◌, T, eqb, List, [], ◌∷◌, ◌++◌, ℕ, zero, suc, ◌+◌, ◌-◌, ◌*◌, ◌/◌, ◌%◌, ◌^◌, ◌≤◌, ◌<◌, length, get_or, take, drop}
+use Rattle.std.specs.Prelude.{◌≡◌, refl, Bool, true, false, not, T, eqb, List, [], ◌∷◌, ◌++◌, ℕ, zero, suc, ◌+◌, ◌-◌, ◌*◌, ◌/◌, ◌%◌, ◌^◌, ◌≤◌, ◌<◌, length, get_or, take, drop}
 use Rattle.std.proofs.Common.{sym, ap, ap₂, ◌∙◌, eqb→eq, append_assoc, add-zero, div-lt_iff_lt-mul, zero-lt-suc, pow-suc, mul_comm, add_comm, arith, length-append, length-drop, take-append-drop, length-take-le, drop-drop, get_or-drop, get_or-take, drop_at}
 use Rattle.std.proofs.Math.Facts.{and_yes}
 use Rattle.std.proofs.Math.Nat.{div-add-mod}

@@ -11,7 +11,7 @@ use Rattle.std.proofs.lemmas.List.{length-replicate}
 use Rattle.std.proofs.Math.Dec.{T, eqb}
 use Rattle.std.proofs.Math.Facts.{and_yes, yes_and}
 use Rattle.table.specs.declared.State.{State}
-use Rattle.table.specs.Bytes.{pick, same, splice}
+use Rattle.table.specs.Bytes.{pick, splice}
 use Rattle.table.specs.Layout.{Body, Entry, Env, Layout, Refs, Slots, anything, base_of, bytes, env, nil, pairs_right, unused}
 use Rattle.table.specs.FixedLayouts.{discovery, header, hfi, host, list_kinds, security, ssns}
 use Rattle.table.specs.Objects.{count_in, heap_body, heap_entry, heap_of, newer_body, newer_entry, patched, rec_entry, size_body, size_entry, size_of, span_body}
@@ -48,7 +48,6 @@ use Rattle.laws.specs.ListLaws.{OkLayout, length-heap_entry, length-rec_entry}
 use Rattle.laws.specs.TestLaws.{all_pass, self-numbered}
 use Rattle.laws.specs.FormLaws.{back-part, control-part, front-part, h₀, h₁, h₂, length-laid_out, ok-host, ok-lists, owner-part, small}
 use Rattle.laws.specs.Sound.{first-of, pick-of}
-use Rattle.laws.specs.AcceptedMeaning.{lawful}
 use Rattle.laws.specs.ToldLaws.{byte_pow, ok_marks, ok_told, told_fit, told_fixed, told-right, told-valid}
 use Rattle.laws.specs.Blank.{AllBlank, BlankFrom, Effect, Put, blank-heap, blank-newer, blank-recs, blank-size, effect, fit-unused, lengths_of}
 use Rattle.laws.specs.Turns.{after-other, blank-next, count-is, first-blank, first-other, fit-body-put, missing}

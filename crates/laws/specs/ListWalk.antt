@@ -7,7 +7,7 @@ use Rattle.std.proofs.Math.Facts.{and_yes}
 use Rattle.table.specs.declared.Answer.{Answer}
 use Rattle.table.specs.declared.Region.{Region}
 use Rattle.table.specs.Bytes.{odd, pick}
-use Rattle.table.specs.Layout.{Entry, Env, Keep, Layout, base_of, env, image, is_valid, low, mod_of, offsets, sel, unused, used}
+use Rattle.table.specs.Layout.{Entry, Env, Keep, Layout, base_of, env, image, is_valid, low, mod_of, offsets, unused, used}
 use Rattle.table.specs.FixedLayouts.{control, discovery, extended, header, hfi, host, info, layout_of, list_kinds, no_kind, security, ssns, hfi_extended}
 use Rattle.table.specs.Objects.{count_in, is_used, read_body, read_entry, read_list, read_slots, used_at, used_in}
 use Rattle.table.specs.Rules.{answer, done, entry_rule, list_rule, used_rule}

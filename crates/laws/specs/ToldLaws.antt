@@ -18,7 +18,6 @@ use Rattle.laws.specs.Lawful.{Fit, all_keep, ok_keep}
 use Rattle.laws.specs.ByteLaws.{Holds, holds-get_d, holds-splice-above, holds-splice-below, length-le, length-splice, splice-here, val-le}
 use Rattle.laws.specs.ImageLaws.{all-at, even-low, image-at, image-idem, is_even, length-image}
 use Rattle.laws.specs.Sound.{first-of, pick-of}
-use Rattle.laws.specs.AcceptedMeaning.{lawful}
 
 -- ---- the test of a shape: what the builder sets lies inside, apart from each other, in bytes that count wholly
 

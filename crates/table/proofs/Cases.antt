@@ -10,7 +10,7 @@ use Rattle.table.specs.declared.Field.{Field}
 use Rattle.table.specs.declared.Place.{Place}
 use Rattle.table.specs.declared.State.{State}
 use Rattle.table.specs.Bytes.{pick, same, padded, Edit, apply}
-use Rattle.table.specs.Layout.{image, is_right, slot_at, rec_at, Slots, nil, bytes, gone, rec}
+use Rattle.table.specs.Layout.{image, is_right, slot_at, rec_at, nil, bytes, gone, rec}
 use Rattle.table.specs.FixedLayouts.{header, control, host, info, extended, hfi_extended, hfi, ssns, security, discovery}
 use Rattle.table.specs.Objects.{read_slots, read_entry, read_list, read_body, used_at, used_in, count_in, newer_entry, newer_list, newer_body, size_of, stores, patched, heap_of, size_entry, rec_entry, heap_entry, size_list, recs_list, heap_list, size_body, recs_body, heap_body, span_body, places_body}
 use Rattle.table.specs.Rules.{answer, done, list_regions, long_enough, versioned, refs_rule, used_rule, entry_rule, list_rule, body_rule}

@@ -6,8 +6,8 @@ use Rattle.table.specs.declared.Answer.{Answer}
 use Rattle.table.specs.declared.State.{State}
 use Rattle.table.specs.declared.Step.{Step}
 use Rattle.table.specs.Bytes.{pick, le, checksum, splice, edit, apply}
-use Rattle.table.specs.Layout.{image, Shape, Env, env, pairs_right, Content, anything, text, positions, Refs, Slots, nil, bytes, gone, rec, Layout, base_of, unused, used, Body, stop, more}
-use Rattle.table.specs.FixedLayouts.{header, hfi, ssns, security, discovery, list_kinds}
+use Rattle.table.specs.Layout.{image, Shape, Env, env, pairs_right, Content, anything, text, positions, Refs, Slots, nil, bytes, gone, rec, Layout, base_of, unused, Body, stop, more}
+use Rattle.table.specs.FixedLayouts.{header, list_kinds}
 use Rattle.table.specs.Objects.{under, size_of, heap_of, patched}
 use Rattle.table.specs.Rules.{first, first_of, ruled, Test, test, first_fail}
 use Rattle.table.specs.Meaning.{limit, Meaning, form_length, laid_out}

@@ -2,7 +2,7 @@
 use Rattle.std.specs.Prelude.{Bool, true, false, ◌||◌, List, [], ◌∷◌, ◌++◌, ℕ, zero, suc, ◌+◌, ◌*◌, length, get_or, drop, replicate, eqb}
 use Rattle.table.specs.declared.Need.{Need}
 use Rattle.table.specs.declared.Need.TheVariants.{Ignored, Optional, Required}
-use Rattle.table.specs.Bytes.{pick, part, num, le, Edit, edit, apply}
+use Rattle.table.specs.Bytes.{pick, num, le, Edit, edit, apply}
 use Rattle.table.specs.Layout.{image, reference_at, named_at, is_valid, Refs, none, plain, nest, Slots, nil, bytes, gone, rec, Layout, base_of, Entry, unused, used, Body, stop, more}
 
 -- ---- reading

@@ -20,15 +20,12 @@ use std::slice::from_ref;
 
 const FAMILY: Family = Family {
     about: "Calls of the builder with what the second program answers and leaves, and that the definitions compute the same.",
-    uses: "\
-use mathlib.Core.Bool.{true, false}
-use Prim.Native.Nat.{ℕ}
-use Rattle·table.proofs.Cases.{BuildCase, beginning, aHost, anHfi, anSsns, aSecurity, aDiscovery, leaving, finishing, state, halted, stepped, sheet, fineBuild, allFineBuilds}
-",
+    words: ", true, false, ℕ",
+    uses: "use Rattle.table.proofs.Cases.{BuildCase, beginning, a_host, an_hfi, an_ssns, a_security, a_discovery, leaving, finishing, state, halted, stepped, sheet, fine_build, all_fine_builds}",
     case: "BuildCase",
-    fine: "fineBuild",
-    all_fine: "allFineBuilds",
-    agree: "buildsAgree",
+    fine: "fine_build",
+    all_fine: "all_fine_builds",
+    agree: "builds_agree",
 };
 
 /// A call with the state and the buffer that it is given.
@@ -92,7 +89,7 @@ fn call_text(call: &Call) -> String {
             let objects = [counts.to_vec(), signature.clone()];
             words("beginning", &[header], &objects)
         }
-        Call::Host(record, name) => words("aHost", &[record], from_ref(name)),
+        Call::Host(record, name) => words("a_host", &[record], from_ref(name)),
         Call::Hfi {
             record,
             info,
@@ -100,15 +97,17 @@ fn call_text(call: &Call) -> String {
             extended,
             objects: [name, iaid, duid],
         } => {
-            let mut owner = words("anHfi", &[record, &info[..]], from_ref(name));
+            let mut owner = words("an_hfi", &[record, &info[..]], from_ref(name));
             let told = (*extended_told != 0).to_string();
             owner.extend(words(&told, &[extended], &[iaid.clone(), duid.clone()]));
             owner
         }
-        Call::Ssns(record, extended, objects) => words("anSsns", &[&record[..], extended], objects),
-        Call::Security(record, objects) => words("aSecurity", &[record], objects),
+        Call::Ssns(record, extended, objects) => {
+            words("an_ssns", &[&record[..], extended], objects)
+        }
+        Call::Security(record, objects) => words("a_security", &[record], objects),
         Call::Discovery(record, address, name) => {
-            words("aDiscovery", &[record], &[address.clone(), name.clone()])
+            words("a_discovery", &[record], &[address.clone(), name.clone()])
         }
         Call::Leave => return "leaving".to_string(),
         Call::Finish => return "finishing".to_string(),

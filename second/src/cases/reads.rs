@@ -19,15 +19,12 @@ use crate::subsystem::{Extended, Subsystem};
 
 const FAMILY: Family = Family {
     about: "Reads with what the second program gives, and that the definitions compute the same.",
-    uses: "\
-use mathlib.Core.Bool.{true, false}
-use Prim.Native.Nat.{ℕ}
-use Rattle·table.proofs.Cases.{whole, field, object, ReadCase, denied, found, sheet, fineRead, allFineReads}
-",
+    words: ", true, false, ℕ",
+    uses: "use Rattle.table.proofs.Cases.{whole, field, object, ReadCase, denied, found, sheet, fine_read, all_fine_reads}",
     case: "ReadCase",
-    fine: "fineRead",
-    all_fine: "allFineReads",
-    agree: "readsAgree",
+    fine: "fine_read",
+    all_fine: "all_fine_reads",
+    agree: "reads_agree",
 };
 
 /// What is read of the record of a kind and position.

@@ -15,14 +15,12 @@ use crate::{form_length, Answer};
 
 const FAMILY: Family = Family {
     about: "Rewrites with what the second program leaves in the output, and that the definitions compute the same.",
-    uses: "\
-use Prim.Native.Nat.{ℕ}
-use Rattle·table.proofs.Cases.{RewriteCase, unwritten, written, sheet, fineRewrite, allFineRewrites}
-",
+    words: ", ℕ",
+    uses: "use Rattle.table.proofs.Cases.{RewriteCase, unwritten, written, sheet, fine_rewrite, all_fine_rewrites}",
     case: "RewriteCase",
-    fine: "fineRewrite",
-    all_fine: "allFineRewrites",
-    agree: "rewritesAgree",
+    fine: "fine_rewrite",
+    all_fine: "all_fine_rewrites",
+    agree: "rewrites_agree",
 };
 
 fn case(shelf: &mut Shelf, table: &[u8], room: usize) -> String {

@@ -8,7 +8,9 @@ use std::fmt::Write;
 pub struct Family {
     /// What the file shows, in one sentence.
     pub about: &'static str,
-    /// What the text needs beside lists and bytes: whole lines.
+    /// What the text needs of the library beside lists and bytes, each word behind a comma.
+    pub words: &'static str,
+    /// What else it needs, in a line of its own.
     pub uses: &'static str,
     /// The type of a case.
     pub case: &'static str,
@@ -54,12 +56,10 @@ impl Group {
 pub fn file(family: &Family, shelf: &Shelf, groups: &[Group]) -> String {
     let mut text = format!(
         "-- {} Written by the second program. Assumes nothing.\n\
-         use mathlib.Core.List.{{List, [], _∷_}}\n\
-         use lib.ListN.{{replicate}}\n\
-         use lib.Dec.{{T}}\n\
-         use Rattle·table.specs.Bytes.{{edit}}\n\
-         {}",
-        family.about, family.uses
+         use Rattle.std.specs.Prelude.{{List, [], ◌∷◌, replicate, T{}}}\n\
+         use Rattle.table.specs.Bytes.{{edit}}\n\
+         {}\n",
+        family.about, family.words, family.uses
     );
     text.push_str(&shelf.text());
     for (place, group) in groups.iter().enumerate() {

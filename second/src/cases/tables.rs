@@ -6,10 +6,11 @@ use crate::vectors::{vectors, Vector};
 
 const FAMILY: Family = Family {
     about: "Tables with the answers and forms that the second program gives, and that the definitions compute the same.",
-    uses: "use Rattle·table.proofs.Cases.{Case, refused, taken, sheet, fine, allFine}\n",
+    words: "",
+    uses: "use Rattle.table.proofs.Cases.{Case, refused, taken, sheet, fine, all_fine}",
     case: "Case",
     fine: "fine",
-    all_fine: "allFine",
+    all_fine: "all_fine",
     agree: "agrees",
 };
 

@@ -17,7 +17,7 @@ overflow_add-map c =
     omega (
       arith,
       e,
-      room (c.args.n % 8) (omega arith) b (omega (arith, c.type_inv.map (c.args.n / 8)))
+      room (c.args.n % 8) (omega arith) b (omega (arith, c.slice_known-1.given (c.args.n / 8)))
           (rw e at c.if-b-p-eq0.true),
     )
 

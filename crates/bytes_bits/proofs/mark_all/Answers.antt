@@ -9,7 +9,7 @@ use Rattle.bytes_bits.proofs.mark_each.Reads as mark-each-reads
 use Rattle.bytes_bits.proofs.mark_all.Goals as goal
 
 pub mark_bytes-requires : goal.mark_bytes-requires
-mark_bytes-requires c = (search rules, λ i. omega (arith, c.type_inv.map i))
+mark_bytes-requires c = (search rules, λ i. omega (arith, c.slice_known-2-1.given i))
 
 pub returns : goal.returns
 returns c =

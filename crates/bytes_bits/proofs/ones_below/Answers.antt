@@ -16,10 +16,10 @@ pub loop-i-preserved : goal.loop-i-preserved
 loop-i-preserved c =
      (
       search picks,
-      omega (arith, c.loop-i.invariant.1, c.ones_in_lem.ensures.1),
+      omega (arith, c.loop-i.invariant.1, c.ones_in-sum.ensures.1),
       sym (below-byte c.args.map.now c.loop-i.i
           (omega (arith, c.type_inv.map c.loop-i.i))
-          ∙ ap₂ ◌+◌ (sym c.loop-i.invariant.2) (sym c.ones_in_lem.ensures.0)),
+          ∙ ap₂ ◌+◌ (sym c.loop-i.invariant.2) (sym c.ones_in-sum.ensures.0)),
     )
 
 pub returns-then-n-eq0 : goal.returns-then-n-eq0

@@ -9,6 +9,7 @@ use lib.Seq.{take-length}
 use Rattle.laws.specs.TextLaws.{no_zero}
 use Rattle.bytes_text.proofs.Laws.{zero-here, none_here}
 use Rattle.table.proofs.Rules.{picks}
+use Rattle.bytes_text.proofs.has_zero.Goals.{else-bytes-i-eq0, then-bytes-i-eq0}
 use Rattle.bytes_text.proofs.has_zero.Goals as goal
 
 pub loop-i-init : goal.loop-i-init
@@ -20,8 +21,10 @@ loop-i-preserved c =
     let h = c.loop-i-test.true in
     let bytes = c.args.bytes.now in (
       omega (arith, h),
-      ⊎_elim (λ w. w.1 ∙ zero-here bytes l.i h l.seen l.invariant.1 w.0.taken)
-          (λ w. w.1 ∙ none_here bytes l.i h l.seen l.invariant.1 w.0.left) c.if-bytes-i-eq0.branch,
+      elim c.if-bytes-i-eq0.branch [
+          then-bytes-i-eq0 w ↦ w.seen-is ∙ zero-here bytes l.i h l.seen l.invariant.1 w.if-bytes-i-eq0.true
+        | else-bytes-i-eq0 w ↦ w.seen-is ∙ none_here bytes l.i h l.seen l.invariant.1 w.if-bytes-i-eq0.false
+      ],
     )
 
 pub returns : goal.returns

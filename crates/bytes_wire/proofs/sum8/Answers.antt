@@ -1,5 +1,4 @@
-use Rattle.table.proofs.Rules.{picks}
-use Rattle.std.proofs.Common.{ℕ, ◌+◌, ◌-◌, ◌*◌, ◌/◌, ◌<◌, ◌≤◌, List, [], ◌∷◌, length, arith}
+use Rattle.std.proofs.Common.{ℕ, ◌+◌, ◌*◌, ◌/◌, List, [], ◌∷◌, length, arith}
 use Rattle.bytes_wire.proofs.Laws.{Summed, summed-none, summed-more, summed-to, summed-all}
 use Rattle.bytes_wire.proofs.sum8.Goals.{After-loop-i}
 use Rattle.bytes_wire.proofs.sum8.Goals as goal

@@ -1,6 +1,5 @@
-use Rattle.table.proofs.Rules.{picks}
-use Rattle.std.proofs.Common.{ℕ, ◌+◌, ◌-◌, ◌*◌, ◌/◌, ◌<◌, ◌≤◌, List, [], ◌∷◌, length, arith}
-use Rattle.bytes_wire.proofs.Laws.{Summed, summed-none, summed-more, summed-to, summed-all}
+use Rattle.std.proofs.Common.{◌+◌, ◌-◌, ◌*◌, ◌<◌, ◌≤◌}
+use Rattle.bytes_wire.proofs.Laws.{Summed}
 use Rattle.bytes_wire.proofs.sum8.Given as goal
 
 abbrev pub invariant-loop-i : goal.invariant-loop-i

@@ -1,6 +1,5 @@
-use Rattle.table.proofs.Rules.{picks}
-use Rattle.std.proofs.Common.{◌+◌, ◌-◌, ◌<◌, length, arith}
-use Rattle.bytes_wire.proofs.Laws.{Summed, summed-none, summed-more, sum_done}
+use Rattle.std.proofs.Common.{◌+◌, arith}
+use Rattle.bytes_wire.proofs.Laws.{summed-none, summed-more, sum_done}
 use Rattle.bytes_wire.proofs.sum_from.Goals as goal
 
 pub loop-added-init : goal.loop-added-init

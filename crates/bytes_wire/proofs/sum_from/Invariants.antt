@@ -1,6 +1,5 @@
-use Rattle.table.proofs.Rules.{picks}
-use Rattle.std.proofs.Common.{◌+◌, ◌-◌, ◌<◌, length, arith}
-use Rattle.bytes_wire.proofs.Laws.{Summed, summed-none, summed-more, sum_done}
+use Rattle.std.proofs.Common.{◌+◌, ◌-◌, ◌<◌, length}
+use Rattle.bytes_wire.proofs.Laws.{Summed}
 use Rattle.bytes_wire.proofs.sum_from.Given as goal
 
 abbrev pub invariant-loop-added : goal.invariant-loop-added

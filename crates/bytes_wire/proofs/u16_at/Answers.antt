@@ -1,4 +1,4 @@
-use Rattle.std.proofs.Common.{arith, rules}
+use Rattle.std.proofs.Common.{arith}
 use Rattle.laws.specs.Fields.{two_bytes}
 use Rattle.bytes_wire.proofs.u16_at.Goals as goal
 

@@ -1,4 +1,4 @@
-use Rattle.std.proofs.Common.{arith, rules}
+use Rattle.std.proofs.Common.{arith}
 use Rattle.bytes_wire.proofs.Laws.{num4}
 use Rattle.bytes_wire.proofs.u32_at.Goals as goal
 

@@ -13,7 +13,7 @@ use Rattle.reader.proofs.lists_fault.Goals as goal
 pub list_fault-hfi-requires : goal.list_fault-hfi-requires
 unfolding layout_of hfi
 list_fault-hfi-requires c =
-    ((c.requires.0, lit≤ tt, lit≤ tt, c.requires.1), (omega (arith, c.requires.0.lent), c.requires.0.hfi))
+    record { laid_out = (c.requires.0, lit≤ tt, lit≤ tt, c.requires.1); c_in_bounds = (omega (arith, c.requires.0.lent), c.requires.0.hfi); }
 
 pub returns-then-hfi-ne0 : goal.returns-then-hfi-ne0
 returns-then-hfi-ne0 c =
@@ -28,7 +28,7 @@ returns-then-hfi-ne0 c =
 pub list_fault-second-requires : goal.list_fault-second-requires
 unfolding layout_of ssns
 list_fault-second-requires c =
-    ((c.requires.0, lit≤ tt, lit≤ tt, c.requires.1), (omega (arith, c.requires.0.lent), c.requires.0.ssns))
+    record { laid_out = (c.requires.0, lit≤ tt, lit≤ tt, c.requires.1); c_in_bounds = (omega (arith, c.requires.0.lent), c.requires.0.ssns); }
 
 pub returns-then-ssns-ne0 : goal.returns-then-ssns-ne0
 returns-then-ssns-ne0 c =
@@ -48,7 +48,7 @@ returns-then-ssns-ne0 c =
 pub list_fault-third-requires : goal.list_fault-third-requires
 unfolding layout_of security
 list_fault-third-requires c =
-    ((c.requires.0, lit≤ tt, lit≤ tt, c.requires.1), (omega (arith, c.requires.0.lent), c.requires.0.security))
+    record { laid_out = (c.requires.0, lit≤ tt, lit≤ tt, c.requires.1); c_in_bounds = (omega (arith, c.requires.0.lent), c.requires.0.security); }
 
 pub behind-security-requires : goal.behind-security-requires
 behind-security-requires c = let s = c.behind-ssns.ensures in omega (arith, s.1, c.list_fault-second.ensures.2, c.list_fault-hfi.ensures.2, c.list_fault-third.ensures.2)
@@ -80,7 +80,7 @@ returns-then-security-ne0 c =
 pub list_fault-last-requires : goal.list_fault-last-requires
 unfolding layout_of discovery
 list_fault-last-requires c =
-    ((c.requires.0, lit≤ tt, lit≤ tt, c.requires.1), (omega (arith, c.requires.0.lent), c.requires.0.discovery))
+    record { laid_out = (c.requires.0, lit≤ tt, lit≤ tt, c.requires.1); c_in_bounds = (omega (arith, c.requires.0.lent), c.requires.0.discovery); }
 
 pub behind-requires : goal.behind-requires
 behind-requires c =

@@ -23,7 +23,8 @@ lent : (c : Else-a-ne0) →  c.head_of-h.result.size ≤ length c.args.t.now
 unfolding head_of
 lent c =
     let t = c.args.t.now in
-    rw c.head_of-h.ensures.0 (size-lent (num t 0 4) (num t 4 4) (length t) (rw (size c) at c.if-a-ne0.false))
+    let e : c.size_fault-a.result ≡ first_fail (size_tests (num t 0 4) (num t 4 4) (length t)) = rw c.head_of-h.ensures.0 at c.size_fault-a.ensures in
+    rw c.head_of-h.ensures.0 (size-lent (num t 0 4) (num t 4 4) (length t) (rw e at c.if-a-ne0.false))
 
 sum : (c : After-sum8) →  let t = c.args.t.now in c.sum8.result ≡ total (take (num t 4 4) t) % 256
 unfolding head_of

@@ -8,7 +8,6 @@ use Rattle.laws.specs.ListWalk.{refs-within}
 use Rattle.laws.specs.RefWalk.{first_over, lists_at_lem, over-stop, over-more, over_none}
 use Rattle.reader_heap_records.specs.HeapRecords.{info_fault, info_faults}
 use Rattle.table.proofs.Rules.{picks}
-use Rattle.reader_heap_records.proofs.info_refs.Goals.{After-info_ref-fault}
 use Rattle.reader_heap_records.proofs.info_refs.Goals as goal
 
 pub loop-i-init : goal.loop-i-init
@@ -25,15 +24,11 @@ info_ref-fault-requires c =
     (c.requires.0, omega (arith, w, e, c.requires.0), c.requires.1)
 
 -- a turn: the reference's rule
-module _ (c : After-info_ref-fault) where
-  abbrev F : ℕ → ℕ
-  F = let a = c.args in info_fault a.heap.now a.from a.position a.x.now
-
 pub returns-then-fault-ne0 : goal.returns-then-fault-ne0
 unfolding info_faults layout_of
 returns-then-fault-ne0 c =
     let o = c.reference_offsets-rs in
-    over-stop (F c) o.result.count o.result.at o.ensures.0 o.ensures.1 c.loop-i-test.true c.info_ref-fault.ensures c.if-fault-ne0.true
+    over-stop (info_fault c.args.heap.now c.args.from c.args.position c.args.x.now) o.result.count o.result.at o.ensures.0 o.ensures.1 c.loop-i-test.true c.info_ref-fault.ensures c.if-fault-ne0.true
     ∙ c.loop-i.invariant.1
 
 pub loop-i-preserved : goal.loop-i-preserved
@@ -41,7 +36,7 @@ unfolding layout_of
 loop-i-preserved c =
     let o = c.reference_offsets-rs in (
       search picks,
-      over-more (F c) o.result.count o.result.at o.ensures.0 o.ensures.1 c.loop-i-test.true c.info_ref-fault.ensures c.if-fault-ne0.false
+      over-more (info_fault c.args.heap.now c.args.from c.args.position c.args.x.now) o.result.count o.result.at o.ensures.0 o.ensures.1 c.loop-i-test.true c.info_ref-fault.ensures c.if-fault-ne0.false
           ∙ c.loop-i.invariant.1,
     )
 

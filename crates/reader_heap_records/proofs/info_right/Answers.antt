@@ -12,11 +12,11 @@ pub returns-then-not-is_version : goal.returns-then-not-is_version
 unfolding info_right
 returns-then-not-is_version c =
     let v = c.is_version in
-    rw (← v.ensures, not-true v.result c.if-not-is_version.true) refl
+    rw (← v.ensures, c.if-not-is_version.true) refl
 
 -- the version is one that there is
 known : (c : Else-not-is_version) → let a = c.args in (eqb a.version 1 || eqb a.version 2) ≡ true
-known c = let v = c.is_version in sym v.ensures ∙ not-false v.result c.if-not-is_version.false
+known c = let v = c.is_version in sym v.ensures ∙ c.if-not-is_version.false
 
 pub returns-then-flags-eq0 : goal.returns-then-flags-eq0
 unfolding info_right

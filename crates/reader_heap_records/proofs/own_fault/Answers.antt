@@ -8,13 +8,7 @@ use native.Mathlib.Omega.{arith}
 use lib.ListN.{length, drop}
 use mathlib.Core.Path.{◌≡◌, refl, ◌∙◌}
 use Rattle.table.proofs.Rules.{picks}
-use Rattle.reader_heap_records.proofs.own_fault.Goals.{After-own_ref-fault}
 use Rattle.reader_heap_records.proofs.own_fault.Goals as goal
-
--- a turn
-module _ (c : After-own_ref-fault) where
-  abbrev F : ℕ → ℕ
-  F = let s = c.args in own_fault s.kind s.heap.now s.from s.x.now
 
 pub loop-i-init : goal.loop-i-init
 loop-i-init c = (search picks, refl)
@@ -34,7 +28,7 @@ pub returns-then-fault-ne0 : goal.returns-then-fault-ne0
 unfolding own_faults
 returns-then-fault-ne0 c =
     let o = c.reference_offsets-rs in
-    over-stop (F c) o.result.count o.result.at o.ensures.0 o.ensures.1 c.loop-i-test.true
+    over-stop (own_fault c.args.kind c.args.heap.now c.args.from c.args.x.now) o.result.count o.result.at o.ensures.0 o.ensures.1 c.loop-i-test.true
     c.own_ref-fault.ensures c.if-fault-ne0.true
     ∙ c.loop-i.invariant.1
 
@@ -42,7 +36,7 @@ pub loop-i-preserved : goal.loop-i-preserved
 loop-i-preserved c =
     let o = c.reference_offsets-rs in (
       search picks,
-      over-more (F c) o.result.count o.result.at o.ensures.0 o.ensures.1
+      over-more (own_fault c.args.kind c.args.heap.now c.args.from c.args.x.now) o.result.count o.result.at o.ensures.0 o.ensures.1
           c.loop-i-test.true c.own_ref-fault.ensures c.if-fault-ne0.false
           ∙ c.loop-i.invariant.1,
     )

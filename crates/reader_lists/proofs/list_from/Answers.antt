@@ -22,7 +22,6 @@ record_fault-found-requires c =
     let q = stride i a.count a.step h in
     let w = c.requires.step_in_bounds.0 (omega arith) in
     let b = c.requires.step_in_bounds.1 (omega arith) in
-    let e = c.loop-i.invariant.1 in
     (c.requires.laid_out.0, c.requires.laid_out.1, c.requires.laid_out.2, omega arith, c.requires.laid_out.3)
 
 -- what a turn found, at the position however it is written
@@ -61,7 +60,6 @@ overflow_add-base c =
     let i = c.loop-i.i in
     let q = stride i a.count a.step h in
     let w = c.requires.step_in_bounds.0 (omega arith) in
-    let e = c.loop-i.invariant.1 in
     omega arith
 
 pub loop-i-preserved : goal.loop-i-preserved

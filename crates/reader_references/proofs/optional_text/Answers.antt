@@ -41,6 +41,5 @@ returns-in-Wrong c =
 pub returns-in-Part : goal.returns-in-Part
 returns-in-Part c =
     let a = c.args in
-    let x = c.x-1.given in
     c.text_number.ensures
     ∙ text-there Optional a.heap.now a.from (reference_at a.t.now a.r) c.in-Part.at c.in-Part.len (sym c.ref_at-x.ensures ∙ c.in-Part.is) refl

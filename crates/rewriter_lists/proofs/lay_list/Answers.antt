@@ -40,14 +40,13 @@ lay_position-cursor-requires c =
     let h = c.loop-position-test.true in
     let m = size-more t k l.position n h in
     let q = one_less n l.position (base_of (layout_of k)) h in
-    (ok, (omega (arith, q, l.invariant.1), omega (arith, m, l.invariant.2, l.invariant.3, c.requires.kind_bound)))
+    record { accepted = ok; kind_bound = (omega (arith, q, l.invariant.1), omega (arith, m, l.invariant.2, l.invariant.3, c.requires.kind_bound)); }
 
 pub overflow_add-at : goal.overflow_add-at
 overflow_add-at c =
     let a = c.args in
     let t = a.t.now in
     let k = a.kind in
-    let ok = c.requires.accepted in
     let l = c.loop-position in
     let n = c.count_of-count.result in
     omega (
@@ -57,7 +56,7 @@ overflow_add-at c =
       l.invariant.2,
       c.base_size-base.ensures,
       c.requires.kind_bound,
-      c.well-formed.0.0,
+      c.well_formed.0.0,
     )
 
 pub loop-position-smaller : goal.loop-position-smaller

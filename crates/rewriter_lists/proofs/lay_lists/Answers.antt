@@ -12,10 +12,7 @@ lay_list-ssns_next-requires c =
     let ok = c.requires.accepted in
     let sp = span-parts t (λ i. omega (arith, c.type_inv.t i)) ok in
     let sb = size-body t (λ i. omega (arith, c.type_inv.t i)) ok a.next in
-    let w = c.list_span.ensures.0 in
-    let v = c.list_span-2.ensures.0 in
-    let x = c.list_span-3.ensures.0 in
-    (ok, (omega (arith, sp, c.requires.t_bound), omega (arith, sb, c.requires.t_bound)))
+    record { accepted = ok; kind_bound = (omega (arith, sp, c.requires.t_bound), omega (arith, sb, c.requires.t_bound)); }
 
 pub lay_list-security_next-requires : goal.lay_list-security_next-requires
 lay_list-security_next-requires c =
@@ -25,10 +22,8 @@ lay_list-security_next-requires c =
     let sp = span-parts t (λ i. omega (arith, c.type_inv.t i)) ok in
     let sb = size-body t (λ i. omega (arith, c.type_inv.t i)) ok a.next in
     let w = c.list_span.ensures.0 in
-    let v = c.list_span-2.ensures.0 in
-    let x = c.list_span-3.ensures.0 in
     let p = c.lay_list-ssns_next in
-    (ok, (omega (arith, sp, c.requires.t_bound, w, p.ensures.0), omega (arith, sb, c.requires.t_bound, p.ensures.0, p.auto.out)))
+    record { accepted = ok; kind_bound = (omega (arith, sp, c.requires.t_bound, w, p.ensures.0), omega (arith, sb, c.requires.t_bound, p.ensures.0, p.auto.out)); }
 
 pub lay_list-discovery_next-requires : goal.lay_list-discovery_next-requires
 lay_list-discovery_next-requires c =
@@ -39,15 +34,11 @@ lay_list-discovery_next-requires c =
     let sb = size-body t (λ i. omega (arith, c.type_inv.t i)) ok a.next in
     let w = c.list_span.ensures.0 in
     let v = c.list_span-2.ensures.0 in
-    let x = c.list_span-3.ensures.0 in
     let p = c.lay_list-ssns_next in
-    let q = c.lay_list-security_next in (
-      ok,
-      (
+    let q = c.lay_list-security_next in record { accepted = ok; kind_bound = (
         omega (arith, sp, c.requires.t_bound, w, v, p.ensures.0, q.ensures.0),
         omega (arith, sb, c.requires.t_bound, p.ensures.0, p.auto.out, q.ensures.0, q.auto.out),
-      ),
-    )
+      ); }
 
 pub lay_list-requires : goal.lay_list-requires
 lay_list-requires c =

@@ -15,31 +15,31 @@ use borrow.Author.Rules.{rules}
 use Rattle.rewriter_objects.proofs.lay_held.Goals as goal
 
 pub heap_record-info-requires : goal.heap_record-info-requires
-heap_record-info-requires c = (rw c.in-3.is at c.requires).0.1.within
+heap_record-info-requires c = (rw c.in-3.is at c.requires).accepted.1.within
 
 pub lay_info_record-requires : goal.lay_info_record-requires
 unfolding layout_of hfi
 lay_info_record-requires c =
     let a = c.args in
     let p = rw c.in-3.is at c.requires in
-    let z = spans-held a.t.now p.0.0 3 a.source p.0.1 16 refl in
+    let z = spans-held a.t.now p.accepted.0 3 a.source p.accepted.1 16 refl in
     rw c.heap_record-info.ensures
-    ((p.0.0, record-held a.t.now p.0.0 a.source 3 (refl, p.0.1)), (omega (arith, p.1.0), omega (arith, p.1.1, z)))
+    (record { accepted = (p.accepted.0, record-held a.t.now p.accepted.0 a.source 3 (refl, p.accepted.1)); slot_bound = (omega (arith, p.kind_bound.0), omega (arith, p.kind_bound.1, z)) })
 
 pub heap_record-extended-requires : goal.heap_record-extended-requires
-heap_record-extended-requires c = (rw c.in-4.is at c.requires).0.1.within
+heap_record-extended-requires c = (rw c.in-4.is at c.requires).accepted.1.within
 
 pub lay_flat_record-requires : goal.lay_flat_record-requires
 unfolding layout_of ssns extended
 lay_flat_record-requires c =
     let a = c.args in
     let p = rw c.in-4.is at c.requires in
-    let z = spans-held a.t.now p.0.0 4 a.source p.0.1 60 refl in
+    let z = spans-held a.t.now p.accepted.0 4 a.source p.accepted.1 60 refl in
     rw c.heap_record-extended.ensures
-    ((p.0.0, record-held a.t.now p.0.0 a.source 4 (refl, p.0.1), refl), (omega (arith, p.1.0), omega (arith, p.1.1, z)))
+    (record { accepted = (p.accepted.0, record-held a.t.now p.accepted.0 a.source 4 (refl, p.accepted.1), refl); slot_bound = (omega (arith, p.kind_bound.0), omega (arith, p.kind_bound.1, z)) })
 
 pub lay_identity-requires : goal.lay_identity-requires
-lay_identity-requires c = rw c.in-7.is at c.requires
+lay_identity-requires c = let p = rw c.in-7.is at c.requires in record { accepted = p.accepted; layout_of_bound = p.kind_bound }
 
 pub returns-in-3 : goal.returns-in-3
 unfolding layout_of hfi
@@ -51,7 +51,7 @@ returns-in-3 c =
     let p = rw c.in-3.is at c.requires in
     let f = c.lay_info_record in
     let e = c.heap_record-info.ensures in
-    rw c.in-3.is (over-held t p.0.0 3 a.source p.0.1 16 refl x f.new.out a.place h f.result
+    rw c.in-3.is (over-held t p.accepted.0 3 a.source p.accepted.1 16 refl x f.new.out a.place h f.result
     (f.ensures.0 ∙ ap (λ (w : Seat). h + (record_part t 7 w).span) e)
     (f.ensures.1 ∙ ap (λ (w : Seat). laid x (a.place + 16) (ref_num h (record_part t 7 w).len) h (record_bytes t 7 h w)) e))
 
@@ -65,7 +65,7 @@ returns-in-4 c =
     let p = rw c.in-4.is at c.requires in
     let f = c.lay_flat_record in
     let e = c.heap_record-extended.ensures in
-    rw c.in-4.is (over-held t p.0.0 4 a.source p.0.1 60 refl x f.new.out a.place h f.result
+    rw c.in-4.is (over-held t p.accepted.0 4 a.source p.accepted.1 60 refl x f.new.out a.place h f.result
     (f.ensures.0 ∙ ap (λ (w : Seat). h + (record_part t 9 w).span) e)
     (f.ensures.1 ∙ ap (λ (w : Seat). laid x (a.place + 60) (ref_num h (record_part t 9 w).len) h (record_bytes t 9 h w)) e))
 

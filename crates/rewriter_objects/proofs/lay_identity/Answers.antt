@@ -20,7 +20,7 @@ lay_flat_record-requires c =
     let d = c.requires.accepted.1 in
     let z = spans-held a.t.now ok 7 a.source d 110 refl in
     rw c.heap_record-seat.ensures
-    ((ok, record-held a.t.now ok a.source 7 (refl, d), refl), (omega (arith, c.requires.layout_of_bound.0), omega (arith, c.requires.layout_of_bound.1, z)))
+    (record { accepted = (ok, record-held a.t.now ok a.source 7 (refl, d), refl); slot_bound = (omega (arith, c.requires.layout_of_bound.0), omega (arith, c.requires.layout_of_bound.1, z)) })
 
 pub returns : goal.returns
 unfolding layout_of info

@@ -22,7 +22,7 @@ unfolding record_part layout_of info
 lay_objects-behind-requires c =
     let a = c.args in
     let z = sized-split a.t.now c.requires.accepted.0 7 a.source c.requires.accepted.1 in
-    (c.requires.accepted, (omega arith, omega (arith, z, c.requires.slot_bound, c.put_slot.auto.part, c.put_record.auto.out)))
+    record { accepted = c.requires.accepted; kind_bound = (omega arith, omega (arith, z, c.requires.slot_bound, c.put_slot.auto.part, c.put_record.auto.out)); }
 
 pub lay_identity-requires : goal.lay_identity-requires
 unfolding record_part layout_of info

@@ -18,12 +18,9 @@ lay_object-cursor-requires c =
     let r = c.reference_offsets-refs in
     let l = c.loop-i in
     let h : l.i < length (objects_of k) = omega (arith, c.loop-i-test.true, c.object_count-count.ensures.0) in
-    let o = offset-is k r.result.at r.result.count l.i r.ensures.0 h r.ensures.1 in (
-      (c.requires.accepted.0, c.requires.accepted.1, rw o (plain-each k l.i h)),
-      walk-room a.t.now c.requires.accepted.0 k a.source c.requires.accepted.1 (objects_of k)
+    let o = offset-is k r.result.at r.result.count l.i r.ensures.0 h r.ensures.1 in record { accepted = (c.requires.accepted.0, c.requires.accepted.1, rw o (plain-each k l.i h)); offset_bound = walk-room a.t.now c.requires.accepted.0 k a.source c.requires.accepted.1 (objects_of k)
           (objects-within a.t.now c.requires.accepted.0 k a.source c.requires.accepted.1) a.out.now a.place a.next
-          c.requires.kind_bound.0 c.requires.kind_bound.1 l.out l.cursor l.i l.invariant.1 _ h o,
-    )
+          c.requires.kind_bound.0 c.requires.kind_bound.1 l.out l.cursor l.i l.invariant.1 _ h o; }
 
 pub loop-i-smaller : goal.loop-i-smaller
 loop-i-smaller c = omega (arith, c.loop-i-test.true)

@@ -8,7 +8,7 @@ pub lay_listed_objects-behind_objects-requires : goal.lay_listed_objects-behind_
 lay_listed_objects-behind_objects-requires c =
     let a = c.args in
     let z = sized-split a.t.now c.requires.accepted.0 a.kind a.source c.requires.accepted.1 in
-    (c.requires.accepted, (c.requires.kind_bound.0, omega (arith, c.requires.kind_bound, z, c.put_record.auto.out)))
+    record { accepted = c.requires.accepted; kind_bound = (c.requires.kind_bound.0, omega (arith, c.requires.kind_bound, z, c.put_record.auto.out)); }
 
 pub lay_listed_held-requires : goal.lay_listed_held-requires
 lay_listed_held-requires c =

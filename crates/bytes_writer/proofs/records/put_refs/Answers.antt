@@ -29,10 +29,10 @@ loop-i-preserved c =
       search picks,
       omega (arith, c.requires.room.short l.i k, l.invariant.1),
       search picks,
-      stores-turn l.part p.new.part a.t2.at a.t3.len a.t3.span l.next l.i a.t2.count k
+      stores-turn l.part p.new.part a.offsets.at a.sizes.len a.sizes.span l.next l.i a.offsets.count k
           p.ensures
           ∙ l.invariant.3,
     )
 
 pub returns : goal.returns
-returns c = let l = c.loop-i in let a = c.args in cc (stores-done l.part a.t2.at a.t3.len a.t3.span l.next l.i a.t2.count c.loop-i-test.false)
+returns c = let l = c.loop-i in let a = c.args in cc (stores-done l.part a.offsets.at a.sizes.len a.sizes.span l.next l.i a.offsets.count c.loop-i-test.false)

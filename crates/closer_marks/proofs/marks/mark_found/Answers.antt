@@ -9,13 +9,11 @@ returns-then-found-eq0 c = rw (eq-eqb c.args.found.len 0 c.if-found-eq0.true) re
 
 pub overflow_sub-found : goal.overflow_sub-found
 overflow_sub-found c =
-    let l = c.if-found-eq0.false in
     let p = c.requires (omega arith) in
     p.0
 
 pub mark_all-requires : goal.mark_all-requires
 mark_all-requires c =
-    let l = c.if-found-eq0.false in
     let p = c.requires (omega arith) in
     (p.1, p.2)
 

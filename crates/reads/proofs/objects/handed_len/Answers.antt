@@ -7,12 +7,12 @@ use Rattle.reads.proofs.objects.handed_len.Goals as goal
 
 pub returns-then-not-holds_text : goal.returns-then-not-holds_text
 unfolding handed_len
-returns-then-not-holds_text c = rw (← c.Holds-text.ensures, not-true c.Holds-text.result c.if-not-holds_text.true) (refl, omega arith)
+returns-then-not-holds_text c = rw (← c.holds_text.ensures, c.if-not-holds_text.true) (refl, omega arith)
 
 pub returns-then-len-eq0 : goal.returns-then-len-eq0
 unfolding handed_len
-returns-then-len-eq0 c = rw (← c.Holds-text.ensures, not-false c.Holds-text.result c.if-not-holds_text.false, c.if-len-eq0.true) (refl, omega arith)
+returns-then-len-eq0 c = rw (← c.holds_text.ensures, c.if-not-holds_text.false, c.if-len-eq0.true) (refl, omega arith)
 
 pub returns : goal.returns
 unfolding handed_len
-returns c = rw (← c.Holds-text.ensures, not-false c.Holds-text.result c.if-not-holds_text.false) (refl, omega arith)
+returns c = rw (← c.holds_text.ensures, c.if-not-holds_text.false) (refl, omega arith)

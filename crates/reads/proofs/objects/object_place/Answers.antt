@@ -22,4 +22,4 @@ unfolding read_place
 returns c =
     let e = ap (λ (x : Answer). x.number) c.check-a.ensures in
     rw (eq-eqb (check c.args.t.now).number 0
-    (sym e ∙ c.if-a-ne0.false)) c.IsPlace-in.ensures
+    (sym e ∙ c.if-a-ne0.false)) c.place_in.ensures

@@ -19,13 +19,10 @@ unfolding read_records records_bytes
 returns-then-a-ne0 c =
     let a = c.args in
     let e = ap (λ (x : Answer). x.number) c.check-a.ensures in
-    let bad = ne_eqb (check a.t.now).number 0 (λ z. c.if-a-ne0.true (e ∙ z)) in (
-      (
+    let bad = ne_eqb (check a.t.now).number 0 (λ z. c.if-a-ne0.true (e ∙ z)) in record { value = (
         rw bad (c.refused_records.ensures ∙ ap refused_records c.check-a.ensures),
         rw bad (splice-none a.out.now 0),
-      ),
-      rw c.refused_records.ensures (lit≤ tt, lit≤ tt),
-    )
+      ); written_le_total = rw c.refused_records.ensures (lit≤ tt, lit≤ tt); }
 
 pub records_in-requires : goal.records_in-requires
 records_in-requires c =

@@ -20,16 +20,13 @@ returns-then-position-first_of c =
     let a = c.args in
     let out = a.out.now in
     let before : leb (first_of a.kind) a.position ≡ false = lt-leb (first_of a.kind) a.position
-    (omega (arith, c.first_of.ensures, c.if-position-first_of.true)) in (
-      (
+    (omega (arith, c.first_of.ensures, c.if-position-first_of.true)) in record { value = (
         rw before (c.refused_records.ensures ∙ ap refused_records c.refuse.ensures),
         splice-none out 0
             ∙ ap (λ (r : Records). splice out 0
             (take (184 * r.written) (entries_of a.t.now a.kind a.position (kinds_to a.kind a.last))))
             (sym c.refused_records.ensures),
-      ),
-      rw c.refused_records.ensures (lit≤ tt, lit≤ tt),
-    )
+      ); written_le_total = rw c.refused_records.ensures (lit≤ tt, lit≤ tt); }
 
 pub returns-then-left_of-eq0 : goal.returns-then-left_of-eq0
 unfolding records_in records_answer
@@ -40,16 +37,13 @@ returns-then-left_of-eq0 c =
     (omega (arith, c.first_of.ensures, c.if-position-first_of.false)) in
     let none : eqb (left_of a.t.now a.kind a.position) 0 ≡ true = eq-eqb
     (left_of a.t.now a.kind a.position) 0
-    (sym c.left_of.ensures.0 ∙ c.if-left_of-eq0.true) in (
-      (
+    (sym c.left_of.ensures.0 ∙ c.if-left_of-eq0.true) in record { value = (
         rw (at, none) (c.refused_records-then-left_of-eq0.ensures ∙ ap refused_records c.refuse-then-left_of-eq0.ensures),
         splice-none out 0
             ∙ ap (λ (r : Records). splice out 0
             (take (184 * r.written) (entries_of a.t.now a.kind a.position (kinds_to a.kind a.last))))
             (sym c.refused_records-then-left_of-eq0.ensures),
-      ),
-      rw c.refused_records-then-left_of-eq0.ensures (lit≤ tt, lit≤ tt),
-    )
+      ); written_le_total = rw c.refused_records-then-left_of-eq0.ensures (lit≤ tt, lit≤ tt); }
 
 pub kinds_to-kinds-requires : goal.kinds_to-kinds-requires
 kinds_to-kinds-requires c = let a = c.args in

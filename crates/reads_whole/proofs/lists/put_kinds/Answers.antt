@@ -17,7 +17,7 @@ pub loop-rest-init : goal.loop-rest-init
 unfolding least
 loop-rest-init c = 
     let a = c.args in
-    let whole = entries_of a.t.now a.first_kind a.first-position a.kinds in
+    let whole = entries_of a.t.now a.first_kind a.first_position a.kinds in
     (refl, c.requires.3, rw (le-leb 0 a.room (omega arith)) refl, omega arith, omega arith, refl, omega arith, refl, zero-add _, splice-none a.out.now 0)
 
 pub put_run-requires : goal.put_run-requires
@@ -39,7 +39,7 @@ loop-rest-preserved c =
     let left = c.left_of-left in
     let fits = c.least_of-fits in
     let first = c.first_of-position in
-    let whole = entries_of t a.first_kind a.first-position a.kinds in
+    let whole = entries_of t a.first_kind a.first_position a.kinds in
     let later = entries_of t (l.kind + 1) (first_of (l.kind + 1)) (l.rest - 1) in
     let ahead : drop (184 * l.total) whole ≡ rows (entry_at t l.kind) l.position left.result ++ later =
     l.invariant.7 ∙ entries-more t l.kind l.position l.rest taken ∙ ap

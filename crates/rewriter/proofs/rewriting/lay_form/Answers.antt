@@ -20,7 +20,7 @@ lay_entry-after_driver-requires c =
     let ok = c.requires.0 in
     let b : Bytes t = λ i. omega (arith, c.type_inv.t i) in
     let z = sizes-are t b ok c.args.size c.args.heap c.requires.1 c.requires.2 in
-    (ok, (omega (arith, z.0, base-small 0), omega (arith, z.1, c.requires.3)))
+    record { accepted = ok; kind_bound = (omega (arith, z.0, base-small 0), omega (arith, z.1, c.requires.3)); }
 
 pub overflow_sub-size : goal.overflow_sub-size
 overflow_sub-size c =
@@ -45,13 +45,10 @@ lay_entry-after_host-requires c =
     let ok = c.requires.0 in
     let b : Bytes t = λ i. omega (arith, c.type_inv.t i) in
     let z = sizes-are t b ok c.args.size c.args.heap c.requires.1 c.requires.2 in
-    let e = c.lay_entry-after_driver in (
-      ok,
-      (
+    let e = c.lay_entry-after_driver in record { accepted = ok; kind_bound = (
         omega (arith, z.0, e.ensures.0),
         omega (arith, z.1, e.ensures.0, c.requires.3, e.auto.out, c.lay_front.auto.out),
-      ),
-    )
+      ); }
 
 pub lay_lists-requires : goal.lay_lists-requires
 lay_lists-requires c =

@@ -22,7 +22,6 @@ unfolding record_part
 returns-in-At c =
     let a = c.args in
     let k = a.kind in
-    let g = c.seat-1.given in
     let b = c.base_size-size.ensures in
     let o = c.objects_size-len.ensures in
     let z = sized-flat a.t.now c.requires.0 k c.in-At.at (rw c.in-At.is at c.requires.1) c.requires.2 in

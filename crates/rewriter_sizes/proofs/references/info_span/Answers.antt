@@ -21,7 +21,6 @@ pub returns-in-At : goal.returns-in-At
 unfolding record_part layout_of info
 returns-in-At c =
     let a = c.args in
-    let g = c.seat-1.given in
     let o = c.objects_size-objects.ensures in
     let h = c.identity_span-identity.ensures in
     let z = sized-split a.t.now c.requires.0 7 c.in-At.at (rw c.in-At.is at c.requires.1) in
