@@ -67,7 +67,7 @@ Clear t w = w.next < ref_count w.kind → (s : Site) → In s (sites t) → Alig
 
 pub stores-append : (t u : List ℕ) (xs ys : List Site) → apply (apply u (offsets_of t xs)) (offsets_of t ys) ≡ apply u (offsets_of t (xs ++ ys))
 stores-append t u [] ys = refl
-stores-append t u (x ∷ xs) ys = stores-append t _ xs ys
+stores-append t u (x ∷ xs) ys = stores-append t (apply u (offsets_of t (x ∷ []))) xs ys
 
 -- one site more
 pub stored_more : (t : List ℕ) (pre : List Site) (s : Site) → apply (apply t (offsets_of t pre)) (offsets_of t (s ∷ [])) ≡ apply t (offsets_of t (pre ++ (s ∷ [])))
