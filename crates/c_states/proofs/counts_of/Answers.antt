@@ -5,4 +5,4 @@ use borrow.Author.Rules.{rules}
 use Rattle.c_states.proofs.counts_of.Goals as goal
 
 pub returns : goal.returns
-returns c = let b = c.args.t1 in let l : length b ≡ 4 = search rules in four_bytes b l
+returns c = let b = c.args.b in let l : length b ≡ 4 = search rules in four_bytes b l

@@ -25,14 +25,11 @@ use Rattle.closer.proofs.compact.Goals.{Else-fault-ne0}
 use Rattle.closer.proofs.compact.Goals as goal
 
 module _ (c : Else-fault-ne0) where
-  abbrev began : tie.Start
-  began = c
-
   abbrev t : List ℕ
-  t = began.args.t.now
+  t = c.args.t.now
 
   abbrev room : ℕ
-  room = length began.args.map.now
+  room = length c.args.map.now
 
   -- the answer, where no test fails
   same_answer : c.closing_fault-fault.result ≡ close_answer t room
@@ -52,7 +49,7 @@ returns-then-judged-ne0 c =
     let no : (check t).number ≡ 0 → ⊥ = λ z. c.if-judged-ne0.true (ap (λ (a : Answer). a.number) j ∙ z) in
     let e = by-check t (length m) no in
     let r = all-refused t m (λ z. no (sym (ap (λ (a : Answer). a.number) e) ∙ z)) in
-    ((c.refused.ensures.0 ∙ j ∙ sym e, c.refused.ensures.1 ∙ r.0, omega (arith, c.refused.ensures.1)), (r.1, r.2))
+    record { answer_value = (c.refused.ensures.0 ∙ j ∙ sym e, c.refused.ensures.1 ∙ r.0, omega (arith, c.refused.ensures.1)); t_after = (r.1, r.2); }
 
 pub closing_fault-fault-requires : goal.closing_fault-fault-requires
 closing_fault-fault-requires c =
@@ -66,23 +63,31 @@ returns-then-fault-ne0 c =
     let f = c.closing_fault-fault.ensures in
     let e = by-fault t (length m) (sym (ap (λ (a : Answer). a.number) c.check-judged.ensures) ∙ c.if-judged-ne0.false) in
     let r = all-refused t m (λ z. c.if-fault-ne0.true (ap (λ (a : Answer). a.number) (f ∙ sym e) ∙ z)) in
-    ((c.refused-then-fault-ne0.ensures.0 ∙ f ∙ sym e, c.refused-then-fault-ne0.ensures.1 ∙ r.0, omega (arith, c.refused-then-fault-ne0.ensures.1)), (r.1, r.2))
+    record {
+      answer_value = (
+        c.refused-then-fault-ne0.ensures.0 ∙ f ∙ sym e,
+        c.refused-then-fault-ne0.ensures.1 ∙ r.0,
+        omega (arith, c.refused-then-fault-ne0.ensures.1),
+      );
+      t_after = (r.1, r.2);
+    }
 
 pub mark_map-requires : goal.mark_map-requires
-mark_map-requires c = let f = fine c in (f.0, f.1)
+mark_map-requires c = let f = fine (goal.at.mark_map-requires c).Else-fault-ne0 in (f.0, f.1)
 
 pub close_table-requires : goal.close_table-requires
 close_table-requires c =
-    let f = fine c in
+    let t = c.args.t.now in
+    let f = fine (goal.at.close_table-requires c).Else-fault-ne0 in
     let e = c.mark_map.ensures in
-    let l = ap length e ∙ length-map (marks (t c)) 0 (room c) in
-    (f.0, f.2, omega (arith, f.1, l), e ∙ ap (map_of (marks (t c)) 0) (sym l))
+    let l = ap length e ∙ length-map (marks t) 0 (length c.args.map.now) in
+    (f.0, f.2, omega (arith, f.1, l), e ∙ ap (map_of (marks t) 0) (sym l))
 
 pub returns : goal.returns
 returns c =
     let t = c.args.t.now in
     let m = c.args.map.now in
-    let e = same_answer c in
+    let e = same_answer (goal.at.returns c).Else-fault-ne0 in
     let d = all_done t m (sym (ap (λ (a : Answer). a.number) e) ∙ c.if-fault-ne0.false) in
     let k = c.close_table.ensures in
     record { answer_value = (e, k.0 ∙ d.0, k.1); t_after = (k.2 ∙ d.1, c.mark_map.ensures ∙ d.2); }
