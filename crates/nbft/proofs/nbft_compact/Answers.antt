@@ -10,7 +10,7 @@ pub pack_counted-requires : goal.pack_counted-requires
 pack_counted-requires c =
     let a = c.args in
     let e = c.compact-done.ensures.answer_value in
-    (rw e.0 (close-placed a.t.now (λ i. omega (arith, c.type_inv.t i)) (length a.map.now)), e.2)
+    (rw e.0 (close-placed a.t.now (λ i. omega (arith, c.slice_known-1.given i)) (length a.map.now)), e.2)
 
 pub returns : goal.returns
 returns c =

@@ -11,7 +11,7 @@ use Rattle.nbft.proofs.building.nbft_begin.Goals as goal
 pub show-requires : goal.show-requires
 show-requires c =
     let a = c.args in
-    let c4 = c.Counts-of.result in
+    let c4 = c.counts_of.result in
     rw c.begin-step.ensures.0 (begin-placed c.state_of.result a.out.now
     a.header.now (c4.hfi ∷ c4.ssns ∷ c4.security ∷ c4.discovery ∷ []) a.signature.now)
 
@@ -23,6 +23,6 @@ returns c =
     (c.begin-step.ensures.0
     ∙
     ap (λ (cs : List ℕ). (begin_with c.state_of.result a.out.now a.header.now cs a.signature.now).step)
-    c.Counts-of.ensures) (c.begin-step.ensures.1
+    c.counts_of.ensures) (c.begin-step.ensures.1
     ∙ ap (λ (cs : List ℕ). (begin_with c.state_of.result a.out.now a.header.now cs
-    a.signature.now).buffer) c.Counts-of.ensures) c.show.ensures.0 c.show.ensures.1
+    a.signature.now).buffer) c.counts_of.ensures) c.show.ensures.0 c.show.ensures.1

@@ -10,7 +10,7 @@ pub show-requires : goal.show-requires
 show-requires c =
     let a = c.args in
     rw c.finish-step.ensures.0 (finish-placed c.state_of.result a.out.now
-    (λ i. omega (arith, c.type_inv.out i)))
+    (λ i. omega (arith, c.slice_known-1.given i)))
 
 pub returns : goal.returns
 returns c =
