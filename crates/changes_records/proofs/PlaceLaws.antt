@@ -1,19 +1,18 @@
 -- Places of two tables: which positions are there, what stands at each, and that a walk goes over all of it. Assumes nothing.
 use mathlib.Core.Path.{◌≡◌, refl, sym, ap, ap₂, ◌∙◌}
 use mathlib.Core.Bool.{Bool, true, false}
-use mathlib.Core.List.{List, [], ◌∷◌, ◌++◌, append_assoc, append-nil}
+use mathlib.Core.List.{List, [], ◌∷◌, ◌++◌, append_assoc}
 use Prim.Native.Nat.{ℕ, zero, suc, ◌+◌, ◌-◌, ◌≤◌, ◌<◌}
 use native.Mathlib.Omega.{arith}
 use lib.ListN.{get_or}
-use lib.Dec.{eqb, leb, ltb}
-use borrow.Author.Tests.{eq-eqb, le-leb, le-ltb, lt-leb, lt-ltb, ltb-false, ltb-true, ne_eqb}
-use Rattle.table.specs.Bytes.{pick}
-use Rattle.table.specs.Layout.{Layout, low}
+use lib.Dec.{eqb, ltb}
+use borrow.Author.Tests.{le-leb, le-ltb, lt-leb, lt-ltb, ltb-false, ltb-true, ne_eqb}
+use Rattle.table.specs.Layout.{Layout}
 use Rattle.table.specs.FixedLayouts.{control, discovery, hfi, security, ssns}
 use Rattle.table.specs.Reads.{image_at, list_seat, seat_of}
 use Rattle.laws.specs.Fields.{Bytes}
 use Rattle.reader.specs.Accepted.{Accepted}
-use Rattle.reads_seats.specs.Told.{count_at, count_of, image_of}
+use Rattle.reads_seats.specs.Told.{count_of, image_of}
 use Rattle.reads_seats.proofs.MeaningLaws.{counted}
 use Rattle.changes.specs.Changes.{Line, only_on}
 use Rattle.changes_records.specs.declared.places.Walk.{Walk}

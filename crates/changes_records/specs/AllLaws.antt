@@ -1,18 +1,18 @@
 -- What the reads tell of two tables, place by place, is what their meanings say differently. Assumes nothing.
-use Rattle.std.specs.Prelude.{◌≡◌, ◌↔◌, Bool, take, drop, replicate, T, eqb}
+use Rattle.std.specs.Prelude.{◌≡◌, ◌↔◌, Bool, drop, replicate}
 use Rattle.std.proofs.Math.Path.{refl, ap, ap₂}
 use Rattle.std.proofs.Common.{sym, ◌∙◌, ext_get_or}
 use Rattle.std.proofs.Math.Bool.{true, false}
-use mathlib.Core.List.{List, [], ◌∷◌, ◌++◌, append_assoc, append-nil}
+use mathlib.Core.List.{List, [], ◌∷◌, ◌++◌}
 use Prim.Native.Nat.{ℕ, zero, suc, ◌+◌, ◌-◌, ◌≤◌, ◌<◌}
 use native.Mathlib.Omega.{arith}
 use Rattle.std.proofs.Math.ListN.{length, get_or, length-append, get_or-append}
 use Rattle.std.proofs.Math.Dec.{leb}
 use borrow.Author.Tests.{le-leb, lt-leb}
 use Rattle.table.specs.Bytes.{padded, part, pick}
-use Rattle.table.specs.Layout.{Entry, Layout, image, unused, used}
-use Rattle.table.specs.FixedLayouts.{control, discovery, header, hfi, host, layout_of, list_kinds, security, ssns}
-use Rattle.table.specs.Meaning.{Meaning, meaning}
+use Rattle.table.specs.Layout.{Layout, image, unused, used}
+use Rattle.table.specs.FixedLayouts.{control, discovery, header, hfi, host, layout_of, security, ssns}
+use Rattle.table.specs.Meaning.{meaning}
 use Rattle.table.specs.Reads.{seat_of}
 use Rattle.laws.specs.AcceptedMeaning.{lawful}
 use Rattle.laws.specs.Fields.{Bytes}

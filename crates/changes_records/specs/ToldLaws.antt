@@ -9,16 +9,15 @@ use Rattle.std.proofs.Math.ListN.{length}
 use Rattle.std.proofs.Math.Dec.{eqb}
 use Rattle.std.proofs.Math.Facts.{and_yes}
 use Rattle.table.specs.declared.Region.{Region}
-use Rattle.table.specs.declared.Image.{Image}
 use Rattle.table.specs.Bytes.{pick}
 use Rattle.table.specs.Layout.{Refs, Shape, Slots, nest, none, plain}
 use Rattle.table.specs.FixedLayouts.{discovery, extended, header, hfi, hfi_extended, host, info, layout_of, security, ssns}
 use Rattle.table.specs.Reads.{has_plain, width_at}
 use Rattle.reads_seats.specs.Objects.{object_in}
-use Rattle.reads_seats.specs.Told.{bytes_of, depth, image_of, inner_kind, told_nest, told_slots}
+use Rattle.reads_seats.specs.Told.{bytes_of, depth, image_of, inner_kind, told_slots}
 use Rattle.changes.specs.Changes.{Line, each, id_of, named_lines, object_line, offset_lines, only_on, record_lines}
 use Rattle.changes.specs.ChangeLaws.{each-nothing}
-use Rattle.changes_records.specs.Told.{held_lines, own_lines, plain_lines, whole_lines}
+use Rattle.changes_records.specs.Told.{held_lines, own_lines, whole_lines}
 
 -- ---- the reference to a heap record stands last
 

@@ -5,7 +5,10 @@
 use rewrite_files::files::{compare_files, rewrite_file};
 
 fn main(rt: HostRuntime) {
-    if tool::helped(&rt, b"usage: nbft_rewrite IN OUT, or nbft_rewrite --same FILE FILE\n") {
+    if tool::helped(
+        &rt,
+        b"usage: nbft_rewrite IN OUT, or nbft_rewrite --same FILE FILE\n",
+    ) {
         return;
     }
     let count = tool::argument_count(&rt);

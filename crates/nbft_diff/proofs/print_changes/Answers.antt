@@ -1,18 +1,8 @@
-use mathlib.Core.Path.{◌≡◌, sym, ap, ◌∙◌}
-use Prim.Native.Nat.{◌≤◌, ◌<◌}
+use mathlib.Core.Path.{sym, ap, ◌∙◌}
 use native.Mathlib.Omega.{arith}
-use lib.ListN.{length}
 use lib.Seq.{length-take-le}
 use Rattle.changes_records.specs.declared.places.Walk.{Walk}
-use Rattle.changes_records.specs.Walk.{left}
 use borrow.Author.Rules.{rules}
-use Rattle.table.proofs.Rules.{picks}
-use Rattle.nbft_diff.proofs.print_changes.Reads as reads
-use Rattle.changes_records.proofs.places.first.Reads as first_reads
-use Rattle.changes_records.proofs.places.lines_at.Reads as lines-at-reads
-use Rattle.changes_records.proofs.places.next.Reads as next-reads
-use Rattle.io.proofs.large_buffer.Reads as large-buffer-reads
-use Rattle.tool.proofs.print_bytes.Reads as print-bytes-reads
 use Rattle.nbft_diff.proofs.print_changes.Goals as goal
 
 pub loop-w-init : goal.loop-w-init
@@ -34,7 +24,9 @@ slice_bounds-out-end c =
     omega (arith, g.0, g.2, c.loop-w.invariant.0)
 
 pub slice_bounds-print_bytes-end : goal.slice_bounds-print_bytes-end
-slice_bounds-print_bytes-end c = sym (length-take-le _ _ (array-share-prefix-out c))
+slice_bounds-print_bytes-end c =
+    let g = c.lines_at-n.ensures in
+    sym (length-take-le _ _ (omega (arith, g.0, g.2, c.loop-w.invariant.0)))
 
 pub next-w-requires : goal.next-w-requires
 next-w-requires c =

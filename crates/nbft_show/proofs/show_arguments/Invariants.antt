@@ -1,5 +1,4 @@
 use Prim.Native.Nat.{◌≤◌, ◌-◌}
-use Rattle.table.proofs.Rules.{picks}
 use Rattle.nbft_show.proofs.show_arguments.Given as goal
 
 abbrev pub invariant-loop-argument : goal.invariant-loop-argument

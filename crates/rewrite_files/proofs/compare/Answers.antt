@@ -3,7 +3,6 @@ use mathlib.Core.Path.{sym, ap, ◌∙◌}
 use native.Mathlib.Omega.{arith}
 use Rattle.laws.specs.OneForm.{Bytes}
 use Rattle.rewrite_files.proofs.Laws.{number_of, rewritable, same-tells}
-use borrow.Author.Rules.{rules}
 use Rattle.rewrite_files.proofs.compare.Goals as goal
 
 pub returns : goal.returns

@@ -2,12 +2,6 @@ use mathlib.Core.Path.{sym, ap, ◌∙◌}
 use native.Mathlib.Omega.{arith}
 use Rattle.changes.specs.Changes.{texts_of}
 use Rattle.changes_records.proofs.PlaceLaws.{at-counts, at-header, at-host, there-front}
-use borrow.Author.Rules.{rules}
-use Rattle.changes_records.proofs.places.lines_at.Reads as reads
-use Rattle.changes_records.proofs.places.listed_lines.Reads as listed-lines-reads
-use Rattle.changes_records.proofs.records.own_lines.Reads as own-lines-reads
-use Rattle.changes_records.proofs.wholes.pair_lines.Reads as pair-lines-reads
-use Rattle.changes_records.proofs.wholes.whole_lines.Reads as whole-lines-reads
 use Rattle.changes_records.proofs.places.lines_at.Goals as goal
 
 pub own_lines-requires : goal.own_lines-requires

@@ -2,10 +2,6 @@ use mathlib.Core.Path.{refl, sym, ap, ◌∙◌}
 use native.Mathlib.Omega.{arith}
 use Rattle.changes.specs.Changes.{texts_of}
 use Rattle.changes_records.proofs.PlaceLaws.{listed-none, listed-some}
-use borrow.Author.Rules.{rules}
-use Rattle.changes_records.proofs.places.listed_lines.Reads as reads
-use Rattle.changes_records.proofs.places.most_of.Reads as most-of-reads
-use Rattle.changes_records.proofs.places.position_lines.Reads as position-lines-reads
 use Rattle.changes_records.proofs.places.listed_lines.Goals as goal
 
 pub returns-then-w-most_of : goal.returns-then-w-most_of

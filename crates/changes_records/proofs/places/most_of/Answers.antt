@@ -2,9 +2,6 @@ use mathlib.Core.Path.{sym, ap₂, ◌∙◌}
 use native.Mathlib.Omega.{arith}
 use Rattle.changes_records.specs.Told.{longer}
 use Rattle.changes_records.proofs.PlaceLaws.{longer-less, longer-more}
-use borrow.Author.Rules.{rules}
-use Rattle.changes_records.proofs.places.most_of.Reads as reads
-use Rattle.reads_by_seat.proofs.counts.count_of.Reads as count-of-reads
 use Rattle.changes_records.proofs.places.most_of.Goals as goal
 
 pub returns-then-one-other : goal.returns-then-one-other

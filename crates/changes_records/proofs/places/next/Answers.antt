@@ -3,10 +3,6 @@ use native.Mathlib.Omega.{arith}
 use Rattle.changes_records.specs.declared.places.Walk.{Walk}
 use Rattle.changes_records.specs.Walk.{left}
 use Rattle.changes_records.proofs.PlaceLaws.{next-front, next-over, next-some}
-use borrow.Author.Rules.{rules}
-use Rattle.changes_records.proofs.places.next.Reads as reads
-use Rattle.changes_records.proofs.places.most_of.Reads as most-of-reads
-use Rattle.changes_records.proofs.places.walk_of.Reads as walk_of-reads
 use Rattle.changes_records.proofs.places.next.Goals as goal
 
 pub returns-then-w-lt3 : goal.returns-then-w-lt3

@@ -4,12 +4,6 @@ use Rattle.laws.specs.Fields.{Bytes}
 use Rattle.changes.specs.Changes.{texts_of}
 use Rattle.changes_records.proofs.TextLaws.{line-text}
 use Rattle.changes_records.proofs.PlaceLaws.{position-both, position-one, position-other, there-listed}
-use borrow.Author.Rules.{rules}
-use Rattle.changes_records.proofs.places.position_lines.Reads as reads
-use Rattle.changes.proofs.lines.only_line.Reads as only-line-reads
-use Rattle.changes_records.proofs.records.put_text.Reads as put-text-reads
-use Rattle.changes_records.proofs.wholes.pair_lines.Reads as pair-lines-reads
-use Rattle.reads_by_seat.proofs.counts.count_of.Reads as count-of-reads
 use Rattle.changes_records.proofs.places.position_lines.Goals as goal
 
 pub pair_lines-requires : goal.pair_lines-requires

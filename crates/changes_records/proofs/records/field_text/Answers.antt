@@ -1,11 +1,5 @@
 use mathlib.Core.Path.{◌≡◌, sym, ◌∙◌}
 use Rattle.changes_records.proofs.TextLaws.{like-text, one-outcome, unlike-text}
-use Rattle.table.proofs.Rules.{picks}
-use borrow.Author.Rules.{rules}
-use Rattle.changes_records.proofs.records.field_text.Reads as reads
-use Rattle.changes.proofs.lines.field_line.Reads as field-line-reads
-use Rattle.check.proofs.same.Reads as same__reads
-use Rattle.text.proofs.append.empty.Reads as empty-reads
 use Rattle.changes_records.proofs.records.field_text.Goals as goal
 
 pub returns-then-same : goal.returns-then-same

@@ -1,16 +1,10 @@
-use mathlib.Core.Path.{◌≡◌, refl, sym, ap, ◌∙◌}
-use mathlib.Core.List.{◌++◌, append-nil}
-use Prim.Native.Nat.{ℕ, ◌+◌, ◌-◌, ◌*◌, ◌≤◌, ◌<◌}
-use native.Mathlib.Omega.{arith}
+use mathlib.Core.Path.{◌≡◌}
+use mathlib.Core.List.{◌++◌}
+use Prim.Native.Nat.{◌+◌, ◌-◌, ◌*◌, ◌≤◌}
 use lib.ListN.{length, take}
 use Rattle.table.specs.FixedLayouts.{layout_of}
 use Rattle.changes.specs.Changes.{each, offset_lines, texts_of}
 use Rattle.changes_records.specs.Told.{plain_lines}
-use Rattle.changes_records.proofs.TextLaws.{base-most, grown}
-use Rattle.table.proofs.Rules.{picks}
-use Rattle.changes_records.proofs.records.image_lines.Reads as reads
-use Rattle.changes_records.proofs.records.offset_text.Reads as offset-text-reads
-use Rattle.changes_records.proofs.records.put_text.Reads as put-text-reads
 use Rattle.changes_records.proofs.records.image_lines.Given as goal
 
 abbrev pub invariant-loop-offset : goal.invariant-loop-offset

@@ -7,14 +7,6 @@ use native.Mathlib.Omega.{arith}
 use lib.ListN.{length}
 use Rattle.laws.specs.Fields.{Bytes}
 use Rattle.changes_records.proofs.TextLaws.{like-text, object-short, one-outcome, unlike-text}
-use Rattle.table.proofs.Rules.{picks}
-use borrow.Author.Rules.{rules}
-use Rattle.changes_records.proofs.records.object_text.Reads as reads
-use Rattle.changes.proofs.lines.differ_at.Reads as differ-at-reads
-use Rattle.changes.proofs.lines.object_line.Reads as object-line-reads
-use Rattle.check.proofs.same.Reads as same__reads
-use Rattle.reads.proofs.objects.whole_object.Reads as whole-object-reads
-use Rattle.text.proofs.append.empty.Reads as empty-reads
 use Rattle.changes_records.proofs.records.object_text.Goals as goal
 
 pub returns-then-same : goal.returns-then-same

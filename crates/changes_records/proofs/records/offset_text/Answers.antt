@@ -1,11 +1,11 @@
 use mathlib.Core.Path.{◌≡◌, refl, sym, ap, ◌∙◌}
 use mathlib.Core.Bool.{Bool, true, false}
 use mathlib.Core.List.{List, []}
-use Prim.Native.Nat.{ℕ, ◌+◌, ◌-◌, ◌≤◌, ◌<◌}
+use Prim.Native.Nat.{ℕ, ◌+◌, ◌-◌, ◌≤◌}
 use native.Mathlib.Omega.{arith}
-use lib.ListN.{length, take, drop, length-take}
+use lib.ListN.{take, drop, length-take}
 use lib.Dec.{eqb}
-use borrow.Author.Tests.{eq-eqb, ne_eqb}
+use borrow.Author.Tests.{ne_eqb}
 use Rattle.table.specs.Bytes.{part, pick}
 use Rattle.table.specs.Layout.{base_of}
 use Rattle.table.specs.FixedLayouts.{layout_of}
@@ -14,64 +14,53 @@ use Rattle.reads_seats.specs.Objects.{object_in}
 use Rattle.reads_seats.proofs.ReadLaws.{width_fits}
 use Rattle.changes.specs.Changes.{field_line, object_line, offset_lines, texts_of}
 use Rattle.changes_records.specs.Told.{plain_lines}
-use Rattle.table.proofs.Rules.{picks}
-use borrow.Author.Rules.{rules}
-use Rattle.changes_records.proofs.records.offset_text.Reads as reads
-use Rattle.changes_records.proofs.records.field_text.Reads as field-text-reads
-use Rattle.changes_records.proofs.records.object_text.Reads as object-text-reads
-use Rattle.layout_fields.proofs.has_object.Reads as has-object-reads
-use Rattle.layout_fields.proofs.field_width.Reads as field-width-reads
-use Rattle.text.proofs.append.empty.Reads as empty-reads
 use Rattle.changes_records.proofs.records.offset_text.Goals.{After-field_width-width}
 use Rattle.changes_records.proofs.records.offset_text.Goals as goal
 
 -- a field lies in the record, and is no longer than an address
 module _ (f : After-field_width-width) where
-  abbrev began : tie.Start
-  began = f.before.before.before.before.before
-
-  within : (f.field-width.result ≡ 0 → ⊥) → (began.args.offset + f.field-width.result ≤ base_of (layout_of began.args.kind)) × (f.field-width.result ≤ 16)
+  within : (f.field_width-width.result ≡ 0 → ⊥) → (f.args.offset + f.field_width-width.result ≤ base_of (layout_of f.args.kind)) × (f.field_width-width.result ≤ 16)
   within h =
-      let e = f.field-width.ensures in
-      let w = width_fits began.args.kind began.args.offset (λ z. h (e ∙ z)) in
+      let e = f.field_width-width.ensures in
+      let w = width_fits f.args.kind f.args.offset (λ z. h (e ∙ z)) in
       (omega (arith, e, w.0), omega (arith, e, w.1))
 
   -- where no field begins: an object's lines, or none
-  told-object : f.field-width.result ≡ 0 → (b : Bool) → has_plain began.args.offset (layout_of began.args.kind).refs ≡ b
+  told-object : f.field_width-width.result ≡ 0 → (b : Bool) → has_plain f.args.offset (layout_of f.args.kind).refs ≡ b
       → texts_of
-      (offset_lines began.args.kind began.args.position (layout_of began.args.kind).shape.fields began.args.one.now began.args.other.now
-      (plain_lines began.args.t.now began.args.u.now began.args.kind began.args.position) began.args.offset)
+      (offset_lines f.args.kind f.args.position (layout_of f.args.kind).shape.fields f.args.one.now f.args.other.now
+      (plain_lines f.args.t.now f.args.u.now f.args.kind f.args.position) f.args.offset)
       ≡ texts_of
       (pick b
-      (object_line began.args.kind began.args.position began.args.offset (object_in began.args.t.now began.args.kind began.args.position began.args.offset)
-      (object_in began.args.u.now began.args.kind began.args.position began.args.offset))
+      (object_line f.args.kind f.args.position f.args.offset (object_in f.args.t.now f.args.kind f.args.position f.args.offset)
+      (object_in f.args.u.now f.args.kind f.args.position f.args.offset))
       [])
-  told-object z b h = let w : width_at began.args.offset (layout_of began.args.kind).shape.fields ≡ 0 = sym f.field-width.ensures ∙ z in rw (w, h) refl
+  told-object z b h = let w : width_at f.args.offset (layout_of f.args.kind).shape.fields ≡ 0 = sym f.field_width-width.ensures ∙ z in rw (w, h) refl
 
 pub overflow_add-end : goal.overflow_add-end
-overflow_add-end c = let h = within c c.if-width-ne0.true in omega (arith, h.1, (began c).pre.3)
+overflow_add-end c = let h = within (goal.at.overflow_add-end c).After-field_width-width c.if-width-ne0.true in omega (arith, h.1, c.requires.3)
 
 pub slice_bounds-field_text-end : goal.slice_bounds-field_text-end
-slice_bounds-field_text-end c = omega (arith, (within c c.if-width-ne0.true).0, (began c).pre.4)
+slice_bounds-field_text-end c = omega (arith, (within (goal.at.slice_bounds-field_text-end c).After-field_width-width c.if-width-ne0.true).0, c.requires.4)
 
 pub slice_bounds-field_text-end-then-width-ne0 : goal.slice_bounds-field_text-end-then-width-ne0
-slice_bounds-field_text-end-then-width-ne0 c =  omega (arith, (within c c.if-width-ne0.true).0, (began c).pre.5)
+slice_bounds-field_text-end-then-width-ne0 c = omega (arith, (within (goal.at.slice_bounds-field_text-end-then-width-ne0 c).After-field_width-width c.if-width-ne0.true).0, c.requires.5)
 
 pub field_text-requires : goal.field_text-requires
 field_text-requires c =
-    let s = began c in
+    let s = c in
     let a = s.args in
-    let w = (within c c.if-width-ne0.true).1 in
+    let w = (within (goal.at.field_text-requires c).After-field_width-width c.if-width-ne0.true).1 in
     let m : ℕ = a.offset + c.field_width-width.result - a.offset in (
-      s.pre.2,
-      s.pre.3,
+      c.requires.2,
+      c.requires.3,
       omega (arith, w, length-take m (drop a.offset a.one.now)),
       omega (arith, w, length-take m (drop a.offset a.other.now)),
     )
 
 pub returns-then-width-ne0 : goal.returns-then-width-ne0
 returns-then-width-ne0 c =
-    let a = (began c).args in
+    let a = c.args in
     let t : List ℕ = a.t.now in
     let u : List ℕ = a.u.now in
     let x : List ℕ = a.one.now in
@@ -88,12 +77,12 @@ returns-then-width-ne0 c =
 
 pub returns-then-has_object : goal.returns-then-has_object
 returns-then-has_object c =
-    let a = (began c).args in
+    let a = c.args in
     let has = sym c.has_object.ensures ∙ c.if-has_object.true in
-    (c.object_text.ensures.0, c.object_text.ensures.1 ∙ sym (told-object c c.if-width-ne0.false true has))
+    (c.object_text.ensures.0, c.object_text.ensures.1 ∙ sym (told-object (goal.at.returns-then-has_object c).After-field_width-width c.if-width-ne0.false true has))
 
 pub returns : goal.returns
 returns c =
-    let a = (began c).args in
+    let a = c.args in
     let has = sym c.has_object.ensures ∙ c.if-has_object.false in
-    (c.empty.ensures.1, c.empty.ensures.2 ∙ sym (told-object c c.if-width-ne0.false false has))
+    (c.empty.ensures.1, c.empty.ensures.2 ∙ sym (told-object (goal.at.returns c).After-field_width-width c.if-width-ne0.false false has))

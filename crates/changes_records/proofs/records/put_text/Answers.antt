@@ -6,8 +6,6 @@ use lib.ListN.{length, take}
 use Rattle.laws.specs.ByteLaws.{length-splice}
 use Rattle.changes_records.proofs.TextLaws.{spliced-front}
 use borrow.Author.Rules.{rules}
-use Rattle.changes_records.proofs.records.put_text.Reads as reads
-use Rattle.bytes_writer.proofs.stores.copy_into.Reads as copy-into-reads
 use Rattle.changes_records.proofs.records.put_text.Goals.{Start}
 use Rattle.changes_records.proofs.records.put_text.Goals as goal
 
@@ -18,10 +16,10 @@ fits s =
     omega (arith, l, s.requires.0.0, s.requires.1)
 
 pub overflow_add-end : goal.overflow_add-end
-overflow_add-end c = let h = fits c in search (rules, h)
+overflow_add-end c = omega (arith, fits (goal.at.overflow_add-end c).Start)
 
 pub copy_into-requires : goal.copy_into-requires
-copy_into-requires c =  omega (arith, fits c, c.requires.0.1)
+copy_into-requires c = omega (arith, fits (goal.at.copy_into-requires c).Start, c.requires.0.1)
 
 pub returns : goal.returns
 returns c =
@@ -31,7 +29,7 @@ returns c =
     let n : a.text.len ≡ length told = c.requires.0.1 in
     let l : length a.text.bytes ≡ 128 = search rules in
     let e = c.copy_into.ensures in
-    let h : a.at + length told ≤ length out = omega (arith, fits c, n) in (
+    let h : a.at + length told ≤ length out = omega (arith, fits (goal.at.returns c).Start, n) in (
       refl,
       omega (arith, l, c.requires.0.0),
       ap₂ take (ap (λ (m : ℕ). a.at + m) n) e ∙ spliced-front out a.at told h,

@@ -1,9 +1,9 @@
 use mathlib.Core.Path.{◌≡◌, refl, sym, ap, ap₂, ◌∙◌}
 use mathlib.Core.Bool.{Bool, ◌&&◌}
 use mathlib.Core.List.{List, [], ◌∷◌, ◌++◌, append-nil}
-use Prim.Native.Nat.{ℕ, ◌+◌, ◌≤◌, ◌<◌}
+use Prim.Native.Nat.{ℕ}
 use native.Mathlib.Omega.{arith}
-use lib.ListN.{length, take}
+use lib.ListN.{take}
 use lib.Dec.{eqb}
 use borrow.Author.Tests.{eqb-true}
 use Rattle.table.specs.Bytes.{pick}
@@ -11,57 +11,47 @@ use Rattle.reads_seats.specs.Told.{image_of}
 use Rattle.changes.specs.Changes.{Line, only_on, texts_of}
 use Rattle.changes_records.specs.Told.{both_there, level_lines, own_lines}
 use Rattle.changes_records.proofs.TextLaws.{line-text}
-use borrow.Author.Rules.{rules}
-use Rattle.changes_records.proofs.wholes.held_lines.Reads as reads
-use Rattle.changes.proofs.lines.only_line.Reads as only-line-reads
-use Rattle.changes_records.proofs.records.own_lines.Reads as own-lines-reads
-use Rattle.changes_records.proofs.records.put_text.Reads as put-text-reads
-use Rattle.changes_records.proofs.wholes.is_there.Reads as is-there-reads
-use Rattle.changes_records.proofs.wholes.level_of.Reads as level-of-reads
 use Rattle.changes_records.proofs.wholes.held_lines.Goals.{After-is_there-other}
 use Rattle.changes_records.proofs.wholes.held_lines.Goals as goal
 
 module _ (w : After-is_there-other) where
-  abbrev began : tie.Start
-  began = w.before.before.before.before.before
-
   abbrev t : List ℕ
-  t = began.args.t.now
+  t = w.args.t.now
 
   abbrev u : List ℕ
-  u = began.args.u.now
+  u = w.args.u.now
 
   abbrev i : ℕ
-  i = began.args.kind
+  i = w.args.kind
 
   abbrev n : ℕ
-  n = began.args.position
+  n = w.args.position
 
-  one-is : {a : Bool} → w.before.is-there.result ≡ a → eqb (image_of t i n).answer.number 0 ≡ a
-  one-is e = sym w.before.is-there.ensures ∙ e
+  one-is : {a : Bool} → w.is_there-one.result ≡ a → eqb (image_of t i n).answer.number 0 ≡ a
+  one-is e = sym w.is_there-one.ensures ∙ e
 
-  other-is : {b : Bool} → w.is-there2.result ≡ b → eqb (image_of u i n).answer.number 0 ≡ b
-  other-is e = sym w.is-there2.ensures ∙ e
+  other-is : {b : Bool} → w.is_there-other.result ≡ b → eqb (image_of u i n).answer.number 0 ≡ b
+  other-is e = sym w.is_there-other.ensures ∙ e
 
-  both_is : {a b : Bool} → w.before.is-there.result ≡ a → w.is-there2.result ≡ b → both_there t u i n ≡ (a && b)
+  both_is : {a b : Bool} → w.is_there-one.result ≡ a → w.is_there-other.result ≡ b → both_there t u i n ≡ (a && b)
   both_is e f = ap₂ ◌&&◌ (one-is e) (other-is f)
 
-  level-is : {a b : Bool} → w.before.is-there.result ≡ a → w.is-there2.result ≡ b
+  level-is : {a b : Bool} → w.is_there-one.result ≡ a → w.is_there-other.result ≡ b
       → level_lines t u i n ≡ pick a (pick b (own_lines t u i n) (only_on i n 1 ∷ [])) (pick b (only_on i n 2 ∷ []) [])
   unfolding level_lines
   level-is e f = rw (one-is e, other-is f) refl
 
   -- the buffer with these bytes, and with these lines, behind what was there
   abbrev then : List ℕ → List ℕ
-  then y = take began.args.from began.args.out.now ++ y
+  then y = take w.args.from w.args.out.now ++ y
 
   abbrev behind : List Line → List ℕ
   behind ls = then (texts_of ls)
 
 pub own_lines-requires : goal.own_lines-requires
 own_lines-requires c =
-    let p = (began c).requires in
-    (p.0, p.1, p.2, omega (arith, p.3), eqb-true _ 0 (one-is c c.if-one.true), eqb-true _ 0 (other-is c c.if-other.true))
+    let p = c.requires in
+    (p.0, p.1, p.2, omega (arith, p.3), eqb-true _ 0 (one-is (goal.at.own_lines-requires c).After-is_there-other c.if-one.true), eqb-true _ 0 (other-is (goal.at.own_lines-requires c).After-is_there-other c.if-other.true))
 
 pub returns-then-other : goal.returns-then-other
 returns-then-other c =
@@ -69,10 +59,10 @@ returns-then-other c =
     let e = c.if-one.true in
     let f = c.if-other.true in
     let l = c.level_of.ensures in (
-      l.1 ∙ sym (both_is c e f),
+      l.1 ∙ sym (both_is (goal.at.returns-then-other c).After-is_there-other e f),
       omega (arith, l.0, own.0),
       omega (arith, l.0, own.1),
-      ap (λ (m : ℕ). take m c.own_lines.new.1.1.1.1.0) l.0 ∙ own.2 ∙ ap (behind c) (sym (level-is c e f)),
+      ap (λ (m : ℕ). take m c.own_lines.new.out) l.0 ∙ own.2 ∙ ap (behind (goal.at.returns-then-other c).After-is_there-other) (sym (level-is (goal.at.returns-then-other c).After-is_there-other e f)),
       own.3,
     )
 
@@ -83,10 +73,10 @@ returns-then-one c =
     let f = c.if-other.false in
     let l = c.level_of-then-one.ensures in
     let x = c.only_line.ensures.1 ∙ sym (line-text _) in (
-      l.1 ∙ sym (both_is c e f),
+      l.1 ∙ sym (both_is (goal.at.returns-then-one c).After-is_there-other e f),
       omega (arith, l.0, put.0),
       omega (arith, l.0, put.1),
-      ap (λ (m : ℕ). take m c.put_text.new.out) l.0 ∙ put.2 ∙ ap (then c) x ∙ ap (behind c) (sym (level-is c e f)),
+      ap (λ (m : ℕ). take m c.put_text.new.out) l.0 ∙ put.2 ∙ ap (then (goal.at.returns-then-one c).After-is_there-other) x ∙ ap (behind (goal.at.returns-then-one c).After-is_there-other) (sym (level-is (goal.at.returns-then-one c).After-is_there-other e f)),
       put.3,
     )
 
@@ -97,10 +87,10 @@ returns-then-other-2 c =
     let f = c.if-other-2.true in
     let l = c.level_of-then-other-2.ensures in
     let x = c.only_line-then-other-2.ensures.1 ∙ sym (line-text _) in (
-      l.1 ∙ sym (both_is c e f),
+      l.1 ∙ sym (both_is (goal.at.returns-then-other-2 c).After-is_there-other e f),
       omega (arith, l.0, put.0),
       omega (arith, l.0, put.1),
-      ap (λ (m : ℕ). take m c.put_text-then-other-2.new.out) l.0 ∙ put.2 ∙ ap (then c) x ∙ ap (behind c) (sym (level-is c e f)),
+      ap (λ (m : ℕ). take m c.put_text-then-other-2.new.out) l.0 ∙ put.2 ∙ ap (then (goal.at.returns-then-other-2 c).After-is_there-other) x ∙ ap (behind (goal.at.returns-then-other-2 c).After-is_there-other) (sym (level-is (goal.at.returns-then-other-2 c).After-is_there-other e f)),
       put.3,
     )
 
@@ -109,9 +99,9 @@ returns c =
     let e = c.if-one.false in
     let f = c.if-other-2.false in
     let l = c.level_of-2.ensures in (
-      l.1 ∙ sym (both_is c e f),
+      l.1 ∙ sym (both_is (goal.at.returns c).After-is_there-other e f),
       omega (arith, l.0),
       omega (arith, l.0),
-      ap (λ (m : ℕ). take m (began c).args.out.now) l.0 ∙ sym (append-nil (take (began c).args.from (began c).args.out.now)) ∙ ap (behind c) (sym (level-is c e f)),
+      ap (λ (m : ℕ). take m c.args.out.now) l.0 ∙ sym (append-nil (take c.args.from c.args.out.now)) ∙ ap (behind (goal.at.returns c).After-is_there-other) (sym (level-is (goal.at.returns c).After-is_there-other e f)),
       refl,
     )

@@ -1,14 +1,10 @@
 use mathlib.Core.Path.{sym, ap, ◌∙◌}
 use mathlib.Core.List.{List, ◌++◌}
-use Prim.Native.Nat.{ℕ, ◌+◌, ◌≤◌, ◌<◌}
 use native.Mathlib.Omega.{arith}
-use lib.ListN.{length, take}
+use lib.ListN.{take}
 use Rattle.changes.specs.Changes.{Line, texts_of}
 use Rattle.changes_records.specs.Told.{level_lines}
 use Rattle.changes_records.proofs.HeldLaws.{info-alone, info-whole, then_lines}
-use borrow.Author.Rules.{rules}
-use Rattle.changes_records.proofs.wholes.info_lines.Reads as reads
-use Rattle.changes_records.proofs.wholes.held_lines.Reads as held-lines-reads
 use Rattle.changes_records.proofs.wholes.info_lines.Goals as goal
 
 pub returns-then-info : goal.returns-then-info

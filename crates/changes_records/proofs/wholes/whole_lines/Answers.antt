@@ -1,17 +1,11 @@
 use mathlib.Core.Path.{◌≡◌, sym, ap, ◌∙◌}
 use mathlib.Core.List.{List, [], ◌++◌}
-use Prim.Native.Nat.{ℕ, ◌+◌, ◌≤◌, ◌<◌}
+use Prim.Native.Nat.{ℕ}
 use native.Mathlib.Omega.{arith}
-use lib.ListN.{length, take}
 use Rattle.changes.specs.Changes.{Line, texts_of}
 use Rattle.reads_seats.specs.Told.{depth}
 use Rattle.changes_records.specs.Told.{held_lines, level_lines, own_lines}
 use Rattle.changes_records.proofs.HeldLaws.{held-once, then_lines, whole-deep, whole-flat}
-use borrow.Author.Rules.{rules}
-use Rattle.changes_records.proofs.wholes.whole_lines.Reads as reads
-use Rattle.changes_records.proofs.records.own_lines.Reads as own-lines-reads
-use Rattle.changes_records.proofs.wholes.held_lines.Reads as held-lines-reads
-use Rattle.changes_records.proofs.wholes.info_lines.Reads as info-lines-reads
 use Rattle.changes_records.proofs.wholes.whole_lines.Goals as goal
 
 pub returns-then-kind-eq-ID : goal.returns-then-kind-eq-ID

@@ -1,5 +1,4 @@
 use Prim.Native.Nat.{◌≤◌, ◌-◌}
-use Rattle.table.proofs.Rules.{picks}
 use Rattle.nbft_show.proofs.files.show_folder.Given as goal
 
 abbrev pub invariant-loop-k : goal.invariant-loop-k
