@@ -20,7 +20,7 @@ use Rattle.table.specs.Reads.{Seat, nowhere, seat, seat_of, width_at, shown, ref
 use Rattle.laws.specs.Fields.{Bytes}
 use Rattle.laws.specs.Positions.{check-placed}
 use Rattle.reader.specs.Accepted.{Accepted}
-use Rattle.reader.proofs.AcceptedLaws.{laid}
+use Rattle.reader.proofs.AcceptedLaws.{heap-far}
 use Rattle.reads_seats.specs.Seats.{Good}
 use Rattle.reads_seats.proofs.SeatLaws.{seats-good}
 use Rattle.reads_seats.proofs.ReadLaws.{width_fits}
@@ -110,7 +110,7 @@ module _ (t : List ℕ) (ok : Accepted t) (k q : ℕ) (s : Seat) (g : Good t k s
   go false e =
       let some : 0 < whole.len = let z = eqb-false whole.len 0 e in omega (arith, z) in
       let i = seat-heap t ok q k s g some in
-      let h = (laid t ok).heap in
+      let h = heap-far t ok in
       let full : 0 < num t 40 4 = omega (arith, i.above, i.below, some) in
       let far : 128 ≤ whole.at = omega (arith, i.above, h.heap-behind full) in
       (omega (arith, i.above, i.below, some, h.heap-short full), rw (ne_eqb whole.at 0 (λ z. omega (arith, far, z))) (sym (ap not e) ∙ present-long t q s))

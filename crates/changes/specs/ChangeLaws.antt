@@ -1,8 +1,7 @@
 -- No line exactly where nothing differs: of two meanings whose records are in order, the lines are none exactly where the meanings are equal. Assumes nothing.
-use Rattle.std.specs.Prelude.{◌≡◌, refl, ◌⊎◌, ◌↔◌, Bool, true, false, ◌&&◌, ◌||◌, List, [], ◌∷◌, ◌++◌, ℕ, zero, suc, ◌+◌, ◌-◌, ◌%◌, ◌≤◌, ◌<◌, length, get_or, take, drop, replicate, T, eqb, leb, ltb}
+use Rattle.std.specs.Prelude.{◌≡◌, refl, ◌⊎◌, ◌↔◌, Bool, true, false, ◌&&◌, ◌||◌, List, [], ◌∷◌, ◌++◌, ℕ, zero, suc, ◌+◌, ◌-◌, ◌%◌, ◌≤◌, ◌<◌, length, get_or, drop, T, eqb, leb, ltb}
 use Rattle.std.proofs.Common.{sym, ap, ap₂, ◌∙◌, inl, inr, arith, ext_get_or, get_or-drop, get_or-take, eqb→eq, leb→le, ltb→lt, eq-eqb, leb-false, leb-true, ne_eqb}
-use Rattle.std.proofs.Math.Dec.{eqb_refl}
-use Rattle.std.proofs.Math.Facts.{and_yes, or_yes, yes_and}
+use Rattle.std.proofs.Math.Facts.{and_yes, or_yes}
 use Rattle.table.specs.declared.Region.{Region}
 use Rattle.table.specs.Bytes.{part, pick, same}
 use Rattle.table.specs.Layout.{
@@ -39,23 +38,7 @@ use Rattle.table.specs.Reads.{width_at}
 use Rattle.laws.specs.ByteLaws.{same-eq}
 use Rattle.laws.specs.ImageLaws.{image-at, length-image}
 use Rattle.laws.specs.Lawful.{Fit, FitBody, FitEntry, FitList, Shaped, is_none}
-use Rattle.changes.specs.Changes.{
-  Line,
-  body_lines,
-  changes,
-  count_lines,
-  each,
-  entry_lines,
-  field_line,
-  head_of,
-  id_of,
-  list_lines,
-  named_lines,
-  object_line,
-  offset_lines,
-  record_lines,
-  unlike,
-}
+use Rattle.changes.specs.Changes.{Line, body_lines, changes, count_lines, each, entry_lines, head_of, id_of, list_lines, named_lines, offset_lines, record_lines, unlike}
 
 -- ---- layouts: each byte that counts lies in a field, a field is found by its first byte, and no reference begins a field
 
@@ -397,7 +380,7 @@ unfolding entry_lines
 entry-self n unused = refl
 entry-self n {l} (used x ss) = record-self l.kind n l.shape x (named_lines l.kind n ss ss) (named_self l.kind n ss)
 
-list-self : (n : ℕ) {l : Layout} (es : List (Entry l)) → list_lines n es es ≡ []
+list-self : {l : Layout} (n : ℕ) (es : List (Entry l)) → list_lines n es es ≡ []
 unfolding list_lines
 list-self n [] = refl
 list-self n (e ∷ es) = ap₂ ◌++◌ (entry-self n e) (list-self (suc n) es)

@@ -75,10 +75,10 @@ entry_lines n {l} (used x ss) unused = used_on l.kind n 1 ∷ []
 entry_lines n {l} (used x ss) (used y us) = record_lines l.kind n l.shape x y (named_lines l.kind n ss us)
 
 -- from position n on
-unfoldable pub list_lines : ℕ → {l : Layout} → List (Entry l) → List (Entry l) → List Line
+unfoldable pub list_lines : {l : Layout} → ℕ → List (Entry l) → List (Entry l) → List Line
 list_lines n [] [] = []
-list_lines n {l} [] (f ∷ fs) = only_on l.kind n 2 ∷ list_lines (suc n) [] fs
-list_lines n {l} (e ∷ es) [] = only_on l.kind n 1 ∷ list_lines (suc n) es []
+list_lines {l} n [] (f ∷ fs) = only_on l.kind n 2 ∷ list_lines (suc n) [] fs
+list_lines {l} n (e ∷ es) [] = only_on l.kind n 1 ∷ list_lines (suc n) es []
 list_lines n (e ∷ es) (f ∷ fs) = entry_lines n e f ++ list_lines (suc n) es fs
 
 unfoldable pub body_lines : {ls : List Layout} → Body ls → Body ls → List Line

@@ -67,7 +67,7 @@ Clear t w = w.next < ref_count w.kind → (s : Site) → In s (sites t) → Alig
 
 pub stores-append : (t u : List ℕ) (xs ys : List Site) → apply (apply u (offsets_of t xs)) (offsets_of t ys) ≡ apply u (offsets_of t (xs ++ ys))
 stores-append t u [] ys = refl
-stores-append t u (x ∷ xs) ys = stores-append t _ xs ys
+stores-append t u (x ∷ xs) ys = stores-append t (apply u (offsets_of t (x ∷ []))) xs ys
 
 -- one site more
 pub stored_more : (t : List ℕ) (pre : List Site) (s : Site) → apply (apply t (offsets_of t pre)) (offsets_of t (s ∷ [])) ≡ apply t (offsets_of t (pre ++ (s ∷ [])))
@@ -317,20 +317,13 @@ module _ (t : List ℕ) (g : Fenced t) (pre : List Site) (sub : Sub pre (sites t
   laid-u x = record {
     lent = rw length-u x.lent;
     sized = rw (low-num 4 4 (omega arith), length-u) x.sized;
-    heap = record {
-      heap-in = λ z. rw (low-num 36 4 (omega arith), low-num 40 4 (omega arith), length-u) (x.heap.heap-in (filled z));
-      heap-behind = λ z. rw (low-num 36 4 (omega arith)) (x.heap.heap-behind (filled z));
-      heap-short = λ z. rw (low-num 36 4 (omega arith), low-num 40 4 (omega arith)) (x.heap.heap-short (filled z));
-    };
+    heap = record { heap-in = λ z. rw (low-num 36 4 (omega arith), low-num 40 4 (omega arith), length-u) (x.heap.heap-in (rw (low-num 40 4 (omega arith)) at z)) };
     owner = rw (high-num 72 4 (omega arith) (omega arith), length-u) x.owner;
     hfi = list-still 80 32 (omega arith) (omega arith) x.hfi;
     ssns = list-still 88 128 (omega arith) (omega arith) x.ssns;
     security = list-still 96 64 (omega arith) (omega arith) x.security;
     discovery = list-still 104 32 (omega arith) (omega arith) x.discovery;
   }
-    where
-      filled : 0 < num U 40 4 → 0 < num t 40 4
-      filled z = rw (low-num 40 4 (omega arith)) at z
 
   -- ---- a record in which no site stands but its own references
 

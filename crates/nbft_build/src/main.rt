@@ -4,16 +4,17 @@
 
 use description::build;
 use description_draft::wrongs::{NOTHING, REFUSED, write_words};
-use libc::STDERR_FILENO;
-use tool::complain;
+use std::env::Env;
+use std::fs::Files;
+use tool::{STDERR_FILENO, complain};
 
 // A description has comments, and four characters for a byte that is escaped.
 const LONGEST: usize = 300000;
 
 // As compilers say it: the file, the line, and what is wrong there.
-fn print_wrong(argument: usize, wrong: u8, line: usize) {
+fn print_wrong<R: Env>(rt: &R, argument: usize, wrong: u8, line: usize) {
     let mut path = io::buffer();
-    let n = os::arg(argument, &mut path);
+    let n = tool::argument(rt, argument, &mut path);
     complain(&path[..n], b":");
     io::print_decimal(STDERR_FILENO, line as u64);
     io::write_all(STDERR_FILENO, b": ");
@@ -21,29 +22,29 @@ fn print_wrong(argument: usize, wrong: u8, line: usize) {
     io::write_all(STDERR_FILENO, b"\n");
 }
 
-fn build_file(from: usize, to: usize) {
+fn build_file<R: Env + Files>(rt: &R, from: usize, to: usize) {
     let mut spec = [0u8; LONGEST];
     let mut room = io::large_buffer();
     let mut out = io::large_buffer();
-    let got = tool::read_file(from, &mut spec);
+    let got = tool::read_file(rt, from, &mut spec);
     let n = got.len;
     if !got.whole {
         return;
     }
     let built = build(&spec[..n], &mut room, &mut out);
     if built.wrong == NOTHING {
-        write_table(to, &out, built.len);
+        write_table(rt, to, &out, built.len);
         return;
     }
-    print_wrong(from, built.wrong, built.line);
+    print_wrong(rt, from, built.wrong, built.line);
     if built.wrong == REFUSED {
         tool::print_answer(built.answer);
     }
 }
 
-fn write_table(to: usize, out: &[u8], len: usize) {
+fn write_table<R: Env + Files>(rt: &R, to: usize, out: &[u8], len: usize) {
     if len <= out.len() {
-        if tool::write_file(to, &out[0..len]) {
+        if tool::write_file(rt, to, &out[0..len]) {
             tool::print(text::decimal(len as u64));
             tool::print_bytes(b" bytes\n");
         }
@@ -51,22 +52,22 @@ fn write_table(to: usize, out: &[u8], len: usize) {
 }
 
 // Whether OUT has the description's name: it would be replaced by the table.
-fn is_one_name() -> bool {
+fn is_one_name<R: Env>(rt: &R) -> bool {
     let mut name = io::buffer();
-    let n = os::arg(2, &mut name);
-    tool::argument_is(1, &name[..n])
+    let n = tool::argument(rt, 2, &mut name);
+    tool::argument_is(rt, 1, &name[..n])
 }
 
-fn main() {
-    if tool::helped(b"usage: nbft_build SPEC OUT\n") {
+fn main(rt: HostRuntime) {
+    if tool::helped(&rt, b"usage: nbft_build SPEC OUT\n") {
         return;
     }
-    if os::arg_count() == 3 {
-        if is_one_name() {
+    if tool::argument_count(&rt) == 3 {
+        if is_one_name(&rt) {
             complain(b"OUT is the description, and not replaced", b"\n");
             return;
         }
-        build_file(1, 2);
+        build_file(&rt, 1, 2);
         return;
     }
     complain(b"usage: nbft_build SPEC OUT", b"\n");

@@ -2,23 +2,25 @@
 // numbers for programs, one of words for people. What hinders the check goes to standard error.
 #![tactic(auto)]
 
+use std::env::Env;
+use std::fs::Files;
 use tool::MOST;
 
-fn check_file(argument: usize) {
+fn check_file<R: Env + Files>(rt: &R, argument: usize) {
     let mut table = [0u8; MOST];
-    let got = tool::read_file(argument, &mut table);
+    let got = tool::read_file(rt, argument, &mut table);
     let n = got.len;
     if got.whole {
         tool::print_answer(reader::check(&table[..n]));
     }
 }
 
-fn main() {
-    if tool::helped(b"usage: nbft_check FILE\n") {
+fn main(rt: HostRuntime) {
+    if tool::helped(&rt, b"usage: nbft_check FILE\n") {
         return;
     }
-    if os::arg_count() == 2 {
-        check_file(1);
+    if tool::argument_count(&rt) == 2 {
+        check_file(&rt, 1);
         return;
     }
     tool::complain(b"usage: nbft_check FILE", b"\n");

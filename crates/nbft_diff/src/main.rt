@@ -5,13 +5,15 @@
 ghost use Rattle.reader.specs.Accepted.{Accepted};
 
 use changes_records::places::{END, first, lines_at, next};
+use std::env::Env;
+use std::fs::Files;
 use table::Answer;
 use tool::MOST;
 
 // The name of the file that an argument names, and why it is refused.
-fn complain_of(argument: usize, a: Answer) {
+fn complain_of<R: Env>(rt: &R, argument: usize, a: Answer) {
     let mut path = io::buffer();
-    let n = os::arg(argument, &mut path);
+    let n = tool::argument(rt, argument, &mut path);
     let words = tool::answer_words(a);
     let len = words.len;
     let bytes = words.bytes;
@@ -19,10 +21,10 @@ fn complain_of(argument: usize, a: Answer) {
     tool::complain(&bytes[..len], b"");
 }
 
-fn print_refusal(argument: usize, a: Answer) {
+fn print_refusal<R: Env>(rt: &R, argument: usize, a: Answer) {
     if a.number != 0 {
         tool::print(tool::answer_line(a));
-        complain_of(argument, a);
+        complain_of(rt, argument, a);
     }
 }
 
@@ -40,11 +42,11 @@ fn print_changes(t: &[u8], u: &[u8])
 }
 
 // Both tables are judged before anything is said of either.
-fn print_compared(t: &[u8], u: &[u8]) {
+fn print_compared<R: Env>(rt: &R, t: &[u8], u: &[u8]) {
     let one = reader::check(t);
     let other = reader::check(u);
-    print_refusal(1, one);
-    print_refusal(2, other);
+    print_refusal(rt, 1, one);
+    print_refusal(rt, 2, other);
     if one.number != 0 {
         return;
     }
@@ -55,26 +57,26 @@ fn print_compared(t: &[u8], u: &[u8]) {
 }
 
 // Both files are read before either is judged, so that one run names both that cannot be read.
-fn compare_files() {
+fn compare_files<R: Env + Files>(rt: &R) {
     let mut ours = [0u8; MOST];
     let mut theirs = [0u8; MOST];
-    let one = tool::read_file(1, &mut ours);
-    let other = tool::read_file(2, &mut theirs);
+    let one = tool::read_file(rt, 1, &mut ours);
+    let other = tool::read_file(rt, 2, &mut theirs);
     let m = one.len;
     let n = other.len;
     if one.whole {
         if other.whole {
-            print_compared(&ours[..m], &theirs[..n]);
+            print_compared(rt, &ours[..m], &theirs[..n]);
         }
     }
 }
 
-fn main() {
-    if tool::helped(b"usage: nbft_diff FILE FILE\n") {
+fn main(rt: HostRuntime) {
+    if tool::helped(&rt, b"usage: nbft_diff FILE FILE\n") {
         return;
     }
-    if os::arg_count() == 3 {
-        compare_files();
+    if tool::argument_count(&rt) == 3 {
+        compare_files(&rt);
         return;
     }
     tool::complain(b"usage: nbft_diff FILE FILE", b"\n");

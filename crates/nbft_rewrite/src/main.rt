@@ -4,20 +4,20 @@
 
 use rewrite_files::files::{compare_files, rewrite_file};
 
-fn main() {
-    if tool::helped(b"usage: nbft_rewrite IN OUT, or nbft_rewrite --same FILE FILE\n") {
+fn main(rt: HostRuntime) {
+    if tool::helped(&rt, b"usage: nbft_rewrite IN OUT, or nbft_rewrite --same FILE FILE\n") {
         return;
     }
-    let count = os::arg_count();
-    let same = tool::argument_is(1, b"--same");
+    let count = tool::argument_count(&rt);
+    let same = tool::argument_is(&rt, 1, b"--same");
     if same {
         if count == 4 {
-            compare_files(2, 3);
+            compare_files(&rt, 2, 3);
             return;
         }
     } else {
         if count == 3 {
-            rewrite_file(1, 2);
+            rewrite_file(&rt, 1, 2);
             return;
         }
     }

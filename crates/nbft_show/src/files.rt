@@ -6,6 +6,7 @@ use crate::options::{Asked, with_several};
 use show::bytes::{CHARACTERS, put_bytes};
 use show::json::print_file;
 use show::people::print_people;
+use std::fs::Files;
 use tool::{MOST, print_bytes, put_name};
 
 // The longest name of a file in a folder: the longest argument, `/NBFT` and a digit.
@@ -63,9 +64,9 @@ fn show_table(name: &[u8], t: &[u8], a: Asked, none: bool) -> bool {
     false
 }
 
-fn show_input(a: Asked, none: bool) -> bool {
+fn show_input<R: Input>(rt: &R, a: Asked, none: bool) -> bool {
     let mut table = [0u8; MOST];
-    let got = tool::read_input(&mut table);
+    let got = tool::read_input(rt, &mut table);
     let n = got.len;
     if got.whole {
         return show_table(b"-", &table[..n], a, none);
@@ -73,9 +74,9 @@ fn show_input(a: Asked, none: bool) -> bool {
     none
 }
 
-fn show_file(path: &[u8], a: Asked, none: bool) -> bool {
+fn show_file<R: Files>(rt: &R, path: &[u8], a: Asked, none: bool) -> bool {
     let mut table = [0u8; MOST];
-    let got = tool::read_named(path, &mut table);
+    let got = tool::read_named(rt, path, &mut table);
     let n = got.len;
     if got.whole {
         return show_table(path, &table[..n], a, none);
@@ -110,13 +111,13 @@ fn put_table_name(path: &[u8], k: u8, name: &mut [u8]) -> usize
 }
 
 // Table `k` of a folder, if it is there; whether none of the folder's has been met so far.
-fn show_in_folder(path: &[u8], k: u8, a: Asked, none: bool) -> Met
+fn show_in_folder<R: Files>(rt: &R, path: &[u8], k: u8, a: Asked, none: bool) -> Met
     requires { (length path.now ≤ 4096) × (k ≤ 9) }
 {
     let mut name = [0u8; NAME_MAX];
     let n = put_table_name(path, k, &mut name);
-    if tool::is_there(&name[..n]) {
-        let after = show_file(&name[..n], a, none);
+    if tool::is_there(rt, &name[..n]) {
+        let after = show_file(rt, &name[..n], a, none);
         return Met {
             there: true,
             none: after,
@@ -136,14 +137,14 @@ fn either(a: bool, b: bool) -> bool {
 }
 
 // NBFT and NBFT1 to NBFT9 of a folder; one without any is complained of.
-fn show_folder(path: &[u8], a: Asked, none: bool) -> bool
+fn show_folder<R: Files>(rt: &R, path: &[u8], a: Asked, none: bool) -> bool
     requires { length path.now ≤ 4096 }
 {
     let mut none_shown = none;
     let mut met = false;
     let mut k: u8 = 0;
     while k <= 9 {
-        let one = show_in_folder(path, k, a, none_shown);
+        let one = show_in_folder(rt, path, k, a, none_shown);
         none_shown = one.none;
         met = either(met, one.there);
         k += 1;
@@ -155,15 +156,15 @@ fn show_folder(path: &[u8], a: Asked, none: bool) -> bool
 }
 
 // A file, a folder, or standard input.
-pub fn show_name(path: &[u8], a: Asked, none: bool) -> bool
+pub fn show_name<R: Files + Input>(rt: &R, path: &[u8], a: Asked, none: bool) -> bool
     requires { length path.now ≤ 4096 }
 {
     if check::same(path, b"-") {
-        return show_input(a, none);
+        return show_input(rt, a, none);
     }
-    if tool::is_folder(path) {
+    if tool::is_folder(rt, path) {
         let bare = bare_len(path);
-        return show_folder(&path[0..bare], with_several(a), none);
+        return show_folder(rt, &path[0..bare], with_several(a), none);
     }
-    show_file(path, a, none)
+    show_file(rt, path, a, none)
 }

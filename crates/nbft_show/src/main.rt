@@ -7,44 +7,47 @@ mod options; // what is asked for
 
 use files::{print_end, print_start, show_name};
 use options::{Asked, is_file, read_options};
+use std::env::Env;
+use std::fs::Files;
 
 // Where Linux keeps the tables that firmware handed over.
-fn show_default(a: Asked) -> bool {
-    show_name(b"/sys/firmware/acpi/tables", a, true)
+fn show_default<R: Files + Input>(rt: &R, a: Asked) -> bool {
+    show_name(rt, b"/sys/firmware/acpi/tables", a, true)
 }
 
-fn show_argument(argument: usize, a: Asked, none: bool) -> bool {
-    if !is_file(argument) {
+fn show_argument<R: Env + Files + Input>(rt: &R, argument: usize, a: Asked, none: bool) -> bool {
+    if !is_file(rt, argument) {
         return none;
     }
     let mut path = io::buffer();
-    let length = os::arg(argument, &mut path);
-    if os::errno() != 0 {
-        os::fail(b"the file's name");
+    let name = tool::file_name(rt, argument, &mut path);
+    let length = name.len;
+    if !name.whole {
         return none;
     }
-    show_name(&path[..length], a, none)
+    show_name(rt, &path[..length], a, none)
 }
 
-fn show_arguments(a: Asked, count: usize) -> bool {
+fn show_arguments<R: Env + Files + Input>(rt: &R, a: Asked, count: usize) -> bool {
     let mut none = true;
     let mut argument: usize = 1;
     while argument < count {
-        none = show_argument(argument, a, none);
+        none = show_argument(rt, argument, a, none);
         argument += 1;
     }
     none
 }
 
-fn show_all(a: Asked, count: usize) -> bool {
+fn show_all<R: Env + Files + Input>(rt: &R, a: Asked, count: usize) -> bool {
     if a.files == 0 {
-        return show_default(a);
+        return show_default(rt, a);
     }
-    show_arguments(a, count)
+    show_arguments(rt, a, count)
 }
 
-fn main() {
+fn main(rt: HostRuntime) {
     if tool::helped(
+        &rt,
         b"usage: nbft_show [--json] [--all] [FILE]...\n\
           Shows what NVMe boot firmware tables say.\n\
           FILE is a file, a folder (its NBFT and NBFT1 to NBFT9 are shown) or - for standard input; without one,\n\
@@ -54,12 +57,12 @@ fn main() {
     ) {
         return;
     }
-    let count = os::arg_count();
-    let a = read_options(count);
+    let count = tool::argument_count(&rt);
+    let a = read_options(&rt, count);
     if !a.known {
         tool::complain(b"usage: nbft_show [--json] [--all] [FILE]...", b"\n");
         return;
     }
     print_start(a);
-    print_end(a, show_all(a, count));
+    print_end(a, show_all(&rt, a, count));
 }

@@ -1,5 +1,7 @@
 // What is asked for: options anywhere among the files, and whether files are named.
 
+use std::env::Env;
+
 // Of the files: 0 none, 1 one, 2 several.
 #[derive(Clone, Copy)]
 pub struct Asked {
@@ -26,23 +28,23 @@ fn is_option(word: &[u8]) -> bool {
     word[0] == b'-'
 }
 
-fn word_at(argument: usize) -> Word {
-    if tool::argument_is(argument, b"--json") {
+fn word_at<R: Env>(rt: &R, argument: usize) -> Word {
+    if tool::argument_is(rt, argument, b"--json") {
         return Word::Json;
     }
-    if tool::argument_is(argument, b"--all") {
+    if tool::argument_is(rt, argument, b"--all") {
         return Word::All;
     }
     let mut word = io::buffer();
-    let n = os::arg(argument, &mut word);
+    let n = tool::argument(rt, argument, &mut word);
     if is_option(&word[..n]) {
         return Word::Unknown;
     }
     Word::File
 }
 
-pub fn is_file(argument: usize) -> bool {
-    let word = word_at(argument);
+pub fn is_file<R: Env>(rt: &R, argument: usize) -> bool {
+    let word = word_at(rt, argument);
     match word {
         Word::File => true,
         Word::Json => false,
@@ -82,11 +84,11 @@ pub fn with_several(a: Asked) -> Asked {
     asked_of(a.known, a.json, a.all, 2)
 }
 
-pub fn read_options(count: usize) -> Asked {
+pub fn read_options<R: Env>(rt: &R, count: usize) -> Asked {
     let mut a = asked_of(true, false, false, 0);
     let mut argument: usize = 1;
     while argument < count {
-        a = with_word(a, word_at(argument));
+        a = with_word(a, word_at(rt, argument));
         argument += 1;
     }
     a

@@ -21,8 +21,8 @@ use Rattle.table.specs.Numbers.{check, heap_in, records, tests}
 use Rattle.laws.specs.Sound.{first-of}
 use Rattle.laws.specs.RefWalk.{first_over}
 use Rattle.laws.specs.ListWalk.{env_in, valid_in, walk_more, walk-stop}
-use Rattle.reader_frame.specs.Bounds.{LaidOut, ListIn}
-use Rattle.reader_frame.proofs.Laws.{laid_out_lem}
+use Rattle.reader_frame.specs.Bounds.{HeapFar, LaidOut, ListIn}
+use Rattle.reader_frame.proofs.Laws.{heap_far, laid_out_lem}
 use Rattle.reader_rules.specs.Rules.{ref_fault}
 use Rattle.reader_rules.specs.Records.{right_rule}
 use Rattle.reader_rules.proofs.HeapLaws.{Inside, reached}
@@ -70,6 +70,10 @@ module _ (t : List ℕ) (ok : Accepted t) where
   -- every region lies in the table, every list's records are long enough
   pub laid : LaidOut t
   laid = laid_out_lem t tests-pass
+
+  -- the heap lies behind the control record
+  pub heap-far : HeapFar t
+  heap-far = heap_far t tests-pass
 
   abbrev body : Answer
   body = body_rule (valid_in t) (counts t) (heap_in t) t 80 (read_body list_kinds t 80)

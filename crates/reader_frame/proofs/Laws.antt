@@ -26,7 +26,7 @@ use Rattle.reader_order.specs.Judging.{size_tests, judged}
 use Rattle.reader_frame.specs.Tests.{control_wrong, too_short, short_lists, wrong_version, wrong_versions, head_tests}
 use Rattle.reader_regions.specs.Regions.{list_span, spans_of, outsides, overlaps_of, overlaps, misplaced}
 use Rattle.reader_spans.specs.Spans.{outside, region_of, overlap}
-use Rattle.reader_frame.specs.Bounds.{LaidOut}
+use Rattle.reader_frame.specs.Bounds.{HeapFar, LaidOut}
 
 -- ---- a count of faults is 0 where the tests hold
 
@@ -193,8 +193,43 @@ positive n h = rw (ne_eqb n 0 (λ e. omega arith)) tt
 or_long : (n b s : ℕ) → T (eqb n 0 || leb b s) → 0 < n → b ≤ s
 or_long n b s k h = let e : eqb n 0 ≡ false = ne_eqb n 0 (λ z. omega arith) in leb→le b s (rw e at k)
 
+-- the heap's region is one of those that lie behind the control record and before the end
+heap-inside : (t : List ℕ)
+    → (first_fail (tests t)).number ≡ 0
+    → T (inside (64 + num t 68 2) (num t 4 4) (cons_if (not (eqb (num t 40 4) 0)) (region (num t 36 4) (num t 40 4)) []))
+unfolding tests regions list_regions host
+heap-inside t e =
+    let k = all_pass (tests t) tt e in
+    let lo = 64 + num t 68 2 in
+    let size = num t 4 4 in
+    let p = and_yes (leb 32 (num t 76 2)) (long_enough list_kinds t 80 && (inside lo size (regions t) && apart_each (regions t))) k.1.1.1.1.1.1.1.0 in
+    let q = and_yes (long_enough list_kinds t 80) (inside lo size (regions t) && apart_each (regions t)) p.1 in
+    let r = and_yes (inside lo size (regions t)) (apart_each (regions t)) q.1 in
+    let H = cons_if (not (eqb (num t 40 4) 0)) (region (num t 36 4) (num t 40 4)) [] in
+    let i0 = inside-if lo size true (region (num t 72 4) (num t 76 2)) (list_regions list_kinds t 80 H) r.0 in
+    let i1 = inside-if lo size (not (eqb (get_or t 87 0) 0)) (region (num t 80 4) (get_or t 87 0 * num t 84 2)) (list_regions (ssns ∷ security ∷ discovery ∷ []) t 88 H) i0.1 in
+    let i2 = inside-if lo size (not (eqb (get_or t 95 0) 0)) (region (num t 88 4) (get_or t 95 0 * num t 92 2)) (list_regions (security ∷ discovery ∷ []) t 96 H) i1.1 in
+    let i3 = inside-if lo size (not (eqb (get_or t 103 0) 0)) (region (num t 96 4) (get_or t 103 0 * num t 100 2)) (list_regions (discovery ∷ []) t 104 H) i2.1 in
+    (inside-if lo size (not (eqb (get_or t 111 0) 0)) (region (num t 104 4) (get_or t 111 0 * num t 108 2)) H i3.1).1
+
+pub heap_far : (t : List ℕ) → (first_fail (tests t)).number ≡ 0 → HeapFar t
+unfolding tests limit
+heap_far t e =
+    let k = all_pass (tests t) tt e in
+    let lo = 64 + num t 68 2 in
+    let size = num t 4 4 in
+    let there = inside-if lo size (not (eqb (num t 40 4) 0)) (region (num t 36 4) (num t 40 4)) [] (heap-inside t e) in
+    let far = inside-behind lo size (not (eqb (num t 40 4) 0)) (region (num t 36 4) (num t 40 4)) [] (heap-inside t e) in
+    let major = (and_yes (eqb (get_or t 64 0) 1) _ k.1.1.1.1.1.1.0).1 in
+    let csl = leb→le 64 (num t 68 2) (and_yes (leb 64 (num t 68 2)) _ (and_yes (eqb (get_or t 65 0) 1) _ major).1).0 in
+    let short = leb→le size limit k.1.1.1.0 in
+    record {
+      heap-behind = λ h. omega (arith, far (positive (num t 40 4) h), csl);
+      heap-short = λ h. le_trans (there.0 (positive (num t 40 4) h)) short;
+    }
+
 pub laid_out_lem : (t : List ℕ) → (first_fail (tests t)).number ≡ 0 → LaidOut t
-unfolding tests regions list_regions long_enough host hfi ssns security discovery limit
+unfolding tests regions list_regions long_enough host hfi ssns security discovery
 laid_out_lem t e =
     let k = all_pass (tests t) tt e in
     let lo = 64 + num t 68 2 in
@@ -214,20 +249,12 @@ laid_out_lem t e =
     let i3 = inside-if lo size (not (eqb (get_or t 103 0) 0)) (region (num t 96 4) (get_or t 103 0 * num t 100 2)) (list_regions (discovery ∷ []) t 104 H) i2.1 in
     let i4 = inside-if lo size (not (eqb (get_or t 111 0) 0)) (region (num t 104 4) (get_or t 111 0 * num t 108 2)) H i3.1 in
     let i5 = inside-if lo size (not (eqb (num t 40 4) 0)) (region (num t 36 4) (num t 40 4)) [] i4.1 in
-    let i6 = inside-behind lo size (not (eqb (num t 40 4) 0)) (region (num t 36 4) (num t 40 4)) [] i4.1 in
-    let major = (and_yes (eqb (get_or t 64 0) 1) _ k.1.1.1.1.1.1.0).1 in
-    let csl = leb→le 64 (num t 68 2) (and_yes (leb 64 (num t 68 2)) _ (and_yes (eqb (get_or t 65 0) 1) _ major).1).0 in
-    let short = leb→le size limit k.1.1.1.0 in
     let h0 : num t 72 4 + num t 76 2 ≤ size = i0.0 tt in
     let h32 : 32 ≤ num t 76 2 = leb→le 32 (num t 76 2) p.0 in
     record {
       lent = leb→le 160 (length t) k.0;
       sized = s;
-      heap = record {
-        heap-in = λ h. le_trans (i5.0 (positive (num t 40 4) h)) s;
-        heap-behind = λ h. omega (arith, i6 (positive (num t 40 4) h), csl);
-        heap-short = λ h. le_trans (i5.0 (positive (num t 40 4) h)) short;
-      };
+      heap = record { heap-in = λ h. le_trans (i5.0 (positive (num t 40 4) h)) s };
       owner = omega arith;
       hfi = record { long = λ h. or_long (get_or t 87 0) 32 (num t 84 2) l1.0 h; within = λ h. le_trans (i1.0 (positive (get_or t 87 0) h)) s };
       ssns = record { long = λ h. or_long (get_or t 95 0) 128 (num t 92 2) l2.0 h; within = λ h. le_trans (i2.0 (positive (get_or t 95 0) h)) s };

@@ -2,9 +2,12 @@
 use Rattle.std.specs.Prelude.{List, ℕ, ◌+◌, ◌*◌, ◌≤◌, ◌<◌, length, get_or}
 use Rattle.table.specs.Bytes.{num}
 
--- the heap, when there is one, lies in the table, behind the control record
+-- the heap, when there is one, lies in the table
 pub record HeapIn (t : List ℕ) : Type 0 where
   pub heap-in : 0 < num t 40 4 → num t 36 4 + num t 40 4 ≤ length t
+
+-- and behind the control record, within 65,536 bytes
+pub record HeapFar (t : List ℕ) : Type 0 where
   pub heap-behind : 0 < num t 40 4 → 128 ≤ num t 36 4
   pub heap-short : 0 < num t 40 4 → num t 36 4 + num t 40 4 ≤ 65536
 

@@ -1,5 +1,7 @@
 // What is done with the files that the program's arguments name, and what is printed of it.
 use crate::{compare, form_of};
+use std::env::Env;
+use std::fs::Files;
 use table::Answer;
 use tool::{MOST, print_answer, print_bytes};
 
@@ -9,9 +11,9 @@ fn print_length(len: usize) {
 }
 
 // The form of one file's table into another file, and its length; of a table that is refused the answer alone.
-pub fn rewrite_file(from: usize, to: usize) {
+pub fn rewrite_file<R: Env + Files>(rt: &R, from: usize, to: usize) {
     let mut table = [0u8; MOST];
-    let got = tool::read_file(from, &mut table);
+    let got = tool::read_file(rt, from, &mut table);
     let n = got.len;
     if !got.whole {
         return;
@@ -24,7 +26,7 @@ pub fn rewrite_file(from: usize, to: usize) {
     }
     let len = form.len;
     let bytes = form.bytes;
-    if tool::write_file(to, &bytes[..len]) {
+    if tool::write_file(rt, to, &bytes[..len]) {
         print_length(len);
     }
 }
@@ -57,11 +59,11 @@ fn print_compared(t: &[u8], u: &[u8]) {
 }
 
 // Both are read before either is judged, so that one run names both files that cannot be read.
-pub fn compare_files(first: usize, second: usize) {
+pub fn compare_files<R: Env + Files>(rt: &R, first: usize, second: usize) {
     let mut ours = [0u8; MOST];
     let mut theirs = [0u8; MOST];
-    let one = tool::read_file(first, &mut ours);
-    let other = tool::read_file(second, &mut theirs);
+    let one = tool::read_file(rt, first, &mut ours);
+    let other = tool::read_file(rt, second, &mut theirs);
     let m = one.len;
     let n = other.len;
     if one.whole {

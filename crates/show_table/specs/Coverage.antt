@@ -1,6 +1,6 @@
 -- That nothing is forgotten: each field and each object of every layout stands in a line that loses nothing of it. Left aside are the bytes that have one right
 -- value and a record's own index, which every accepted record has alike.
-use Rattle.std.specs.Prelude.{Bool, true, false, not, ◌&&◌, ◌||◌, List, [], ◌∷◌, ◌≡◌, refl, ℕ, ◌+◌, length, take, drop, T, eqb, leb}
+use Rattle.std.specs.Prelude.{Bool, true, false, ◌&&◌, ◌||◌, List, [], ◌∷◌, ◌≡◌, refl, ℕ, ◌+◌, length, take, drop, T, eqb, leb}
 use Rattle.table.specs.declared.Region.{Region}
 use Rattle.table.specs.Bytes.{pick, every, Edit}
 use Rattle.table.specs.Layout.{Shape, Refs, none, plain, nest}

@@ -1,6 +1,6 @@
 -- What is printed of a field: its text by the way of printing (show_table's Forms), the weight of a bit, and the sixteen bytes of the field and of the other one
 -- that the way looks at, each with zeros behind it. Assumes nothing.
-use Rattle.std.specs.Prelude.{Bool, true, false, not, ◌&&◌, ◌||◌, List, [], ◌∷◌, ℕ, ◌/◌, ◌%◌, ◌≡◌, refl, take, replicate, eqb, leb}
+use Rattle.std.specs.Prelude.{Bool, true, false, not, ◌&&◌, List, [], ◌∷◌, ℕ, ◌/◌, ◌%◌, ◌≡◌, refl, take, replicate, eqb, leb}
 use Prim.Native.String.{String}
 use Rattle.table.specs.Bytes.{pick, num}
 use Rattle.text.specs.Ascii.{ascii}

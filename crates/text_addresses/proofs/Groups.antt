@@ -1,5 +1,5 @@
 -- The groups of an address, and the walk over their zeros. Assumes nothing.
-use mathlib.Core.Path.{◌≡◌, refl, sym, ap}
+use mathlib.Core.Path.{◌≡◌, refl, sym, ap, ◌∙◌}
 use mathlib.Core.Bool.{Bool, true, false, cond}
 use mathlib.Core.List.{List, [], ◌∷◌, ◌++◌, append_assoc, append-nil}
 use Prim.Native.Nat.{ℕ, zero, suc, ◌+◌, ◌-◌, ◌*◌, ◌≤◌, ◌<◌, max}
@@ -87,7 +87,13 @@ runs-right (g ∷ gs) =
     let r = runs_of gs in
     let z = first_with g r.first in
     let k = right-step (leb r.len z) z gs r (rw h.len refl) h in
-    record { first = rw (← h.first) k.0; len = rw (← h.first) k.1; at = rw (← h.first) k.2 }
+    let e : z ≡ first_with g (zeros_first gs) = ap (first_with g) h.first in
+    let n = longest_run gs in
+    record {
+      first = k.0 ∙ e;
+      len = k.1 ∙ ap (λ (y : ℕ). max y n) e;
+      at = k.2 ∙ ap (λ (y : ℕ). cond (leb (max y n) y) 0 (start_of (max y n) gs + 1)) e;
+    }
 
 pub runs-next : (gs : List ℕ) (i : ℕ) → 0 < i → i ≤ length gs → runs_of (drop (i - 1) gs) ≡ joined (get_or gs (i - 1) 0) (runs_of (drop i gs))
 unfolding runs_of

@@ -1,17 +1,26 @@
 // What every tool does: read a file whole, write one whole or not at all, print texts, and say what a check answers.
 #![tactic(auto)]
 
+mod reason; // why a call failed, in words
 pub mod writing; // a file written
 
-ghost use Rattle.std.specs.Prelude.{◌≡◌, take};
+ghost use Rattle.std.specs.Prelude.{◌≡◌, IfSome, take};
 ghost use Rattle.io.specs.Counts.{IsPrefixLen};
 ghost use Rattle.text.specs.Numerals.{numbers_line};
 ghost use Rattle.text_answers.specs.Words.{fault_line};
 
-use libc::{STDERR_FILENO, STDIN_FILENO, STDOUT_FILENO};
+use reason::fail;
+use std::env::{Env, FillError};
+use std::fs::{File, Files};
+use std::io::{Error, ErrorKind, Input, Read};
 use table::Answer;
 use text::Text;
 pub use writing::{put_name, write_file};
+
+// Standard output and standard error.
+const STDOUT_FILENO: i32 = 1;
+
+pub const STDERR_FILENO: i32 = 2;
 
 // A table has at most 65,536 bytes, and a file may go on behind its table.
 pub const MOST: usize = 70000;
@@ -30,111 +39,194 @@ pub fn complain(what: &[u8], why: &[u8]) {
 
 // Whether the file ends where reading stopped. The count of bytes alone does not tell an end from
 // a failed read or a full buffer; one more read does.
-fn ends_here(fd: i32, path: &[u8], most: usize) -> bool {
+fn ends_here<R: Read>(file: &mut R, path: &[u8], most: usize) -> bool {
     let mut next = [0u8; 1];
-    let got = libc::read(fd, &mut next);
-    if got < 0 {
-        os::fail(path);
-        return false;
+    match file.read(&mut next) {
+        Err(e) => {
+            fail(path, e);
+            false
+        }
+        Ok(0) => true,
+        Ok(_) => {
+            complain(path, b": more bytes than the ");
+            io::print_decimal(STDERR_FILENO, most as u64);
+            io::write_all(STDERR_FILENO, b" that are read\n");
+            false
+        }
     }
-    if got > 0 {
-        complain(path, b": more bytes than the ");
-        io::print_decimal(STDERR_FILENO, most as u64);
-        io::write_all(STDERR_FILENO, b" that are read\n");
-        return false;
-    }
-    true
 }
 
-fn read_open(fd: i32, path: &[u8], into: &mut [u8]) -> Got
+// Reads until the buffer is full, the input ends or a read fails.
+fn read_full<R: Read>(file: &mut R, into: &mut [u8]) -> usize
+    ensures { IsPrefixLen result into.new }
+{
+    let mut done = 0;
+    while done < into.len() {
+        let n = match file.read(&mut into[done..]) {
+            Ok(n) => n,
+            Err(_) => 0,
+        };
+        if n == 0 {
+            break;
+        }
+        done += n;
+    }
+    done
+}
+
+fn read_open<R: Read>(file: &mut R, path: &[u8], into: &mut [u8]) -> Got
     ensures { IsPrefixLen result.len into.new }
 {
-    let n = io::read_full(fd, into);
-    let whole = ends_here(fd, path, into.len());
+    let n = read_full(file, into);
+    let whole = ends_here(file, path, into.len());
     Got {
         whole: whole,
         len: n,
     }
 }
 
+// A name as text, which is what files are opened by; where it is none, a line on standard error says so.
+fn name_text(path: &[u8]) -> Option<&str>
+    ensures { IfSome result (λ name. name.now ≡ path.now) }
+{
+    match std::str::from_utf8(path) {
+        Ok(name) => Some(name),
+        Err(_) => {
+            complain(path, b": a name that is no UTF-8\n");
+            None
+        }
+    }
+}
+
 // The file with this name; where it is not read whole, a line on standard error says why.
-pub fn read_named(path: &[u8], into: &mut [u8]) -> Got
+pub fn read_named<R: Files>(rt: &R, path: &[u8], into: &mut [u8]) -> Got
     ensures { IsPrefixLen result.len into.new }
 {
-    let fd = os::open_read(path);
-    if fd < 0 {
-        os::fail(path);
-        return Got {
-            whole: false,
-            len: 0,
-        };
+    let nothing = Got {
+        whole: false,
+        len: 0,
+    };
+    let Some(name) = name_text(path) else {
+        return nothing;
+    };
+    match File::open(rt, name) {
+        Ok(mut file) => read_open(&mut file, path, into),
+        Err(e) => {
+            fail(path, e);
+            nothing
+        }
     }
-    let got = read_open(fd, path, into);
-    libc::close(fd);
-    got
 }
 
 // Standard input, in the same way.
-pub fn read_input(into: &mut [u8]) -> Got
+pub fn read_input<R: Input>(rt: &R, into: &mut [u8]) -> Got
     ensures { IsPrefixLen result.len into.new }
 {
-    read_open(STDIN_FILENO, b"standard input", into)
+    let mut input = rt.reader();
+    read_open(&mut input, b"standard input", into)
 }
 
 // Whether the name is that of a folder: it can be opened to read, but not read.
-pub fn is_folder(path: &[u8]) -> bool {
-    let fd = os::open_read(path);
-    if fd < 0 {
+pub fn is_folder<R: Files>(rt: &R, path: &[u8]) -> bool {
+    let Ok(name) = std::str::from_utf8(path) else {
         return false;
-    }
+    };
+    let Ok(mut file) = File::open(rt, name) else {
+        return false;
+    };
     let mut next = [0u8; 1];
-    let got = libc::read(fd, &mut next);
-    let folder = os::errno() == libc::EISDIR;
-    libc::close(fd);
-    if got < 0 {
-        return folder;
+    match file.read(&mut next) {
+        Ok(_) => false,
+        Err(e) => e.kind() == ErrorKind::IsADirectory,
     }
-    false
 }
 
 // Whether there is something with this name, readable or not.
-pub fn is_there(path: &[u8]) -> bool {
-    let fd = os::open_read(path);
-    if fd < 0 {
-        return os::errno() != libc::ENOENT;
+pub fn is_there<R: Files>(rt: &R, path: &[u8]) -> bool {
+    let Ok(name) = std::str::from_utf8(path) else {
+        return true;
+    };
+    match File::open(rt, name) {
+        Ok(_) => true,
+        Err(e) => e.kind() != ErrorKind::NotFound,
     }
-    libc::close(fd);
-    true
+}
+
+// Why an argument is not had, as the system's error.
+fn error_of(e: FillError) -> Error {
+    match e {
+        FillError::NotPresent => Error::from_raw_os_error(22),
+        FillError::TooLong => Error::from_raw_os_error(36),
+    }
+}
+
+// An argument of the program; nothing where there is none, or where it is longer than what is lent.
+pub fn argument<R: Env>(rt: &R, i: usize, into: &mut [u8]) -> usize
+    ensures { IsPrefixLen result into.new }
+{
+    match rt.arg(i, into) {
+        Ok(n) => n,
+        Err(_) => 0,
+    }
+}
+
+// The name of a file that an argument of the program is; where it is not had, a line on standard error says why.
+pub fn file_name<R: Env>(rt: &R, i: usize, into: &mut [u8]) -> Got
+    ensures { IsPrefixLen result.len into.new }
+{
+    match rt.arg(i, into) {
+        Ok(n) => Got {
+            whole: true,
+            len: n,
+        },
+        Err(e) => {
+            fail(b"the file's name", error_of(e));
+            Got {
+                whole: false,
+                len: 0,
+            }
+        }
+    }
+}
+
+// How many arguments there are, the program's name among them.
+pub fn argument_count<R: Env>(rt: &R) -> usize {
+    for i in 0..usize::MAX {
+        if let Err(FillError::NotPresent) = rt.arg(i, &mut []) {
+            return i;
+        }
+    }
+    usize::MAX
 }
 
 // The file that an argument of the program names.
-pub fn read_file(argument: usize, into: &mut [u8]) -> Got
+pub fn read_file<R: Env + Files>(rt: &R, i: usize, into: &mut [u8]) -> Got
     ensures { IsPrefixLen result.len into.new }
 {
     let mut path = io::buffer();
-    let length = os::arg(argument, &mut path);
-    if os::errno() != 0 {
-        os::fail(b"the file's name");
+    let name = file_name(rt, i, &mut path);
+    let length = name.len;
+    if !name.whole {
         return Got {
             whole: false,
             len: 0,
         };
     }
-    read_named(&path[..length], into)
+    read_named(rt, &path[..length], into)
 }
 
-pub fn argument_is(argument: usize, word: &[u8]) -> bool {
+pub fn argument_is<R: Env>(rt: &R, i: usize, word: &[u8]) -> bool {
     let mut given = io::buffer();
-    let n = os::arg(argument, &mut given);
+    let n = argument(rt, i, &mut given);
     check::same(&given[..n], word)
 }
 
 // `--help` alone: the usage on standard output, where it was asked for.
-pub fn helped(usage: &[u8]) -> bool {
-    if os::arg_count() != 2 {
+pub fn helped<R: Env>(rt: &R, usage: &[u8]) -> bool {
+    if argument_count(rt) != 2 {
         return false;
     }
-    if !argument_is(1, b"--help") {
+    if !argument_is(rt, 1, b"--help") {
         return false;
     }
     io::write_all(STDOUT_FILENO, usage);

@@ -1,12 +1,24 @@
 // A file written whole or not at all: under a name of its own beside the file's, then renamed.
-ghost use Rattle.std.specs.Prelude.{◌≡◌, ◌++◌, ◌+◌, ◌≤◌, length, take};
+ghost use Rattle.std.specs.Prelude.{◌≡◌, ◌++◌, ◌+◌, ◌≤◌, length, take, drop};
 ghost use Rattle.io.specs.Counts.{IsPrefixLen};
 
-use crate::complain;
-use libc::PATH_MAX;
+use crate::reason::fail;
+use crate::{complain, file_name, name_text};
+use std::env::Env;
+use std::fs;
+use std::fs::{File, Files, OpenFile, OpenOptions};
+use std::io::{ErrorKind, Write};
 
 // Room for the longest argument and `.part`. A name that is longer than paths may be is refused where it is used.
 const NAME_MAX: usize = 4101;
+
+// Puts bytes at the start of others.
+fn copy(from: &[u8], to: &mut [u8])
+    requires { length from.now ≤ length to.old }
+    ensures { to.new ≡ from.now ++ drop (length from.now) to.old }
+{
+    to[..from.len()].copy_from_slice(from);
+}
 
 // A path with an ending behind it; how long both are.
 pub fn put_name(path: &[u8], ending: &[u8], name: &mut [u8]) -> usize
@@ -15,97 +27,97 @@ pub fn put_name(path: &[u8], ending: &[u8], name: &mut [u8]) -> usize
 {
     let n = path.len();
     let end = n + ending.len();
-    bytes::copy(path, name);
-    bytes::copy(ending, &mut name[n..end]);
+    copy(path, name);
+    copy(ending, &mut name[n..end]);
     end
 }
 
-fn remove(path: &[u8]) {
-    if os::unlink(path) < 0 {
-        os::fail(path);
+fn remove<R: Files>(rt: &R, name: &str) {
+    if let Err(e) = fs::remove_file(rt, name) {
+        fail(name.as_bytes(), e);
     }
 }
 
-// Errors may come as late as when the bytes reach the device or the file is closed.
-fn fill_open(fd: i32, path: &[u8], content: &[u8]) -> bool {
-    let mut filled = io::write_all(fd, content);
-    if filled {
-        filled = libc::fsync(fd) == 0;
-    }
-    if !filled {
-        os::fail(path);
-        libc::close(fd);
+// Errors may come as late as when the bytes reach the device.
+fn fill_open<F: Write + OpenFile>(file: &mut F, path: &[u8], content: &[u8]) -> bool {
+    if let Err(e) = file.write_all(content) {
+        fail(path, e);
         return false;
     }
-    if libc::close(fd) < 0 {
-        os::fail(path);
+    if let Err(e) = file.sync_all() {
+        fail(path, e);
         return false;
     }
     true
 }
 
 // A file that is there already is left alone: it may be another program's.
-fn write_new(path: &[u8], content: &[u8]) -> bool {
-    let fd = os::create(path);
-    if fd < 0 {
-        os::fail(path);
-        return false;
-    }
-    if fill_open(fd, path, content) {
+fn write_new<R: Files>(rt: &R, name: &str, content: &[u8]) -> bool {
+    let opened = OpenOptions::new()
+        .write(true)
+        .create_new(true)
+        .open(rt, name);
+    let mut file = match opened {
+        Ok(file) => file,
+        Err(e) => {
+            fail(name.as_bytes(), e);
+            return false;
+        }
+    };
+    if fill_open(&mut file, name.as_bytes(), content) {
         return true;
     }
-    remove(path);
+    remove(rt, name);
     false
 }
 
-fn write_beside(path: &[u8], content: &[u8]) -> bool
+fn write_beside<R: Files>(rt: &R, path: &str, content: &[u8]) -> bool
     requires { length path.now ≤ 4096 }
 {
     // Beside the file itself, since a rename cannot leave a file system.
     let mut name = [0u8; NAME_MAX];
-    let len = put_name(path, b".part", &mut name);
-    if !write_new(&name[..len], content) {
+    let len = put_name(path.as_bytes(), b".part", &mut name);
+    let Some(part) = name_text(&name[..len]) else {
+        return false;
+    };
+    if !write_new(rt, part, content) {
         return false;
     }
-    if os::rename(&name[..len], path) < 0 {
-        os::fail(path);
-        remove(&name[..len]);
+    if let Err(e) = fs::rename(rt, part, path) {
+        fail(path.as_bytes(), e);
+        remove(rt, part);
         return false;
     }
     true
 }
 
-// Whether the name leads to another; the text of a link has at least one byte.
-fn is_link(argument: usize) -> bool {
-    let mut path = io::buffer();
-    os::arg(argument, &mut path);
-    path[PATH_MAX - 1] = 0;
-    let mut text = [0u8; 1];
-    libc::readlink(&path, &mut text) >= 0
-}
-
-// Tells a regular file from a pipe, a terminal or a device such as /dev/null, which keep nothing that `fsync` could wait for. A disk passes.
-fn holds_bytes(fd: i32) -> bool {
-    let held = libc::fsync(fd) == 0;
-    libc::close(fd);
-    held
+// Whether the name leads to another.
+fn is_link<R: Files>(rt: &R, name: &str) -> bool {
+    match fs::symlink_metadata(rt, name) {
+        Ok(found) => found.is_symlink(),
+        Err(_) => false,
+    }
 }
 
 // A rename puts a file in the place of whatever has the name, of /dev/null and /dev/stdout too.
-fn may_take(argument: usize, path: &[u8]) -> bool {
-    if is_link(argument) {
+fn may_take<R: Files>(rt: &R, name: &str) -> bool {
+    let path = name.as_bytes();
+    if is_link(rt, name) {
         complain(path, b": a link, which is not replaced\n");
         return false;
     }
-    let fd = os::open_update(path);
-    if fd < 0 {
-        if os::errno() == libc::ENOENT {
-            return true;
+    let file = match OpenOptions::new().read(true).write(true).open(rt, name) {
+        Ok(file) => file,
+        Err(e) => {
+            if e.kind() == ErrorKind::NotFound {
+                return true;
+            }
+            fail(path, e);
+            return false;
         }
-        os::fail(path);
-        return false;
-    }
-    if holds_bytes(fd) {
+    };
+    // Tells a regular file from a pipe, a terminal or a device such as /dev/null, which keep nothing that could be waited for. A disk passes.
+    if file.sync_all().is_ok() {
         return true;
     }
     complain(path, b": no regular file, and not replaced\n");
@@ -113,15 +125,18 @@ fn may_take(argument: usize, path: &[u8]) -> bool {
 }
 
 // The file that an argument of the program names; where it is not written, it is as it was, and a line on standard error says why.
-pub fn write_file(argument: usize, content: &[u8]) -> bool {
+pub fn write_file<R: Env + Files>(rt: &R, argument: usize, content: &[u8]) -> bool {
     let mut path = io::buffer();
-    let length = os::arg(argument, &mut path);
-    if os::errno() != 0 {
-        os::fail(b"the file's name");
+    let got = file_name(rt, argument, &mut path);
+    let length = got.len;
+    if !got.whole {
         return false;
     }
-    if !may_take(argument, &path[..length]) {
+    let Some(name) = name_text(&path[..length]) else {
+        return false;
+    };
+    if !may_take(rt, name) {
         return false;
     }
-    write_beside(&path[..length], content)
+    write_beside(rt, name, content)
 }

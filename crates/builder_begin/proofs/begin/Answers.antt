@@ -5,7 +5,6 @@ use mathlib.Core.List.{[], ◌∷◌}
 use lib.ListN.{length}
 use Prim.Native.Nat.{◌+◌}
 use Rattle.builder_record.proofs.LayLaws.{step_is}
-use borrow.Author.Tests.{not-true, not-false}
 use Rattle.table.specs.declared.State.{State}
 use Rattle.table.specs.declared.Answer.{Answer}
 use mathlib.Core.Path.{sym, ap, ◌∙◌}
@@ -18,7 +17,7 @@ returns-then-not-is_empty c =
     let b = a.out.now in
     let t = begin-again a.state b a.oem
     (a.counts.hfi ∷ a.counts.ssns ∷ a.counts.security ∷ a.counts.discovery ∷ []) a.signature.now
-    (sym c.is_empty.ensures ∙ not-true c.is_empty.result c.if-not-is_empty.true) in (
+    (sym c.is_empty.ensures ∙ c.if-not-is_empty.true) in (
       step_is c.refused.result c.refuse.result a.state c.refused.ensures.0
           c.refused.ensures.1
           ∙ ap (λ (x : Answer). record { answer = x; state = a.state }) c.refuse.ensures
@@ -31,8 +30,8 @@ returns-then-fault-ne0 c =
     let a = c.args in
     let t = begin-faulty a.state a.out.now a.oem
     (a.counts.hfi ∷ a.counts.ssns ∷ a.counts.security ∷ a.counts.discovery ∷ []) a.signature.now
-    (sym c.is_empty.ensures ∙ not-false c.is_empty.result c.if-not-is_empty.false) c.fits2.result
-    c.fits2.ensures c.if-fault-ne0.true in (
+    (sym c.is_empty.ensures ∙ c.if-not-is_empty.false) c.fits-fault.result
+    c.fits-fault.ensures c.if-fault-ne0.true in (
       step_is c.refused-then-fault-ne0.result c.refuse-then-fault-ne0.result a.state c.refused-then-fault-ne0.ensures.0
           c.refused-then-fault-ne0.ensures.1
           ∙ ap (λ (x : Answer). record { answer = x; state = a.state }) c.refuse-then-fault-ne0.ensures
@@ -48,8 +47,8 @@ returns-then-room-ne0 c =
     c.records_end-heap.result he in
     let t = begin-refused a.state a.out.now a.oem
     (a.counts.hfi ∷ a.counts.ssns ∷ a.counts.security ∷ a.counts.discovery ∷ []) a.signature.now
-    (sym c.is_empty.ensures ∙ not-false c.is_empty.result c.if-not-is_empty.false)
-    (sym c.fits2.ensures ∙ c.if-fault-ne0.false)
+    (sym c.is_empty.ensures ∙ c.if-not-is_empty.false)
+    (sym c.fits-fault.ensures ∙ c.if-fault-ne0.false)
     (c.records_end-heap.result + length a.signature.now) n c.room_fault-room.result
     c.room_fault-room.ensures c.if-room-ne0.true in (
       step_is c.refused-then-room-ne0.result c.room_fault-room.result a.state c.refused-then-room-ne0.ensures.0
@@ -75,8 +74,8 @@ returns c =
     c.records_end-heap.result he in
     let t = begin-done a.state a.out.now a.oem
     (a.counts.hfi ∷ a.counts.ssns ∷ a.counts.security ∷ a.counts.discovery ∷ []) a.signature.now
-    (sym c.is_empty.ensures ∙ not-false c.is_empty.result c.if-not-is_empty.false)
-    (sym c.fits2.ensures ∙ c.if-fault-ne0.false)
+    (sym c.is_empty.ensures ∙ c.if-not-is_empty.false)
+    (sym c.fits-fault.ensures ∙ c.if-fault-ne0.false)
     (c.records_end-heap.result + length a.signature.now) n c.room_fault-room.result
     c.room_fault-room.ensures c.if-room-ne0.false in (
       ap (λ (y : State). record { answer = c.room_fault-room.result; state = y }) c.begun_state-begun.ensures.0 ∙ t.0,

@@ -14,10 +14,10 @@ pub returns : goal.returns
 returns c =
     let a = c.args in
     let b = a.out.now in
-    let ol : length a.t2 ≡ 26 = search rules in
-    let hl = header-length 0 a.t2 a.heap 0 (length a.signature.now) 0 ol in
+    let ol : length a.oem ≡ 26 = search rules in
+    let hl = header-length 0 a.oem a.heap 0 (length a.signature.now) 0 ol in
     let cl = control-length a.counts.hfi a.counts.ssns a.counts.security a.counts.discovery in
-    let H = header_for 0 a.t2 a.heap 0 (length a.signature.now) 0 in
+    let H = header_for 0 a.oem a.heap 0 (length a.signature.now) 0 in
     let C = control_for (a.counts.hfi ∷ a.counts.ssns ∷ a.counts.security ∷ a.counts.discovery ∷ []) in
     let Z = replicate {A = ℕ} (a.heap - 128) 0 in
     let zl = length-replicate {A = ℕ} (a.heap - 128) 0 in
@@ -48,4 +48,4 @@ returns c =
         ),
       ),
     )
-    ∙ ap (splice b 0) (opened-laid a.t2 a.counts c.requires.3 a.signature.now a.heap c.requires.0)
+    ∙ ap (splice b 0) (opened-laid a.oem a.counts c.requires.3 a.signature.now a.heap c.requires.0)

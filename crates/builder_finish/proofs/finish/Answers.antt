@@ -1,7 +1,7 @@
 use Rattle.builder_finish.proofs.EndLaws.{finish-early, finish-short, finish-refused, finish-done}
 use Rattle.table.specs.Builder.{sealed}
 use Rattle.table.specs.Bytes.{pick}
-use borrow.Author.Tests.{not-true, not-false, eq-eqb, ne_eqb}
+use borrow.Author.Tests.{eq-eqb, ne_eqb}
 use mathlib.Core.Bool.{Bool}
 use Rattle.builder_record.proofs.LayLaws.{step_is}
 use Rattle.table.specs.declared.State.{State}
@@ -16,7 +16,7 @@ returns-then-not-waits c =
     let a = c.args in
     let b = a.out.now in
     let t = finish-early a.state b
-    (sym c.waits.ensures ∙ not-true c.waits.result c.if-not-waits.true) in (
+    (sym c.waits.ensures ∙ c.if-not-waits.true) in (
       step_is c.refused.result c.refuse.result a.state c.refused.ensures.0
           c.refused.ensures.1
           ∙ ap (λ (x : Answer). record { answer = x; state = a.state }) c.refuse.ensures
@@ -29,7 +29,7 @@ returns-then-state-out c =
     let a = c.args in
     let b = a.out.now in
     let t = finish-short a.state b
-    (sym c.waits.ensures ∙ not-false c.waits.result c.if-not-waits.false)
+    (sym c.waits.ensures ∙ c.if-not-waits.false)
     (omega (arith, c.if-state-out.true)) in (
       step_is c.refused-then-state-out.result c.refuse-then-state-out.result a.state c.refused-then-state-out.ensures.0
           c.refused-then-state-out.ensures.1
@@ -42,7 +42,7 @@ pub judge_finished-answer-requires : goal.judge_finished-answer-requires
 judge_finished-answer-requires c =
     let a = c.args in
     let b = a.out.now in (
-      sym c.waits.ensures ∙ not-false c.waits.result c.if-not-waits.false,
+      sym c.waits.ensures ∙ c.if-not-waits.false,
       omega (arith, c.if-state-out.false),
     )
 
@@ -52,7 +52,7 @@ returns-then-answer-ne0 c =
     let b = a.out.now in
     let j = c.judge_finished-answer.ensures in
     let t = finish-refused a.state b
-    (sym c.waits.ensures ∙ not-false c.waits.result c.if-not-waits.false)
+    (sym c.waits.ensures ∙ c.if-not-waits.false)
     (omega (arith, c.if-state-out.false)) c.judge_finished-answer.result j.0
     c.if-answer-ne0.true in (
       step_is c.refused-then-answer-ne0.result c.judge_finished-answer.result a.state c.refused-then-answer-ne0.ensures.0
@@ -70,7 +70,7 @@ returns c =
     let b = a.out.now in
     let j = c.judge_finished-answer.ensures in
     let t = finish-done a.state b
-    (sym c.waits.ensures ∙ not-false c.waits.result c.if-not-waits.false)
+    (sym c.waits.ensures ∙ c.if-not-waits.false)
     (omega (arith, c.if-state-out.false)) c.judge_finished-answer.result j.0 c.if-answer-ne0.false in (
       ap (λ (y : State). record { answer = c.judge_finished-answer.result; state = y })
           c.finished-finished.ensures

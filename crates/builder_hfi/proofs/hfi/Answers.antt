@@ -30,7 +30,7 @@ judged-answer-requires c =
 pub returns-then-answer-ne0 : goal.returns-then-answer-ne0
 returns-then-answer-ne0 c =
     let a = c.args in
-    let t = hfi-refused a.state a.out.now a.told.bytes c.mark_32-marked.result a.info.bytes c.mark_128-marked_info.result a.name.now a.extended-told
+    let t = hfi-refused a.state a.out.now a.told.bytes c.mark_32-marked.result a.info.bytes c.mark_128-marked_info.result a.name.now a.extended_told
     a.extended.bytes c.mark_20-marked_extended.result a.iaid.now a.duid.now c.own_fault-own.result c.object_fault-objects.result c.judged-answer.result
     c.mark_32-marked.ensures.0 c.mark_128-marked_info.ensures.0 c.mark_20-marked_extended.ensures.0 c.is_there-there.result c.is_there-there.ensures
     c.own_fault-own.ensures c.object_fault-objects.ensures c.judged-answer.ensures c.if-answer-ne0.true in (
@@ -46,7 +46,7 @@ pub lay_hfi-requires : goal.lay_hfi-requires
 unfolding hfi info hfi_extended
 lay_hfi-requires c =
     let a = c.args in
-    let p = hfi-passed a.state a.out.now a.told.bytes c.mark_32-marked.result a.info.bytes c.mark_128-marked_info.result a.name.now a.extended-told
+    let p = hfi-passed a.state a.out.now a.told.bytes c.mark_32-marked.result a.info.bytes c.mark_128-marked_info.result a.name.now a.extended_told
     a.extended.bytes c.mark_20-marked_extended.result a.iaid.now a.duid.now c.own_fault-own.result c.object_fault-objects.result c.judged-answer.result
     c.mark_32-marked.ensures.0 c.mark_128-marked_info.ensures.0 c.mark_20-marked_extended.ensures.0 c.is_there-there.result c.is_there-there.ensures
     c.own_fault-own.ensures c.object_fault-objects.ensures c.judged-answer.ensures c.if-answer-ne0.false in
@@ -55,7 +55,7 @@ lay_hfi-requires c =
 pub returns : goal.returns
 returns c =
     let a = c.args in
-    let d = hfi-done a.state a.out.now a.told.bytes c.mark_32-marked.result a.info.bytes c.mark_128-marked_info.result a.name.now a.extended-told
+    let d = hfi-done a.state a.out.now a.told.bytes c.mark_32-marked.result a.info.bytes c.mark_128-marked_info.result a.name.now a.extended_told
     a.extended.bytes c.mark_20-marked_extended.result a.iaid.now a.duid.now c.own_fault-own.result c.object_fault-objects.result c.judged-answer.result
     c.mark_32-marked.ensures.0 c.mark_128-marked_info.ensures.0 c.mark_20-marked_extended.ensures.0 c.is_there-there.result c.is_there-there.ensures
     c.own_fault-own.ensures c.object_fault-objects.ensures c.judged-answer.ensures c.if-answer-ne0.false in

@@ -33,35 +33,34 @@ short c =
 -- all that the record names, as it is kept
 abbrev slots : (e : After-identity_size) → Slots hfi.refs
 slots e =
-    let a = e.before.before.before.before.before.before.before.before.before.before.before.before.args in
+    let a = e.args in
     hfi_slots (image_in info a.info.now 0) (ended text a.name.now) a.there (image_in hfi_extended a.extended.now 0) a.iaid.now a.duid.now
 
-named : (e : After-identity_size) → let a = e.before.before.before.before.before.before.before.before.before.before.before.before.args in
-    Laid a.marked.now a.info.now (ended text a.name.now) a.extended.now a.state.used (slots e) a.there e.identity-size.result
-    e.before.before.before.kept.result.now e.before.before.kept2.result.now
+named : (e : After-identity_size) →
+    Laid e.args.marked.now e.args.info.now (ended text e.args.name.now) e.args.extended.now e.args.state.used (slots e) e.args.there e.identity_size.result
+    e.kept-own_iaid.result.now e.kept-own_duid.result.now
 named e =
-    let at2 = e.before.before in
-    let at3 = at2.before in
-    let at4 = at3.before in
-    let a = at4.before.before.before.before.before.before.before.before.args in
-    hfi-laid a.marked.now a.info.now (ended text a.name.now) a.extended.now a.state.used a.there at4.own-need.result a.iaid.now a.duid.now
-    at3.kept.result.now at2.kept2.result.now e.identity-size.result at4.own-need.ensures at3.kept.ensures at2.kept2.ensures e.identity-size.ensures.0
+    let a = e.args in
+    hfi-laid a.marked.now a.info.now (ended text a.name.now) a.extended.now a.state.used a.there e.own_need-need.result a.iaid.now a.duid.now
+    e.kept-own_iaid.result.now e.kept-own_duid.result.now e.identity_size.result e.own_need-need.ensures e.kept-own_iaid.ensures e.kept-own_duid.ensures
+    e.identity_size.ensures.0
 
 -- how many bytes are written
-abbrev written : (e : After-identity_size) → ℕ
-written e = 128 + (e.before.ended-len.result + e.identity-size.result)
+abbrev written : ℕ → ℕ → ℕ
+written n m = 128 + (n + m)
 
-size_is : (e : After-identity_size) → written e ≡ size_of (slots e)
-size_is e = ap (λ (n : ℕ). 128 + (n + e.identity-size.result)) e.before.ended-len.ensures ∙ (named e).0
+size_is : (e : After-identity_size) → written e.ended_len.result e.identity_size.result ≡ size_of (slots e)
+size_is e = ap (λ (n : ℕ). 128 + (n + e.identity_size.result)) e.ended_len.ensures ∙ (named e).0
 
 -- where there is room
 roomy-here : (c : After-place_of-at) →
     let a = c.args in
-    let n = a.state.used + written c in
+    let n = a.state.used + written c.ended_len.result c.identity_size.result in
     (records_end a.state ≤ a.state.used) × (n ≤ 65536) × (n ≤ length a.out.now)
 roomy-here c =
     let a = c.args in
-    roomy a.state 3 (written c) (length a.out.now) c.room_fault-room.result c.requires.state_value.0 c.room_fault-room.ensures c.if-room-ne0.false
+    roomy a.state 3 (written c.ended_len.result c.identity_size.result) (length a.out.now) c.room_fault-room.result c.requires.state_value.0
+    c.room_fault-room.ensures c.if-room-ne0.false
 
 inside : (c : After-place_of-at) → c.place_of-at.result + 32 ≤ length c.args.out.now
 unfolding layout_of hfi
@@ -90,8 +89,9 @@ pub returns-then-room-ne0 : goal.returns-then-room-ne0
 unfolding laid_hfi
 returns-then-room-ne0 c =
     let a = c.args in
-    laid-refused hfi a.state a.out.now a.marked.now (slots c) (written c) c.room_fault-room.result c.refused.result
-    (size_is c) c.room_fault-room.ensures c.refused.ensures.0 c.if-room-ne0.true c.refused.ensures.1
+    let e = (goal.at.returns-then-room-ne0 c).After-identity_size in
+    laid-refused hfi a.state a.out.now a.marked.now (slots e) (written c.ended_len.result c.identity_size.result) c.room_fault-room.result
+    c.refused.result (size_is e) c.room_fault-room.ensures c.refused.ensures.0 c.if-room-ne0.true c.refused.ensures.1
 
 pub overflow_add-end : goal.overflow_add-end
 unfolding layout_of hfi
@@ -110,10 +110,12 @@ unfolding limit
 lay_info-requires c =
     let z = short (goal.at.lay_info-requires c).After-kept-own_duid in
     let m = c.identity_size.ensures.0 in
-    let n = c.ended_len.ensures in (
-      (c.requires.state_value.2, c.requires.state_value.3),
-      ((c.requires.name_len_bound.0, z.0, z.1), (omega (arith, roomy-here (goal.at.lay_info-requires c).After-place_of-at, m, n), omega (arith, roomy-here (goal.at.lay_info-requires c).After-place_of-at, m, n, c.out-1.given.1))),
-    )
+    let n = c.ended_len.ensures in
+    let r = roomy-here (goal.at.lay_info-requires c).After-place_of-at in record {
+      info_len = (c.requires.state_value.2, c.requires.state_value.3);
+      name_len_bound = (c.requires.name_len_bound.0, z.0, z.1);
+      duid_bound = (omega (arith, r, m, n), omega (arith, r, m, n));
+    }
 
 pub is_newer-requires : goal.is_newer-requires
 unfolding info
@@ -135,10 +137,12 @@ returns c =
     let m = c.identity_size.result in
     let p = c.kept-own_iaid.result.now in
     let q = c.kept-own_duid.result.now in
-    let f = named c in
+    let e = (goal.at.returns c).After-identity_size in
+    let f = named e in
     let record_of : ℕ → List ℕ = λ n. record_with hfi a.marked.now a.state.used (base_of info ∷ []) ((base_of info + (n + m)) ∷ []) in
     let y = part-stored a.out.now t.result 32 w.new.part (record_of c.ended_len.result) (inside (goal.at.returns c).After-place_of-at) w.auto.part w.ensures in
-    laid_done hfi a.state a.out.now a.marked.now (slots c) (written c) c.room_fault-room.result c.stepped.result (size_is c)
+    laid_done hfi a.state a.out.now a.marked.now (slots e) (written c.ended_len.result c.identity_size.result) c.room_fault-room.result
+    c.stepped.result (size_is e)
     c.room_fault-room.ensures c.stepped.ensures.0 c.if-room-ne0.false c.is_newer.result
     (c.is_newer.ensures ∙ newer-is (image_in info a.info.now 0) name (image_in hfi_extended a.extended.now 0) a.iaid.now a.duid.now a.there)
     c.stepped.ensures.1 t.result _ _ c.lay_info.new.out

@@ -21,12 +21,12 @@ unfolding info limit
 write_info-requires c =
     let a = c.args in (
       (
-        part-size a.out.now a.at 128 (omega (arith, c.requires.name_len_bound.1.1)),
+        part-size a.out.now a.at 128 (omega (arith, c.requires.duid_bound.1)),
         c.requires.info_len.0,
-        omega (arith, c.requires.name_len_bound.1.0),
+        omega (arith, c.requires.duid_bound.0),
       ),
-      omega (arith, c.requires.name_len_bound.0.0, c.ended_len-name_len.ensures),
-      omega (arith, c.requires.name_len_bound.1.0, c.identity_size-span.ensures.0),
+      omega (arith, c.requires.name_len_bound.0, c.ended_len-name_len.ensures),
+      omega (arith, c.requires.duid_bound.0, c.identity_size-span.ensures.0),
     )
 
 pub returns : goal.returns
@@ -38,11 +38,11 @@ returns c =
     let n = c.ended_len-name_len.result in
     let len_is = c.ended_len-name_len.ensures in
     let w = c.write_info in
-    let k : a.at + 128 ≤ length b = omega (arith, c.requires.name_len_bound.1.1) in
+    let k : a.at + 128 ≤ length b = omega (arith, c.requires.duid_bound.1) in
     let l : length w.new.part ≡ 128 = w.auto.part ∙ part-size b a.at 128 k in
     let p = concat (w.new.part ∷ name ∷ []) in
     let pl : length p ≡ 128 + length name = two-long w.new.part name ∙ ap (λ (m : ℕ). m + length name) l in
-    let r : a.at + length p ≤ length b = omega (arith, pl, c.requires.name_len_bound.1.1) in
+    let r : a.at + length p ≤ length b = omega (arith, pl, c.requires.duid_bound.1) in
     let z = chain-laid (w.new.part ∷ name ∷ []) b a.at c.lay_text.new.out r (
       _,
       a.at,

@@ -12,5 +12,5 @@ returns c =
     let a = c.args in
     c.first_of.ensures
     ∙ ap₂ (λ (x y : ℕ). first_of x y) c.fits_text.ensures (c.first_of-identity.ensures
-    ∙ ap₂ (λ (x y : ℕ). first_of x y) (c.fits-2.ensures ∙ ap (λ (n : Need). told_fault n anything a.iaid.now) c.own_need-need.ensures)
-    (c.fits3.ensures ∙ ap (λ (n : Need). told_fault n anything a.duid.now) c.own_need-need.ensures))
+    ∙ ap₂ (λ (x y : ℕ). first_of x y) (c.fits.ensures ∙ ap (λ (n : Need). told_fault n anything a.iaid.now) c.own_need-need.ensures)
+    (c.fits-2.ensures ∙ ap (λ (n : Need). told_fault n anything a.duid.now) c.own_need-need.ensures))

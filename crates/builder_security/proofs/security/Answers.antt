@@ -125,25 +125,27 @@ lay_security-requires c =
     let p = security-passed c.args.state c.args.out.now c.args.told.bytes
     c.mark_64-marked.result c.args.algorithms.now c.args.protocols.now c.args.ciphers.now
     c.args.groups.now c.args.hashes.now c.args.keypath.now c.judged-answer.result
-    c.mark_64-marked.ensures.0 (judged-is (goal.at.lay_security-requires c).After-judged-answer) c.if-answer-ne0.left in record { state_value = (p.0, c.mark_64-marked.ensures.2); algorithms_len_bound = (
-        rw (algorithms-kept c) p.1,
-        rw (protocols-kept c) p.2,
-        rw (ciphers-kept c) p.3,
-        rw (groups-kept c) p.4,
-        rw (hashes-kept c) p.5,
-        rw (keypath-kept c) p.6,
+    c.mark_64-marked.ensures.0 (judged-is (goal.at.lay_security-requires c).After-judged-answer) c.if-answer-ne0.false in
+    let k = (goal.at.lay_security-requires c).After-kept-6 in record { state_value = (p.0, c.mark_64-marked.ensures.2); algorithms_len_bound = (
+        rw (algorithms-kept k) p.1,
+        rw (protocols-kept k) p.2,
+        rw (ciphers-kept k) p.3,
+        rw (groups-kept k) p.4,
+        rw (hashes-kept k) p.5,
+        rw (keypath-kept k) p.6,
       ); }
 
 pub returns : goal.returns
 returns c =
+    let k = (goal.at.returns c).After-kept-6 in
     let d = security-done c.args.state c.args.out.now c.args.told.bytes
     c.mark_64-marked.result c.args.algorithms.now c.args.protocols.now c.args.ciphers.now
     c.args.groups.now c.args.hashes.now c.args.keypath.now c.judged-answer.result
     c.mark_64-marked.ensures.0 (judged-is (goal.at.returns c).After-judged-answer) c.if-answer-ne0.false c.kept.result.now
     c.kept-2.result.now c.kept-3.result.now
     c.kept-4.result.now c.kept-5.result.now c.kept-6.result.now
-    (algorithms-kept c) (protocols-kept c) (ciphers-kept c)
-    (groups-kept c) (hashes-kept c) (keypath-kept c) in (
+    (algorithms-kept k) (protocols-kept k) (ciphers-kept k)
+    (groups-kept k) (hashes-kept k) (keypath-kept k) in (
       c.lay_security.ensures.0 ∙ ap (λ (o : Outcome). o.step) d,
       c.lay_security.ensures.1 ∙ ap (λ (o : Outcome). o.buffer) d,
     )

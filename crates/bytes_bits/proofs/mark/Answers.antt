@@ -5,9 +5,6 @@ use native.Mathlib.Omega.{arith}
 use Rattle.bytes_bits.proofs.Laws.{room}
 use Rattle.bytes_bits.specs.Bits.{bit_at, with_bit}
 use Rattle.table.proofs.Rules.{picks}
-use borrow.Author.Rules.{rules}
-use Rattle.bytes_bits.proofs.mark.Reads as reads
-use Rattle.bytes_bits.proofs.power.Reads as power-reads
 use Rattle.bytes_bits.proofs.mark.Goals as goal
 
 pub overflow_add-map : goal.overflow_add-map

@@ -3,9 +3,6 @@ use Prim.Native.Nat.{ℕ, ◌+◌, ◌-◌, ◌*◌, ◌/◌, ◌%◌, ◌≤◌
 use native.Mathlib.Omega.{arith}
 use Rattle.bytes_bits.proofs.Laws.{bits-then}
 use borrow.Author.Rules.{rules}
-use Rattle.bytes_bits.proofs.mark_all.Reads as reads
-use Rattle.bytes_bits.proofs.mark_bytes.Reads as mark-bytes-reads
-use Rattle.bytes_bits.proofs.mark_each.Reads as mark-each-reads
 use Rattle.bytes_bits.proofs.mark_all.Goals as goal
 
 pub mark_bytes-requires : goal.mark_bytes-requires

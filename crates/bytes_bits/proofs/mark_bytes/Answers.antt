@@ -1,12 +1,11 @@
 use mathlib.Core.Path.{◌≡◌, refl, ap, ◌∙◌}
 use mathlib.Core.List.{List}
-use Prim.Native.Nat.{ℕ, ◌+◌, ◌-◌, ◌*◌, ◌≤◌, ◌<◌}
+use Prim.Native.Nat.{ℕ, ◌+◌, ◌*◌, ◌<◌}
 use native.Mathlib.Omega.{arith}
-use lib.ListN.{length, get_or, length-set}
+use lib.ListN.{length, length-set}
 use Rattle.bytes_bits.proofs.Laws.{bits-then, byte-set, still-bytes}
 use Rattle.bytes_bits.specs.Bits.{with_bits}
 use Rattle.table.proofs.Rules.{picks}
-use Rattle.bytes_bits.proofs.mark_bytes.Reads as reads
 use Rattle.bytes_bits.proofs.mark_bytes.Goals as goal
 
 pub loop-i-init : goal.loop-i-init

@@ -1,12 +1,7 @@
-use mathlib.Core.Path.{◌≡◌, refl, ap, ◌∙◌}
-use mathlib.Core.List.{List}
-use Prim.Native.Nat.{ℕ, ◌+◌, ◌-◌, ◌*◌, ◌≤◌, ◌<◌}
-use native.Mathlib.Omega.{arith}
-use lib.ListN.{length, get_or, length-set}
-use Rattle.bytes_bits.proofs.Laws.{bits-then, byte-set, still-bytes}
+use mathlib.Core.Path.{◌≡◌}
+use Prim.Native.Nat.{ℕ, ◌-◌, ◌*◌, ◌≤◌, ◌<◌}
+use lib.ListN.{length, get_or}
 use Rattle.bytes_bits.specs.Bits.{with_bits}
-use Rattle.table.proofs.Rules.{picks}
-use Rattle.bytes_bits.proofs.mark_bytes.Reads as reads
 use Rattle.bytes_bits.proofs.mark_bytes.Given as goal
 
 abbrev pub invariant-loop-i : goal.invariant-loop-i

@@ -1,13 +1,10 @@
 use mathlib.Core.Path.{◌≡◌, refl, ap, ◌∙◌}
-use Prim.Native.Nat.{◌+◌, ◌-◌, ◌≤◌}
+use Prim.Native.Nat.{◌+◌}
 use native.Mathlib.Numerals.{add-one}
 use native.Mathlib.Omega.{arith}
-use lib.ListN.{length}
 use Rattle.bytes_bits.specs.Bits.{with_bits}
 use Rattle.bytes_bits.specs.MapLaws.{length-mark}
 use Rattle.table.proofs.Rules.{picks}
-use Rattle.bytes_bits.proofs.mark_each.Reads as reads
-use Rattle.bytes_bits.proofs.mark.Reads as mark-reads
 use Rattle.bytes_bits.proofs.mark_each.Goals as goal
 
 pub loop-i-init : goal.loop-i-init

@@ -1,13 +1,7 @@
-use mathlib.Core.Path.{◌≡◌, refl, ap, ◌∙◌}
-use Prim.Native.Nat.{◌+◌, ◌-◌, ◌≤◌}
-use native.Mathlib.Numerals.{add-one}
-use native.Mathlib.Omega.{arith}
+use mathlib.Core.Path.{◌≡◌}
+use Prim.Native.Nat.{◌-◌, ◌≤◌}
 use lib.ListN.{length}
 use Rattle.bytes_bits.specs.Bits.{with_bits}
-use Rattle.bytes_bits.specs.MapLaws.{length-mark}
-use Rattle.table.proofs.Rules.{picks}
-use Rattle.bytes_bits.proofs.mark_each.Reads as reads
-use Rattle.bytes_bits.proofs.mark.Reads as mark-reads
 use Rattle.bytes_bits.proofs.mark_each.Given as goal
 
 abbrev pub invariant-loop-i : goal.invariant-loop-i

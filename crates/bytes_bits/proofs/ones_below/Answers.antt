@@ -2,25 +2,21 @@ use mathlib.Core.List.{List}
 use lib.ListN.{get_or}
 use lib.Count.{ones}
 use mathlib.Core.Path.{◌≡◌, sym, ap, ap₂, ◌∙◌}
-use Prim.Native.Nat.{ℕ, ◌+◌, ◌-◌, ◌*◌, ◌/◌, ◌%◌, ◌^◌, ◌≤◌}
+use Prim.Native.Nat.{ℕ, ◌+◌, ◌*◌, ◌/◌, ◌%◌, ◌^◌}
 use native.Mathlib.Omega.{arith}
 use Rattle.bytes_bits.specs.Bits.{bits_below}
 use Rattle.bytes_bits.proofs.Laws.{below-byte, below_rest}
 use Rattle.table.proofs.Rules.{picks}
-use Rattle.bytes_bits.proofs.ones_below.Reads as reads
-use Rattle.bytes_bits.proofs.ones_in.Reads as ones-in-reads
-use Rattle.bytes_bits.proofs.power.Reads as power-reads
 use Rattle.bytes_bits.proofs.ones_below.Goals as goal
 
 pub loop-i-preserved : goal.loop-i-preserved
-loop-i-preserved c =
-     (
-      search picks,
-      omega (arith, c.loop-i.invariant.1, c.ones_in-sum.ensures.1),
-      sym (below-byte c.args.map.now c.loop-i.i
-          (omega (arith, c.type_inv.map c.loop-i.i))
-          ∙ ap₂ ◌+◌ (sym c.loop-i.invariant.2) (sym c.ones_in-sum.ensures.0)),
-    )
+loop-i-preserved c = (
+  search picks,
+  omega (arith, c.loop-i.invariant.1, c.ones_in-sum.ensures.1),
+  sym (below-byte c.args.map.now c.loop-i.i
+      (omega (arith, c.type_inv.map c.loop-i.i))
+      ∙ ap₂ ◌+◌ (sym c.loop-i.invariant.2) (sym c.ones_in-sum.ensures.0)),
+)
 
 pub returns-then-n-eq0 : goal.returns-then-n-eq0
 returns-then-n-eq0 c =

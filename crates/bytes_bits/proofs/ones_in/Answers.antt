@@ -1,7 +1,6 @@
 use native.Mathlib.Omega.{arith}
 use lib.Count.{ones-le}
 use Rattle.table.proofs.Rules.{picks}
-use Rattle.bytes_bits.proofs.ones_in.Reads as reads
 use Rattle.bytes_bits.proofs.ones_in.Goals as goal
 
 pub returns : goal.returns

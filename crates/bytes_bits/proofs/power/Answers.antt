@@ -1,8 +1,6 @@
 use native.Mathlib.Omega.{arith}
 use lib.Pow.{pow_pos}
 use Rattle.bytes_bits.proofs.Laws.{power-is}
-use borrow.Author.Rules.{rules}
-use Rattle.bytes_bits.proofs.power.Reads as reads
 use Rattle.bytes_bits.proofs.power.Goals as goal
 
 pub returns : goal.returns

@@ -4,7 +4,6 @@ use Prim.Native.Nat.{◌+◌}
 use native.Mathlib.Omega.{arith}
 use Rattle.table.specs.Bytes.{le}
 use Rattle.bytes_writer.proofs.StoreLaws.{chain-laid}
-use borrow.Author.Rules.{rules}
 use Rattle.bytes_front.proofs.put_place.Goals as goal
 
 pub returns : goal.returns

@@ -6,7 +6,6 @@ use Rattle.bytes_front.specs.Front.{entry_for}
 use Rattle.bytes_writer.proofs.StoreLaws.{chain-laid, concat}
 use Rattle.bytes_writer.proofs.RecordLaws.{splice_all}
 use Rattle.bytes_front.proofs.FrontLaws.{control_pieces, length-entry, control-long, control-joined}
-use borrow.Author.Rules.{rules}
 use Rattle.bytes_front.proofs.write_control.Goals as goal
 
 pub fill_zero-requires : goal.fill_zero-requires

@@ -7,7 +7,6 @@ use lib.Seq.{length-take-le}
 use Rattle.table.specs.Bytes.{splice}
 use Rattle.laws.specs.ByteLaws.{length-splice}
 use Rattle.bytes_writer.proofs.StoreLaws.{lent}
-use borrow.Author.Rules.{rules}
 use Rattle.bytes_front.proofs.write_front.Goals as goal
 
 pub returns : goal.returns

@@ -6,7 +6,6 @@ use Rattle.bytes_writer.specs.Stores.{ref_num}
 use Rattle.bytes_writer.proofs.StoreLaws.{chain-laid, concat}
 use Rattle.bytes_writer.proofs.RecordLaws.{length-ref, splice_all}
 use Rattle.bytes_front.proofs.FrontLaws.{header_pieces, header-long, header-joined}
-use borrow.Author.Rules.{rules}
 use Rattle.bytes_front.proofs.write_header.Goals as goal
 
 pub put_u8-requires-3 : goal.put_u8-requires-3

@@ -1,5 +1,4 @@
 use borrow.Author.Tests.{le-leb, lt-leb}
-use borrow.Author.Rules.{rules}
 use Rattle.bytes_positions.proofs.are_positions.Goals as goal
 
 pub returns-then-most-bytes : goal.returns-then-most-bytes

@@ -1,11 +1,9 @@
-use mathlib.Core.Path.{◌≡◌, refl, sym, ap, ◌∙◌}
+use mathlib.Core.Path.{◌≡◌}
 use mathlib.Core.Bool.{true}
-use Prim.Native.Nat.{ℕ, suc, ◌-◌, ◌≤◌, ◌<◌}
-use native.Mathlib.Omega.{arith}
+use Prim.Native.Nat.{◌≤◌}
 use lib.ListN.{length, drop}
 use Rattle.table.specs.Bytes.{once}
-use Rattle.bytes_positions.proofs.Laws.{Marks, marks-none, once-none, marks-more, marked-first, marked-twice}
-use Rattle.table.proofs.Rules.{picks}
+use Rattle.bytes_positions.proofs.Laws.{Marks}
 use Rattle.bytes_positions.proofs.is_once.Given as goal
 
 abbrev pub invariant-loop-left : goal.invariant-loop-left

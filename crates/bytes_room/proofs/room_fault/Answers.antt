@@ -1,6 +1,5 @@
 use Rattle.table.specs.Meaning.{limit}
 use Rattle.table.proofs.Rules.{picks}
-use borrow.Author.Rules.{rules}
 use Rattle.bytes_room.proofs.room_fault.Goals as goal
 
 pub returns-then-n-gt-LIMIT : goal.returns-then-n-gt-LIMIT

@@ -1,8 +1,7 @@
-use mathlib.Core.Logic.{⊎_elim}
 use mathlib.Core.List.{List}
 use mathlib.Core.Path.{◌≡◌, refl, ap, ◌∙◌}
 use mathlib.Core.Bool.{not}
-use Prim.Native.Nat.{ℕ, ◌-◌, ◌≤◌}
+use Prim.Native.Nat.{ℕ}
 use native.Mathlib.Omega.{arith}
 use lib.ListN.{length, take}
 use lib.Seq.{take-length}
@@ -22,7 +21,7 @@ loop-i-preserved c =
     let bytes = c.args.bytes.now in (
       omega (arith, h),
       elim c.if-bytes-i-eq0.branch [
-          then-bytes-i-eq0 w ↦ w.seen-is ∙ zero-here bytes l.i h l.seen l.invariant.1 w.if-bytes-i-eq0.true
+        | then-bytes-i-eq0 w ↦ w.seen-is ∙ zero-here bytes l.i h l.seen l.invariant.1 w.if-bytes-i-eq0.true
         | else-bytes-i-eq0 w ↦ w.seen-is ∙ none_here bytes l.i h l.seen l.invariant.1 w.if-bytes-i-eq0.false
       ],
     )

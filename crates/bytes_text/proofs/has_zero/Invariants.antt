@@ -1,14 +1,8 @@
-use mathlib.Core.Logic.{⊎_elim}
-use mathlib.Core.List.{List}
-use mathlib.Core.Path.{◌≡◌, refl, ap, ◌∙◌}
+use mathlib.Core.Path.{◌≡◌}
 use mathlib.Core.Bool.{not}
-use Prim.Native.Nat.{ℕ, ◌-◌, ◌≤◌}
-use native.Mathlib.Omega.{arith}
+use Prim.Native.Nat.{◌-◌, ◌≤◌}
 use lib.ListN.{length, take}
-use lib.Seq.{take-length}
 use Rattle.laws.specs.TextLaws.{no_zero}
-use Rattle.bytes_text.proofs.Laws.{zero-here, none_here}
-use Rattle.table.proofs.Rules.{picks}
 use Rattle.bytes_text.proofs.has_zero.Given as goal
 
 abbrev pub invariant-loop-i : goal.invariant-loop-i

@@ -5,7 +5,6 @@ use native.Mathlib.Omega.{arith}
 use lib.ListN.{length, take}
 use Rattle.laws.specs.TextLaws.{no_zero}
 use Rattle.bytes_text.proofs.Laws.{twice, no_text, unended, well-ended}
-use borrow.Author.Rules.{rules}
 use Rattle.bytes_text.proofs.is_text.Goals as goal
 
 pub returns-then-len-eq0 : goal.returns-then-len-eq0

@@ -5,7 +5,6 @@ use native.Mathlib.Omega.{arith}
 use lib.ListN.{length, take, drop}
 use Rattle.laws.specs.TextLaws.{no_zero}
 use Rattle.bytes_text.proofs.Laws.{in_block, past-block, last_block}
-use borrow.Author.Rules.{rules}
 use Rattle.bytes_text.proofs.zero_at_ends.Goals as goal
 
 pub returns-then-has_zero : goal.returns-then-has_zero

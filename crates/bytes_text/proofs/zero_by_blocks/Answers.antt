@@ -1,11 +1,10 @@
 use mathlib.Core.Path.{◌≡◌, sym, ap, ◌∙◌}
-use mathlib.Core.Bool.{true, not}
-use Prim.Native.Nat.{ℕ, ◌+◌, ◌-◌, ◌≤◌}
+use mathlib.Core.Bool.{not}
+use Prim.Native.Nat.{ℕ, ◌+◌, ◌-◌}
 use native.Mathlib.Omega.{arith}
 use lib.ListN.{length, take, drop}
 use Rattle.laws.specs.TextLaws.{no_zero}
 use Rattle.bytes_text.proofs.Laws.{in_block, past-block, last_block}
-use Rattle.table.proofs.Rules.{picks}
 use Rattle.bytes_text.proofs.zero_by_blocks.Goals as goal
 
 pub returns-then-has_zero : goal.returns-then-has_zero

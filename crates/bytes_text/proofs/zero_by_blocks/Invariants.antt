@@ -1,11 +1,8 @@
-use mathlib.Core.Path.{◌≡◌, sym, ap, ◌∙◌}
-use mathlib.Core.Bool.{true, not}
-use Prim.Native.Nat.{ℕ, ◌+◌, ◌-◌, ◌≤◌}
-use native.Mathlib.Omega.{arith}
-use lib.ListN.{length, take, drop}
+use mathlib.Core.Path.{◌≡◌}
+use mathlib.Core.Bool.{true}
+use Prim.Native.Nat.{◌+◌, ◌-◌, ◌≤◌}
+use lib.ListN.{take}
 use Rattle.laws.specs.TextLaws.{no_zero}
-use Rattle.bytes_text.proofs.Laws.{in_block, past-block, last_block}
-use Rattle.table.proofs.Rules.{picks}
 use Rattle.bytes_text.proofs.zero_by_blocks.Given as goal
 
 abbrev pub invariant-loop-end : goal.invariant-loop-end

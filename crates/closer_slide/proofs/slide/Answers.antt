@@ -29,11 +29,11 @@ loop-n-preserved c =
     let inv = c.loop-n.invariant in
     let h : n < length xs = omega (arith, c.loop-n-test.true, inv.2) in
     let b : c.bit-b.result ≡ bit_at m n = c.bit-b.ensures in
-    let now : c.keep-moved.new.heap ≡ pick (marked m n) (set c.loop-n.heap c.loop-n.auto (get_or c.loop-n.heap n 0)) c.loop-n.heap = rw b at c.keep-moved.ensures.0 in
-    let r : c.keep-moved.result ≡ one (marked m n && not (eqb c.loop-n.auto n)) = rw b at c.keep-moved.ensures.1 in (
+    let now : c.keep-moved.new.heap ≡ pick (marked m n) (set c.loop-n.heap c.loop-n.kept (get_or c.loop-n.heap n 0)) c.loop-n.heap = rw b at c.keep-moved.ensures.0 in
+    let r : c.keep-moved.result ≡ one (marked m n && not (eqb c.loop-n.kept n)) = rw b at c.keep-moved.ensures.1 in (
       search picks,
       cc (now, inv.1, inv.3, slid-turn (marked m) xs n h),
-      cc (now, length-kept (marked m n) c.loop-n.heap c.loop-n.auto (get_or c.loop-n.heap n 0), inv.2),
+      cc (now, length-kept (marked m n) c.loop-n.heap c.loop-n.kept (get_or c.loop-n.heap n 0), inv.2),
       omega (arith, inv.3, b, bit-one m n, ones-next (marked m) n),
       omega (arith, inv.4, b),
       omega (arith, inv.5, rw inv.3 at r, moved-next (marked m) n),

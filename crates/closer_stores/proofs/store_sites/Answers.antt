@@ -29,12 +29,9 @@ loop-w-init c =
     (rw c.first-w.ensures (turn-first c.args.t.now c.requires.0 (bytes (goal.at.loop-w-init c).After-slice_known-1) c.requires.1), refl)
 
 -- a turn that has not come to the end
-module _ (c : In-loop-w) where
-  abbrev known : tie.After-slice-known invariant-loop decreases-loop
-  known = c
-
+module _ (c : In-loop-w) (b : Bytes c.args.t.now) where
   abbrev T₀ : List ℕ
-  T₀ = known.before.args.t.now
+  T₀ = c.args.t.now
 
   abbrev U : List ℕ
   U = c.loop-w.t
@@ -46,49 +43,54 @@ module _ (c : In-loop-w) where
   turn = c.loop-w.invariant.0
 
   open-still : W.list < 7
-  open-still = turn-open T₀ known.before.pre.0 (bytes known) known.before.pre.1 U W turn c.loop-w-test.true
+  open-still = turn-open T₀ c.requires.0 b c.requires.1 U W turn c.loop-w-test.true
 
   steps : LaidOut U × Walkable (length U) W
-  steps = turn_step T₀ known.before.pre.0 (bytes known) known.before.pre.1 U W turn open-still
+  steps = turn_step T₀ c.requires.0 b c.requires.1 U W turn open-still
 
   less : left (step_of U W).walk < left W
-  less = turn-less T₀ known.before.pre.0 (bytes known) known.before.pre.1 U W turn open-still
+  less = turn-less T₀ c.requires.0 b c.requires.1 U W turn open-still
 
   wanted : let y = (step_of U W).named in
       0 < y.len → (num T₀ 36 4 ≤ y.off) × (y.off - num T₀ 36 4 ≤ (heap_in T₀).len) × (y.off < 4294967296) × (y.at + 4 ≤ length U)
-  wanted = turn-found T₀ known.before.pre.0 (bytes known) known.before.pre.1 U W turn open-still
+  wanted = turn-found T₀ c.requires.0 b c.requires.1 U W turn open-still
 
-  next : (v : List ℕ) → v ≡ put U known.before.args.map.now (num T₀ 36 4) (step_of U W).named → Turn T₀ v (step_of U W).walk
-  next =
-      let p = known.before.pre in
-      turn-next T₀ p.0 (bytes known) p.1 U W turn open-still known.before.args.map.now p.2 p.3
+  next : (v : List ℕ) → v ≡ put U c.args.map.now (num T₀ 36 4) (step_of U W).named → Turn T₀ v (step_of U W).walk
+  next = turn-next T₀ c.requires.0 b c.requires.1 U W turn open-still c.args.map.now c.requires.2 c.requires.3
 
 pub step-s-requires : goal.step-s-requires
 step-s-requires c =
-    let x = steps c in
-    (x.0, x.1, open-still c)
+    let d = (goal.at.step-s-requires c).In-loop-w in
+    let b = bytes (goal.at.step-s-requires c).After-slice_known-1 in
+    let x = steps d b in
+    (x.0, x.1, open-still d b)
 
 pub store_found-requires : goal.store_found-requires
 store_found-requires c =
-    let e : c.step-s.result ≡ step_of (U c) (W c) = c.step-s.ensures.0 in
+    let d = (goal.at.store_found-requires c).In-loop-w in
+    let b = bytes (goal.at.store_found-requires c).After-slice_known-1 in
+    let e : c.step-s.result ≡ step_of c.loop-w.t c.loop-w.w = c.step-s.ensures.0 in
     let z = c.u32_at-start.ensures.0 in
-    rw e (λ h. let x = wanted c h in (omega (arith, x.0, z), omega (arith, x.1, z, (known c).before.requires.2), x.2, x.3))
+    rw e (λ h. let x = wanted d b h in (omega (arith, x.0, z), omega (arith, x.1, z, c.requires.2), x.2, x.3))
 
 pub loop-w-smaller : goal.loop-w-smaller
 loop-w-smaller c =
-    rw c.step-s.ensures.0 (less c)
+    rw c.step-s.ensures.0 (less (goal.at.loop-w-smaller c).In-loop-w (bytes (goal.at.loop-w-smaller c).After-slice_known-1))
 
 pub loop-w-preserved : goal.loop-w-preserved
 loop-w-preserved c =
-    let n : List ℕ = c.Store-found.new.0 in
-    let m : List ℕ = (known c).before.args.map.now in
-    let e : c.step-s.result ≡ step_of (U c) (W c) = c.step-s.ensures.0 in
-    let y : Named = (step_of (U c) (W c)).named in
+    let d = (goal.at.loop-w-preserved c).In-loop-w in
+    let b = bytes (goal.at.loop-w-preserved c).After-slice_known-1 in
+    let t = c.args.t.now in
+    let u : List ℕ = c.loop-w.t in
+    let n : List ℕ = c.store_found.new.t in
+    let m : List ℕ = c.args.map.now in
+    let e : c.step-s.result ≡ step_of u c.loop-w.w = c.step-s.ensures.0 in
+    let y : Named = (step_of u c.loop-w.w).named in
     let r = c.u32_at-start in
-    let v : n ≡ put (U c) m r.result y = rw e at c.Store-found.ensures in
-    let x : Turn (T₀ c) n c.step-s.result.walk = rw e (next c n (v ∙ ap (λ (k : ℕ). put (U c) m k y) r.ensures.0)) in
-    let p = (known c).before.requires in
-    (x, turn-length (T₀ c) p.0 (bytes (known c)) p.1 n c.step-s.result.walk x)
+    let v : n ≡ put u m r.result y = rw e at c.store_found.ensures in
+    let x : Turn t n c.step-s.result.walk = rw e (next d b n (v ∙ ap (λ (k : ℕ). put u m k y) r.ensures.0)) in
+    (x, turn-length t c.requires.0 b c.requires.1 n c.step-s.result.walk x)
 
 pub returns : goal.returns
 returns c =

@@ -1,5 +1,4 @@
 use Rattle.layout_flags.proofs.Laws.{identity-flags}
-use borrow.Author.Rules.{rules}
 use Rattle.layout_flags.proofs.identity_flags.Goals as goal
 
 pub returns : goal.returns

@@ -3,7 +3,6 @@ use Rattle.layout_flags.proofs.Laws.{host-pairs, ssns-pairs, security-pairs, pai
 use Rattle.laws.specs.Fields.{image_in}
 use Rattle.table.specs.FixedLayouts.{layout_of, host, ssns, security}
 use Rattle.table.proofs.Rules.{picks}
-use borrow.Author.Rules.{rules}
 use Rattle.layout_flags.proofs.pairs_right.Goals as goal
 
 pub bounds-t-a : goal.bounds-t-a

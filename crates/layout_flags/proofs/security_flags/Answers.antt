@@ -1,6 +1,5 @@
 use native.Mathlib.Omega.{arith}
 use Rattle.layout_flags.proofs.Laws.{security-flags}
-use borrow.Author.Rules.{rules}
 use Rattle.layout_flags.proofs.security_flags.Goals as goal
 
 pub returns : goal.returns

@@ -2,7 +2,6 @@ use Rattle.table.specs.FixedLayouts.{layout_of, header, control, host, hfi, ssns
 use mathlib.Core.Path.{refl}
 use lib.Dec.{lit≤}
 use Rattle.table.proofs.Rules.{picks}
-use borrow.Author.Rules.{rules}
 use Rattle.layout_kinds.proofs.reference_offsets.Goals as goal
 
 pub returns-in-0 : goal.returns-in-0

@@ -1,6 +1,5 @@
 use Rattle.layout_needs.specs.Needs.{identity_need}
 use Rattle.table.proofs.Rules.{picks}
-use borrow.Author.Rules.{rules}
 use Rattle.layout_needs.proofs.identity_judge.Goals as goal
 
 pub returns-in-8 : goal.returns-in-8

@@ -1,7 +1,6 @@
 use Rattle.table.specs.FixedLayouts.{hfi_extended}
 use Rattle.laws.specs.Fields.{image_in}
 use Rattle.layout_needs.proofs.Laws.{identity-need}
-use borrow.Author.Rules.{rules}
 use Rattle.layout_needs.proofs.identity_need.Goals as goal
 
 pub returns : goal.returns

@@ -1,6 +1,5 @@
 use Rattle.layout_needs.specs.Needs.{plain_need}
 use Rattle.table.proofs.Rules.{picks}
-use borrow.Author.Rules.{rules}
 use Rattle.layout_needs.proofs.plain_need.Goals as goal
 
 pub returns-in-0 : goal.returns-in-0

@@ -1,6 +1,5 @@
 use Rattle.layout_needs.specs.Needs.{security_need}
 use Rattle.table.proofs.Rules.{picks}
-use borrow.Author.Rules.{rules}
 use Rattle.layout_needs.proofs.security_judge.Goals as goal
 
 pub returns-in-6 : goal.returns-in-6

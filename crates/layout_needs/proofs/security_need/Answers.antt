@@ -2,7 +2,6 @@ use Rattle.table.specs.FixedLayouts.{security}
 use Rattle.laws.specs.Fields.{image_in}
 use Rattle.layout_needs.proofs.Laws.{security-need}
 use Rattle.layout_flags.proofs.Laws.{security-secret}
-use borrow.Author.Rules.{rules}
 use Rattle.layout_needs.proofs.security_need.Goals as goal
 
 pub returns : goal.returns

@@ -1,6 +1,5 @@
 use Rattle.layout_needs.specs.Needs.{ssns_need}
 use Rattle.table.proofs.Rules.{picks}
-use borrow.Author.Rules.{rules}
 use Rattle.layout_needs.proofs.ssns_need.Goals as goal
 
 pub returns-in-10 : goal.returns-in-10

@@ -3,8 +3,6 @@ use native.Mathlib.Omega.{arith}
 use lib.ListN.{get_or-eq_default}
 use Rattle.show_table.specs.Shown.{Line, lines, line_at, no_line}
 use Rattle.show_table.proofs.Laws.{packed-at}
-use Rattle.table.proofs.Rules.{picks}
-use borrow.Author.Rules.{rules}
 use Rattle.show_table.proofs.row_at.Goals as goal
 
 pub returns-then-i-ge100 : goal.returns-then-i-ge100

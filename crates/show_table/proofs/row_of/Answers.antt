@@ -1,6 +1,4 @@
 use mathlib.Core.Path.{refl}
-use Rattle.table.proofs.Rules.{picks}
-use borrow.Author.Rules.{rules}
 use Rattle.show_table.proofs.row_of.Goals as goal
 
 pub returns : goal.returns

@@ -1,6 +1,5 @@
 use mathlib.Core.Path.{ap, ◌∙◌}
 use Rattle.show_values.specs.Values.{bits_of}
-use borrow.Author.Rules.{rules}
 use Rattle.show_values.proofs.bits_in.Goals as goal
 
 pub returns : goal.returns

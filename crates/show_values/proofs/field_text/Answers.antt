@@ -4,7 +4,6 @@ use Rattle.show_values.specs.Values.{field_text, primary_of, availability_of, wa
 use Rattle.text.specs.Numerals.{numeral, signed_numeral}
 use Rattle.text_hex.specs.Hexadecimal.{pci_of, short_pci_of}
 use borrow.Author.Tests.{ne_eqb}
-use borrow.Author.Rules.{rules}
 use Rattle.show_values.proofs.field_text.Goals as goal
 
 pub returns-in-6 : goal.returns-in-6

@@ -8,7 +8,6 @@ use Rattle.text.specs.Ascii.{ascii}
 use Rattle.text.proofs.Laws.{behind-none}
 use Rattle.text_addresses.specs.Addresses.{groups, zeros_first, quad_of, address_of}
 use Rattle.text_addresses.proofs.Groups.{eight, runs_fit, runs-right}
-use borrow.Author.Rules.{rules}
 use Rattle.text_addresses.proofs.address.Goals.{After-runs_in-runs}
 use Rattle.text_addresses.proofs.address.Goals as goal
 
@@ -21,8 +20,7 @@ is_mapped-requires c = (c.requires, zeros (goal.at.is_mapped-requires c).After-r
 pub returns-then-is_mapped : goal.returns-then-is_mapped
 unfolding address_of
 returns-then-is_mapped c =
-    let e = c.empty in
-     (
+    let e = c.empty in (
       c.with_quad.ensures.0,
       rw (← c.is_mapped.ensures, c.if-is_mapped.true)
           (cc (behind-none (take e.result.len e.result.bytes) (quad_of c.args.b.now) e.ensures.2)),
@@ -47,13 +45,12 @@ six-requires c =
 
 pub returns : goal.returns
 unfolding address_of
-returns c =
-     (
-      c.six.ensures.0,
-      rw (
-        ← c.is_mapped.ensures,
-        c.if-is_mapped.false,
-        ← zeros (goal.at.returns c).After-runs_in-runs,
-        ne_eqb c.runs_in-runs.result.first 6 c.if-first-eq6.false,
-      ) c.six.ensures.1,
-    )
+returns c = (
+  c.six.ensures.0,
+  rw (
+    ← c.is_mapped.ensures,
+    c.if-is_mapped.false,
+    ← zeros (goal.at.returns c).After-runs_in-runs,
+    ne_eqb c.runs_in-runs.result.first 6 c.if-first-eq6.false,
+  ) c.six.ensures.1,
+)

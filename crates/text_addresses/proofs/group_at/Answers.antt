@@ -1,6 +1,5 @@
 use native.Mathlib.Omega.{arith}
 use Rattle.text_addresses.proofs.Groups.{group-is}
-use borrow.Author.Rules.{rules}
 use Rattle.text_addresses.proofs.group_at.Goals as goal
 
 pub returns : goal.returns

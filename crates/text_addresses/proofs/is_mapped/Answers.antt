@@ -1,7 +1,6 @@
 use borrow.Author.Tests.{eq-eqb, ne_eqb}
 use mathlib.Core.Path.{refl}
 use Rattle.text_addresses.specs.Addresses.{mapped}
-use borrow.Author.Rules.{rules}
 use Rattle.text_addresses.proofs.is_mapped.Goals as goal
 
 pub returns-then-first-eq5 : goal.returns-then-first-eq5

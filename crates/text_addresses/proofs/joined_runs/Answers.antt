@@ -1,6 +1,5 @@
 use Rattle.text_addresses.specs.Runs.{joined}
 use Rattle.text.proofs.Rules.{picks}
-use borrow.Author.Rules.{rules}
 use Rattle.text_addresses.proofs.joined_runs.Goals as goal
 
 pub returns-then-len-first : goal.returns-then-len-first

@@ -1,12 +1,10 @@
 use borrow.Author.Rules.{rules}
-use Prim.Native.Nat.{◌≤◌}
 use mathlib.Core.Path.{◌≡◌, refl}
 use native.Mathlib.Omega.{arith}
 use lib.ListN.{drop, length-drop, drop_of_length-le}
 use Rattle.text_addresses.specs.Runs.{runs_of}
 use Rattle.text_addresses.specs.Addresses.{groups}
 use Rattle.text_addresses.proofs.Groups.{eight, runs_fit, runs-next}
-use Rattle.text.proofs.Rules.{picks}
 use Rattle.text_addresses.proofs.runs_in.Goals as goal
 
 pub loop-i-init : goal.loop-i-init

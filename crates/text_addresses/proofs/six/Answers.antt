@@ -5,7 +5,6 @@ use lib.Seq.{take_all}
 use lib.ListN.{take}
 use Rattle.text_addresses.specs.Addresses.{groups, colons, six_of, without}
 use Rattle.text_addresses.proofs.Groups.{eight}
-use borrow.Author.Rules.{rules}
 use Rattle.text_addresses.proofs.six.Goals as goal
 
 pub returns-then-len-lt2 : goal.returns-then-len-lt2

@@ -5,7 +5,6 @@ use lib.Seq.{get_or-take}
 use lib.ListN.{length, take}
 use Rattle.text_addresses.specs.Addresses.{groups}
 use Rattle.text_addresses.proofs.Groups.{eight, group-step, group-end}
-use borrow.Author.Rules.{rules}
 use Rattle.text_addresses.proofs.with_groups.Goals as goal
 
 pub returns-then-from-to : goal.returns-then-from-to

@@ -1,13 +1,9 @@
-use Rattle.io.specs.Counts.{IsPrefixLen}
-use Prim.Native.Nat.{◌+◌, ◌*◌, ◌-◌, ◌≤◌}
-use mathlib.Core.Path.{◌≡◌}
-use mathlib.Core.List.{◌++◌}
+use Prim.Native.Nat.{◌≤◌}
 use native.Mathlib.Omega.{arith}
 use lib.Seq.{get_or-take}
-use lib.ListN.{length, take, drop}
+use lib.ListN.{length, take}
 use Rattle.text_addresses.specs.Addresses.{groups, behind_colons}
 use Rattle.text_addresses.proofs.Groups.{eight, colon-step, colon-end}
-use Rattle.text.proofs.Rules.{picks}
 use Rattle.text_addresses.proofs.with_next_groups.Goals as goal
 
 pub loop-i-preserved : goal.loop-i-preserved

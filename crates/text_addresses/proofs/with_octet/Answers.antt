@@ -1,5 +1,4 @@
 use native.Mathlib.Omega.{arith}
-use borrow.Author.Rules.{rules}
 use Rattle.text_addresses.proofs.with_octet.Goals as goal
 
 pub returns : goal.returns

@@ -4,7 +4,6 @@ use mathlib.Core.List.{List}
 use lib.ListN.{take, get_or}
 use Rattle.text_addresses.specs.Addresses.{quad_of}
 use Rattle.text_addresses.proofs.Groups.{quad-behind}
-use borrow.Author.Rules.{rules}
 use Rattle.text_addresses.proofs.with_quad.Goals as goal
 
 pub returns : goal.returns

@@ -1,7 +1,6 @@
 use Rattle.text_answers.specs.Words.{kind_of}
 use native.Mathlib.Omega.{arith}
 use Rattle.text.proofs.Rules.{picks}
-use borrow.Author.Rules.{rules}
 use Rattle.text_answers.proofs.with_kind.Goals as goal
 
 pub returns-in-0 : goal.returns-in-0

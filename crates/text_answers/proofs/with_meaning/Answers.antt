@@ -3,7 +3,6 @@ use Rattle.text.specs.Numerals.{digits_of, numeral}
 use Rattle.text_answers.specs.Words.{meaning_of}
 use native.Mathlib.Omega.{arith}
 use borrow.Author.Tests.{ne_eqb}
-use borrow.Author.Rules.{rules}
 use Rattle.text_answers.proofs.with_meaning.Goals as goal
 
 pub returns-in-0 : goal.returns-in-0

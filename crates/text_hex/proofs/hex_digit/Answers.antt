@@ -1,6 +1,5 @@
 use Rattle.text_hex.specs.Hexadecimal.{hex_digit}
 use Rattle.text.proofs.Rules.{picks}
-use borrow.Author.Rules.{rules}
 use Rattle.text_hex.proofs.hex_digit.Goals as goal
 
 pub returns-then-d-lt10 : goal.returns-then-d-lt10

@@ -4,7 +4,6 @@ use mathlib.Core.Path.{◌≡◌, refl}
 use mathlib.Core.List.{List, [], ◌++◌}
 use Prim.Native.Nat.{ℕ, ◌/◌, ◌%◌}
 use lib.ListN.{take}
-use borrow.Author.Rules.{rules}
 use Rattle.text_hex.proofs.short_pci.Goals as goal
 
 columns : (e b d f : List ℕ) → e ≡ [] → e ++ ascii "0:" ++ b ++ ascii ":" ++ d ++ ascii "." ++ f ≡ ascii "0:" ++ b ++ ascii ":" ++ d ++ ascii "." ++ f

@@ -1,7 +1,6 @@
 use native.Mathlib.Omega.{arith}
 use Rattle.text_hex.specs.Hexadecimal.{unpadded_of}
 use Rattle.text.proofs.Rules.{picks}
-use borrow.Author.Rules.{rules}
 use Rattle.text_hex.proofs.with_unpadded.Goals as goal
 
 pub returns-then-n-lt16 : goal.returns-then-n-lt16

@@ -1,6 +1,5 @@
 use Rattle.builder.proofs.LeaveLaws.{leave-early, leave-nowhere, leave-short, leave-done}
 use Rattle.builder_record.proofs.LayLaws.{step_is}
-use borrow.Author.Tests.{not-true, not-false}
 use Rattle.builder_state.proofs.Laws.{in-limit, used-bounds}
 use Rattle.table.specs.declared.State.{State}
 use Rattle.table.specs.declared.Answer.{Answer}
@@ -14,7 +13,7 @@ returns-then-not-waits c =
     let a = c.args in
     let b = a.out.now in
     let t = leave-early a.state b
-    (sym c.waits.ensures ∙ not-true c.waits.result c.if-not-waits.true) in (
+    (sym c.waits.ensures ∙ c.if-not-waits.true) in (
       step_is c.refused.result c.refuse.result a.state c.refused.ensures.0
           c.refused.ensures.1
           ∙ ap (λ (x : Answer). record { answer = x; state = a.state }) c.refuse.ensures
@@ -27,7 +26,7 @@ returns-then-state-eq0 c =
     let a = c.args in
     let b = a.out.now in
     let t = leave-nowhere a.state b
-    (sym c.waits.ensures ∙ not-false c.waits.result c.if-not-waits.false)
+    (sym c.waits.ensures ∙ c.if-not-waits.false)
     c.if-state-eq0.true in (
       step_is c.refused-then-state-eq0.result c.refuse-then-state-eq0.result a.state c.refused-then-state-eq0.ensures.0
           c.refused-then-state-eq0.ensures.1
@@ -41,7 +40,7 @@ returns-then-state-out c =
     let a = c.args in
     let b = a.out.now in
     let t = leave-short a.state b
-    (sym c.waits.ensures ∙ not-false c.waits.result c.if-not-waits.false) c.if-state-eq0.false
+    (sym c.waits.ensures ∙ c.if-not-waits.false) c.if-state-eq0.false
     (omega (arith, c.if-state-out.true)) in (
       step_is c.refused-then-state-out.result c.refuse-then-state-out.result a.state c.refused-then-state-out.ensures.0
           c.refused-then-state-out.ensures.1
@@ -55,7 +54,7 @@ next-after-requires c =
     let a = c.args in
     let b = a.out.now in
     let v = used-bounds a.state a.state.turn
-    (sym c.waits.ensures ∙ not-false c.waits.result c.if-not-waits.false) in
+    (sym c.waits.ensures ∙ c.if-not-waits.false) in
     in-limit _ (omega (arith, v))
 
 pub returns : goal.returns
@@ -63,7 +62,7 @@ returns c =
     let a = c.args in
     let b = a.out.now in
     let t = leave-done a.state b
-    (sym c.waits.ensures ∙ not-false c.waits.result c.if-not-waits.false) c.if-state-eq0.false
+    (sym c.waits.ensures ∙ c.if-not-waits.false) c.if-state-eq0.false
     (omega (arith, c.if-state-out.false)) in (
       ap₂ (λ (x : Answer) (y : State). record { answer = x; state = y }) c.done-answer.ensures c.next-after.ensures
           ∙ t.0,

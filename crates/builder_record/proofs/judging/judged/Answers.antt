@@ -8,7 +8,6 @@ use Rattle.table.specs.Rules.{answer}
 use Rattle.table.specs.Builder.{waits}
 use Rattle.laws.specs.Fields.{image_in}
 use Rattle.laws.specs.RecordKinds.{kind-of}
-use borrow.Author.Tests.{not-true, not-false}
 use Rattle.builder_record.proofs.JudgeLaws.{out-of-turn, wrong-pair, own-fault, wrong-object, no-fault}
 use borrow.Author.Rules.{rules}
 use Rattle.builder_record.proofs.judging.judged.Goals.{After-pairs_right, After-waits, Else-not-pairs_right}
@@ -22,14 +21,14 @@ kind-is c =
 in-turn : (c : After-pairs_right) →
     waits c.args.state (layout_of c.args.kind).kind ≡ true
 in-turn c =
-    ap (waits c.args.state) (kind-is c)
+    ap (waits c.args.state) (kind-of c.args.kind c.requires.0 c.requires.1)
     ∙ sym c.waits.ensures
-    ∙ not-false c.waits.result c.if-not-waits.false
+    ∙ c.if-not-waits.false
 
 right : (c : Else-not-pairs_right) →
     pairs_right (layout_of c.args.kind).shape (image_in (layout_of c.args.kind) c.args.told.now 0)
     ≡ true
-right c = sym c.pairs_right.ensures ∙ not-false c.pairs_right.result c.if-not-pairs_right.false
+right c = sym c.pairs_right.ensures ∙ c.if-not-pairs_right.false
 
 pub returns-then-not-waits : goal.returns-then-not-waits
 returns-then-not-waits c =
@@ -38,7 +37,7 @@ returns-then-not-waits c =
     (image_in (layout_of c.args.kind) c.args.told.now 0) c.args.own c.args.objects
     (ap (waits c.args.state) (kind-is (goal.at.returns-then-not-waits c).After-waits)
     ∙ sym c.waits.ensures
-    ∙ not-true c.waits.result c.if-not-waits.true)
+    ∙ c.if-not-waits.true)
 
 pub pairs_right-requires : goal.pairs_right-requires
 pairs_right-requires c =
@@ -50,7 +49,7 @@ returns-then-not-pairs_right c =
     ∙ ap (λ (i : ℕ). answer 10 i c.args.state.position) (sym (kind-is (goal.at.returns-then-not-pairs_right c).After-waits))
     ∙ wrong-pair (layout_of c.args.kind) c.args.state
     (image_in (layout_of c.args.kind) c.args.told.now 0) c.args.own c.args.objects
-    (in-turn (goal.at.returns-then-not-pairs_right c).After-pairs_right) (sym c.pairs_right.ensures ∙ not-true c.pairs_right.result c.if-not-pairs_right.true)
+    (in-turn (goal.at.returns-then-not-pairs_right c).After-pairs_right) (sym c.pairs_right.ensures ∙ c.if-not-pairs_right.true)
 
 pub returns-then-own-ne0 : goal.returns-then-own-ne0
 returns-then-own-ne0 c =

@@ -4,7 +4,6 @@ use native.Mathlib.Nat.{sub-zero}
 use Prim.Native.Nat.{ℕ, ◌-◌, ◌%◌}
 use mathlib.Core.List.{[], ◌∷◌}
 use mathlib.Core.Path.{ap, ◌∙◌}
-use borrow.Author.Rules.{rules}
 use Rattle.bytes_writer.proofs.checksum.seal.Goals as goal
 
 pub returns : goal.returns

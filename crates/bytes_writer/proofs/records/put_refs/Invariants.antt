@@ -1,12 +1,8 @@
-use mathlib.Core.Path.{◌≡◌, refl, ◌∙◌}
+use mathlib.Core.Path.{◌≡◌}
 use Prim.Native.Nat.{◌≤◌, ◌-◌, ◌+◌, ◌*◌}
 use lib.ListN.{length}
-use native.Mathlib.Omega.{arith}
-use native.Mathlib.Nat.{sub-zero}
 use Rattle.table.specs.Bytes.{apply}
 use Rattle.bytes_writer.specs.Stores.{stores_from}
-use Rattle.bytes_writer.proofs.RecordLaws.{stores-done, stores-turn}
-use Rattle.table.proofs.Rules.{picks}
 use Rattle.bytes_writer.proofs.records.put_refs.Given as goal
 
 abbrev pub invariant-loop-i : goal.invariant-loop-i

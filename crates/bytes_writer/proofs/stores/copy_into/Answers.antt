@@ -1,9 +1,8 @@
 use native.Mathlib.Omega.{arith}
 use Rattle.bytes_writer.proofs.StoreLaws.{paste_more, paste-done}
-use lib.Seq.{paste, paste-zero}
-use lib.ListN.{length, length-set}
-use Prim.Native.Nat.{◌≤◌, ◌-◌}
-use mathlib.Core.Path.{◌≡◌, refl}
+use lib.Seq.{paste-zero}
+use lib.ListN.{length-set}
+use mathlib.Core.Path.{refl}
 use Rattle.table.proofs.Rules.{picks}
 use Rattle.bytes_writer.proofs.stores.copy_into.Goals as goal
 

@@ -1,10 +1,7 @@
-use native.Mathlib.Omega.{arith}
-use Rattle.bytes_writer.proofs.StoreLaws.{paste_more, paste-done}
-use lib.Seq.{paste, paste-zero}
-use lib.ListN.{length, length-set}
+use lib.Seq.{paste}
+use lib.ListN.{length}
 use Prim.Native.Nat.{◌≤◌, ◌-◌}
-use mathlib.Core.Path.{◌≡◌, refl}
-use Rattle.table.proofs.Rules.{picks}
+use mathlib.Core.Path.{◌≡◌}
 use Rattle.bytes_writer.proofs.stores.copy_into.Given as goal
 
 abbrev pub invariant-loop-i : goal.invariant-loop-i

@@ -1,9 +1,8 @@
 use Rattle.bytes_writer.proofs.StoreLaws.{zero-at, paste_more, paste-done}
 use native.Mathlib.Omega.{arith}
-use lib.Seq.{paste, paste-zero}
-use lib.ListN.{length, length-set, replicate, length-replicate}
-use Prim.Native.Nat.{◌≤◌, ◌-◌}
-use mathlib.Core.Path.{◌≡◌, refl}
+use lib.Seq.{paste-zero}
+use lib.ListN.{length-set, replicate, length-replicate}
+use mathlib.Core.Path.{refl}
 use Rattle.table.proofs.Rules.{picks}
 use Rattle.bytes_writer.proofs.stores.fill_zero.Goals as goal
 

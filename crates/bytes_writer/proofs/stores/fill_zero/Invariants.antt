@@ -1,10 +1,7 @@
-use Rattle.bytes_writer.proofs.StoreLaws.{zero-at, paste_more, paste-done}
-use native.Mathlib.Omega.{arith}
-use lib.Seq.{paste, paste-zero}
-use lib.ListN.{length, length-set, replicate, length-replicate}
+use lib.Seq.{paste}
+use lib.ListN.{length, replicate}
 use Prim.Native.Nat.{◌≤◌, ◌-◌}
-use mathlib.Core.Path.{◌≡◌, refl}
-use Rattle.table.proofs.Rules.{picks}
+use mathlib.Core.Path.{◌≡◌}
 use Rattle.bytes_writer.proofs.stores.fill_zero.Given as goal
 
 abbrev pub invariant-loop-i : goal.invariant-loop-i

@@ -1,7 +1,6 @@
 use Rattle.table.specs.Bytes.{le}
 use native.Mathlib.Omega.{arith}
 use Rattle.bytes_writer.proofs.StoreLaws.{splice-join}
-use borrow.Author.Rules.{rules}
 use Rattle.bytes_writer.proofs.stores.put_ref.Goals as goal
 
 pub returns : goal.returns

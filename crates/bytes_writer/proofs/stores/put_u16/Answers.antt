@@ -1,7 +1,6 @@
 use Rattle.bytes_writer.proofs.StoreLaws.{put_two}
 use lib.ListN.{length-set}
 use Rattle.table.proofs.Rules.{picks}
-use borrow.Author.Rules.{rules}
 use Rattle.bytes_writer.proofs.stores.put_u16.Goals as goal
 
 pub bounds-part-at-2 : goal.bounds-part-at-2

@@ -2,7 +2,6 @@ use Rattle.table.specs.Bytes.{le}
 use native.Mathlib.Omega.{arith}
 use Prim.Native.Nat.{◌/◌}
 use Rattle.bytes_writer.proofs.StoreLaws.{splice-join}
-use borrow.Author.Rules.{rules}
 use Rattle.bytes_writer.proofs.stores.put_u32.Goals as goal
 
 pub returns : goal.returns

@@ -1,6 +1,5 @@
 use Rattle.bytes_writer.proofs.StoreLaws.{put_one}
 use native.Mathlib.Omega.{arith}
-use borrow.Author.Rules.{rules}
 use Rattle.bytes_writer.proofs.stores.put_u8.Goals as goal
 
 pub returns : goal.returns

@@ -1,9 +1,4 @@
-use mathlib.Core.Path.{◌≡◌}
-use Prim.Native.Nat.{◌+◌, ◌-◌, ◌≤◌}
 use native.Mathlib.Omega.{arith}
-use lib.ListN.{length, drop}
-use borrow.Author.Rules.{rules}
-use Rattle.changes.specs.Changes.{differ_at}
 use Rattle.changes.proofs.LineLaws.{differ-end, differ-here, differ-on, differ-other-end}
 use Rattle.changes.proofs.lines.differ_at.Goals as goal
 

@@ -1,10 +1,7 @@
 use mathlib.Core.Path.{◌≡◌}
 use Prim.Native.Nat.{◌+◌, ◌-◌, ◌≤◌}
-use native.Mathlib.Omega.{arith}
 use lib.ListN.{length, drop}
-use borrow.Author.Rules.{rules}
 use Rattle.changes.specs.Changes.{differ_at}
-use Rattle.changes.proofs.LineLaws.{differ-end, differ-here, differ-on, differ-other-end}
 use Rattle.changes.proofs.lines.differ_at.Given as goal
 
 -- What is left of both rows differs where they do, less what was passed.

@@ -1,7 +1,6 @@
-use mathlib.Core.Path.{◌≡◌, ap, sym}
-use Prim.Native.Nat.{◌≤◌, ◌<◌}
+use mathlib.Core.Path.{ap, sym}
+use Prim.Native.Nat.{◌<◌}
 use native.Mathlib.Omega.{arith}
-use lib.ListN.{length, drop}
 use lib.Seq.{drop-length}
 use borrow.Author.Rules.{rules}
 use Rattle.table.specs.Bytes.{val}

@@ -1,4 +1,3 @@
-use borrow.Author.Rules.{rules}
 use Rattle.text.specs.Numerals.{numeral}
 use Rattle.changes.specs.Changes.{text_of}
 use Rattle.changes.proofs.LineLaws.{object-columns}

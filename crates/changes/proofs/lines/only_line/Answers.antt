@@ -1,4 +1,3 @@
-use borrow.Author.Rules.{rules}
 use Rattle.changes.specs.Changes.{text_of}
 use Rattle.changes.proofs.lines.only_line.Goals as goal
 

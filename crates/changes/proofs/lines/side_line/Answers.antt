@@ -1,4 +1,3 @@
-use borrow.Author.Rules.{rules}
 use Rattle.text.specs.Numerals.{numeral}
 use Rattle.changes.proofs.LineLaws.{side-columns}
 use Rattle.changes.proofs.lines.side_line.Goals as goal

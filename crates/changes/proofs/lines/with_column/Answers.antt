@@ -1,7 +1,6 @@
 use mathlib.Core.List.{[], ◌∷◌, append_assoc}
 use native.Mathlib.Omega.{arith}
 use lib.ListN.{take}
-use borrow.Author.Rules.{rules}
 use Rattle.text.specs.Numerals.{numeral}
 use Rattle.changes.proofs.LineLaws.{number_short}
 use Rattle.changes.proofs.lines.with_column.Goals as goal

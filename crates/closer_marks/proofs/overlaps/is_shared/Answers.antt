@@ -25,8 +25,8 @@ pub returns-then-is_hit : goal.returns-then-is_hit
 returns-then-is_hit c =
     let t = c.args.t.now in
     let x = c.args.x in
-    let h : hits x.off x.len (sites_within t begun c.args) ≡ true =
-    ap (λ (w : Walk). hits x.off x.len (sites_within t w c.args)) (sym c.first.ensures) ∙ sym c.is_hit.ensures ∙ c.if-is_hit.true in
+    let h : hits x.off x.len (sites_within t begun c.args.before) ≡ true =
+    ap (λ (w : Walk). hits x.off x.len (sites_within t w c.args.before)) (sym c.first.ensures) ∙ sym c.is_hit.ensures ∙ c.if-is_hit.true in
     rw (h, ne_eqb x.kind 0 (λ e. omega (arith, c.if-x-eq0.false, e)), ne_eqb x.len 0 (λ e. omega (arith, c.if-x-eq0-2.false, e))) refl
 
 pub returns : goal.returns
@@ -34,7 +34,7 @@ returns c =
     let t = c.args.t.now in
     let x = c.args.x in
     let b : Bytes t = λ i. omega (arith, c.type_inv.t i) in
-    let h : hits x.off x.len (sites_within t begun c.args) ≡ false =
-    ap (λ (w : Walk). hits x.off x.len (sites_within t w c.args)) (sym c.first.ensures) ∙ sym c.is_hit.ensures ∙ c.if-is_hit.false in
+    let h : hits x.off x.len (sites_within t begun c.args.before) ≡ false =
+    ap (λ (w : Walk). hits x.off x.len (sites_within t w c.args.before)) (sym c.first.ensures) ∙ sym c.is_hit.ensures ∙ c.if-is_hit.false in
     rw (h, ne_eqb x.kind 0 (λ e. omega (arith, c.if-x-eq0.false, e)), ne_eqb x.len 0 (λ e. omega (arith, c.if-x-eq0-2.false, e)))
     (c.is_hit-2.ensures ∙ ap (hits x.off x.len) (within_all t c.requires.0 b 1000000 c.args.behind c.requires.1 (omega (arith, left-few t c.args.behind c.requires.1))))

@@ -2,7 +2,6 @@ use Rattle.layout_fields.proofs.Laws.{yes_or_no}
 use Rattle.table.specs.FixedLayouts.{layout_of, header, control, host, hfi, info, extended, no_kind}
 use mathlib.Core.Path.{refl}
 use Rattle.table.proofs.Rules.{picks}
-use borrow.Author.Rules.{rules}
 use Rattle.layout_fields.proofs.objects.has_object.Goals as goal
 
 pub returns-in-0 : goal.returns-in-0

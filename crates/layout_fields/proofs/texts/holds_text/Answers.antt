@@ -1,7 +1,6 @@
 use Rattle.table.specs.FixedLayouts.{layout_of, header, control, host, hfi, security, info, extended, hfi_extended, no_kind}
 use Rattle.layout_fields.proofs.Laws.{text-or-not, no_text}
 use Rattle.table.proofs.Rules.{picks}
-use borrow.Author.Rules.{rules}
 use Rattle.layout_fields.proofs.texts.holds_text.Goals as goal
 
 pub returns-in-0 : goal.returns-in-0

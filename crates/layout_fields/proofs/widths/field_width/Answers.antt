@@ -1,6 +1,5 @@
 use Rattle.table.specs.FixedLayouts.{layout_of, no_kind}
 use Rattle.table.proofs.Rules.{picks}
-use borrow.Author.Rules.{rules}
 use Rattle.layout_fields.proofs.widths.field_width.Goals as goal
 
 pub returns-in-0 : goal.returns-in-0

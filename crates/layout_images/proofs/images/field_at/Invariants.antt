@@ -1,16 +1,10 @@
-use mathlib.Core.Path.{◌≡◌, refl, sym, ap, ◌∙◌, ap₂}
-use mathlib.Core.List.{List}
-use Prim.Native.Nat.{ℕ, ◌+◌, ◌-◌, ◌≤◌, ◌<◌}
-use native.Mathlib.Omega.{arith}
-use lib.Bits.{bit_and}
-use lib.ListN.{length, get_or, replicate}
+use mathlib.Core.Path.{◌≡◌}
+use Prim.Native.Nat.{◌-◌, ◌≤◌}
+use lib.ListN.{replicate}
 use Rattle.table.specs.Bytes.{part}
 use Rattle.table.specs.FixedLayouts.{layout_of}
-use Rattle.laws.specs.Fields.{image_in, length-image_in}
-use Rattle.laws.specs.ListWalk.{base-small}
-use Rattle.layout_images.specs.Masks.{masks_for, over}
-use Rattle.layout_images.proofs.Laws.{masked-byte, over-more, over-padded, part-long, part-byte}
-use Rattle.table.proofs.Rules.{picks}
+use Rattle.laws.specs.Fields.{image_in}
+use Rattle.layout_images.specs.Masks.{over}
 use Rattle.layout_images.proofs.images.field_at.Given as goal
 
 abbrev pub invariant-loop-i : goal.invariant-loop-i

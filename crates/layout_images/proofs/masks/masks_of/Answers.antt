@@ -2,7 +2,6 @@ use Rattle.layout_images.specs.Masks.{masks_for}
 use Rattle.table.specs.FixedLayouts.{layout_of, header, control, host, hfi, ssns, security, discovery, extended, hfi_extended, no_kind}
 use mathlib.Core.Path.{refl}
 use Rattle.table.proofs.Rules.{picks}
-use borrow.Author.Rules.{rules}
 use Rattle.layout_images.proofs.masks.masks_of.Goals as goal
 
 pub returns-in-0 : goal.returns-in-0

@@ -1,12 +1,8 @@
-use mathlib.Core.Path.{◌≡◌, sym, ap, ◌∙◌}
-use mathlib.Core.List.{List, ◌++◌, append-nil}
-use Prim.Native.Nat.{ℕ, ◌+◌, ◌-◌, ◌≤◌}
-use native.Mathlib.Omega.{arith}
-use borrow.Author.Tests.{eq-eqb, ne_eqb}
-use Rattle.show_table.proofs.Laws.{until-bar, until-step, until_end}
+use mathlib.Core.Path.{◌≡◌}
+use mathlib.Core.List.{◌++◌}
+use Prim.Native.Nat.{◌-◌, ◌≤◌}
 use lib.ListN.{length, take, drop}
 use Rattle.show_table.specs.Names.{until_bar}
-use Rattle.table.proofs.Rules.{picks}
 use Rattle.show_table.proofs.names.end_of.Given as goal
 
 abbrev pub invariant-loop-at : goal.invariant-loop-at

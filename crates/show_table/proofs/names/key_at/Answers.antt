@@ -1,11 +1,8 @@
 use mathlib.Core.Path.{◌≡◌, ◌∙◌}
 use native.Mathlib.Omega.{arith}
 use lib.ListN.{get_or-eq_default}
-use Rattle.show_table.specs.Names.{name_at}
 use Rattle.show_table.specs.Shown.{Line, lines, line_at, no_line}
 use Rattle.show_table.proofs.Laws.{names-right}
-use Rattle.table.proofs.Rules.{picks}
-use borrow.Author.Rules.{rules}
 use Rattle.show_table.proofs.names.key_at.Goals as goal
 
 pub returns-then-i-ge100 : goal.returns-then-i-ge100

@@ -1,10 +1,9 @@
 use mathlib.Core.Path.{◌≡◌, sym, ap, ◌∙◌}
-use Prim.Native.Nat.{ℕ, ◌+◌, ◌-◌, ◌≤◌, ◌<◌}
+use Prim.Native.Nat.{ℕ, ◌+◌, ◌-◌, ◌<◌}
 use native.Mathlib.Omega.{arith}
 use lib.ListN.{length, drop}
 use Rattle.show_table.proofs.Laws.{behind-step, behind-end}
 use Rattle.show_table.specs.Names.{behind_bars}
-use Rattle.table.proofs.Rules.{picks}
 use Rattle.show_table.proofs.names.start_of.Goals as goal
 
 pub returns-then-bars-eq0 : goal.returns-then-bars-eq0

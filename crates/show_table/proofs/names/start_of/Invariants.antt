@@ -1,10 +1,7 @@
-use mathlib.Core.Path.{◌≡◌, sym, ap, ◌∙◌}
-use Prim.Native.Nat.{ℕ, ◌+◌, ◌-◌, ◌≤◌, ◌<◌}
-use native.Mathlib.Omega.{arith}
+use mathlib.Core.Path.{◌≡◌}
+use Prim.Native.Nat.{◌-◌, ◌≤◌}
 use lib.ListN.{length, drop}
-use Rattle.show_table.proofs.Laws.{behind-step, behind-end}
 use Rattle.show_table.specs.Names.{behind_bars}
-use Rattle.table.proofs.Rules.{picks}
 use Rattle.show_table.proofs.names.start_of.Given as goal
 
 abbrev pub invariant-loop-at : goal.invariant-loop-at

@@ -1,7 +1,6 @@
 use mathlib.Core.Path.{ap, sym, ◌∙◌}
 use Rattle.show_values.specs.Values.{bits_of, is_two_of}
 use borrow.Author.Tests.{eq-eqb, ne_eqb}
-use borrow.Author.Rules.{rules}
 use Rattle.show_values.proofs.choices.is_two_text.Goals as goal
 
 pub returns-then-bits_of-eq2 : goal.returns-then-bits_of-eq2

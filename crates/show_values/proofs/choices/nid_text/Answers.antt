@@ -1,6 +1,5 @@
 use Rattle.show_values.specs.Values.{nid_of}
 use borrow.Author.Tests.{ne_eqb}
-use borrow.Author.Rules.{rules}
 use Rattle.show_values.proofs.choices.nid_text.Goals as goal
 
 pub returns-in-1 : goal.returns-in-1

@@ -1,4 +1,3 @@
-use borrow.Author.Rules.{rules}
 use Rattle.show_values.proofs.choices.not_indicated_text.Goals as goal
 
 pub returns : goal.returns

@@ -2,7 +2,6 @@ use mathlib.Core.Path.{ap, sym, ◌∙◌}
 use Rattle.show_values.specs.Values.{bits_of, number_if_of}
 use borrow.Author.Tests.{eq-eqb, ne_eqb}
 use Rattle.text.specs.Numerals.{numeral}
-use borrow.Author.Rules.{rules}
 use Rattle.show_values.proofs.choices.number_if_text.Goals as goal
 
 pub returns-then-bits_of-eq1 : goal.returns-then-bits_of-eq1

@@ -1,6 +1,5 @@
 use Rattle.show_values.specs.Values.{primary_of}
 use borrow.Author.Tests.{ne_eqb}
-use borrow.Author.Rules.{rules}
 use Rattle.show_values.proofs.choices.primary_text.Goals as goal
 
 pub returns-in-0 : goal.returns-in-0

@@ -1,6 +1,5 @@
 use Rattle.show_values.specs.Values.{transport_of}
 use borrow.Author.Tests.{ne_eqb}
-use borrow.Author.Rules.{rules}
 use Rattle.show_values.proofs.choices.transport_text.Goals as goal
 
 pub returns-then-value-eq3 : goal.returns-then-value-eq3

@@ -2,7 +2,6 @@ use Rattle.show_values.specs.Values.{left_out}
 use mathlib.Core.Path.{ap, refl}
 use mathlib.Core.Bool.{not}
 use Rattle.table.proofs.Rules.{picks}
-use borrow.Author.Rules.{rules}
 use Rattle.show_values.proofs.kinds.is_left_out.Goals as goal
 
 pub returns-in-27 : goal.returns-in-27

@@ -1,13 +1,10 @@
 use lib.Seq.{take-suc, take_all}
-use lib.ListN.{length, take, get_or}
+use lib.ListN.{take, get_or}
 use borrow.Author.Rules.{rules}
 use native.Mathlib.Omega.{arith}
 use native.Mathlib.Numerals.{add-one}
-use Prim.Native.Nat.{◌+◌, ◌-◌, ◌≤◌}
-use mathlib.Core.List.{[], ◌∷◌, ◌++◌, append_assoc, append-nil}
-use mathlib.Core.Path.{◌≡◌, sym}
-use Rattle.io.specs.Counts.{IsPrefixLen}
-use Rattle.text.proofs.Rules.{picks}
+use mathlib.Core.List.{[], ◌∷◌, append_assoc, append-nil}
+use mathlib.Core.Path.{sym}
 use Rattle.text.proofs.append.with_bytes.Goals as goal
 
 pub loop-i-init : goal.loop-i-init

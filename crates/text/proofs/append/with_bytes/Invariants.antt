@@ -1,13 +1,8 @@
-use lib.Seq.{take-suc, take_all}
-use lib.ListN.{length, take, get_or}
-use borrow.Author.Rules.{rules}
-use native.Mathlib.Omega.{arith}
-use native.Mathlib.Numerals.{add-one}
+use lib.ListN.{length, take}
 use Prim.Native.Nat.{◌+◌, ◌-◌, ◌≤◌}
-use mathlib.Core.List.{[], ◌∷◌, ◌++◌, append_assoc, append-nil}
-use mathlib.Core.Path.{◌≡◌, sym}
+use mathlib.Core.List.{◌++◌}
+use mathlib.Core.Path.{◌≡◌}
 use Rattle.io.specs.Counts.{IsPrefixLen}
-use Rattle.text.proofs.Rules.{picks}
 use Rattle.text.proofs.append.with_bytes.Given as goal
 
 abbrev pub invariant-loop-i : goal.invariant-loop-i

@@ -1,7 +1,6 @@
 use Rattle.text.proofs.Laws.{behind-none}
 use lib.ListN.{take}
 use Rattle.text.specs.Numerals.{numeral}
-use borrow.Author.Rules.{rules}
 use Rattle.text.proofs.decimals.decimal.Goals as goal
 
 pub returns : goal.returns

@@ -3,7 +3,6 @@ use Rattle.text.specs.Numerals.{signed_numeral}
 use Rattle.text.proofs.Laws.{behind-none}
 use borrow.Author.Tests.{lt-ltb, le-ltb}
 use lib.ListN.{take}
-use borrow.Author.Rules.{rules}
 use Rattle.text.proofs.decimals.signed_decimal.Goals as goal
 
 pub returns-then-n-lt2147483648 : goal.returns-then-n-lt2147483648

@@ -1,7 +1,6 @@
 use Rattle.text_hex.specs.Escapes.{escaped_of}
 use Rattle.text.proofs.Laws.{behind-none}
 use lib.ListN.{take}
-use borrow.Author.Rules.{rules}
 use Rattle.text_hex.proofs.escaping.escaped.Goals as goal
 
 pub returns : goal.returns

@@ -1,9 +1,5 @@
-use mathlib.Core.Path.{◌≡◌}
-use mathlib.Core.List.{◌++◌}
-use Prim.Native.Nat.{◌+◌, ◌-◌, ◌*◌, ◌≤◌}
-use lib.ListN.{length, take, drop}
+use lib.ListN.{take}
 use borrow.Author.Rules.{rules}
-use Rattle.io.specs.Counts.{IsPrefixLen}
 use Rattle.text_hex.specs.Escapes.{escaped_of, escapes_of}
 use Rattle.text.proofs.Laws.{behind-none}
 use Rattle.text_hex.proofs.RowLaws.{row_more, row-end}

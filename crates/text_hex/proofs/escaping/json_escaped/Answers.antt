@@ -1,7 +1,6 @@
 use Rattle.text_hex.specs.Escapes.{json_of}
 use Rattle.text.proofs.Laws.{behind-none}
 use lib.ListN.{take}
-use borrow.Author.Rules.{rules}
 use Rattle.text_hex.proofs.escaping.json_escaped.Goals as goal
 
 pub returns : goal.returns

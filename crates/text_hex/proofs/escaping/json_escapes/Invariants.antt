@@ -1,12 +1,9 @@
 use mathlib.Core.Path.{◌≡◌}
 use mathlib.Core.List.{◌++◌}
-use Prim.Native.Nat.{◌+◌, ◌-◌, ◌*◌, ◌≤◌}
+use Prim.Native.Nat.{◌-◌, ◌*◌, ◌≤◌}
 use lib.ListN.{length, take, drop}
-use borrow.Author.Rules.{rules}
 use Rattle.io.specs.Counts.{IsPrefixLen}
-use Rattle.text_hex.specs.Escapes.{json_of, jsons_of}
-use Rattle.text.proofs.Laws.{behind-none}
-use Rattle.text_hex.proofs.RowLaws.{row_more, row-end}
+use Rattle.text_hex.specs.Escapes.{jsons_of}
 use Rattle.text_hex.proofs.escaping.json_escapes.Given as goal
 
 -- What is written, and the escapes of the bytes that are left.

@@ -1,7 +1,6 @@
 use Rattle.text_hex.specs.Hexadecimal.{hexes_of}
 use Rattle.text.proofs.Laws.{behind-none}
 use lib.ListN.{take}
-use borrow.Author.Rules.{rules}
 use Rattle.text_hex.proofs.rows.hexes.Goals as goal
 
 pub returns : goal.returns

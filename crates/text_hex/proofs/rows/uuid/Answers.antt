@@ -1,7 +1,6 @@
 use Rattle.text.proofs.Laws.{behind-none}
 use lib.ListN.{take}
 use Rattle.text_hex.specs.Hexadecimal.{hexes_of, uuid_of}
-use borrow.Author.Rules.{rules}
 use Rattle.text_hex.proofs.rows.uuid.Goals as goal
 
 pub returns : goal.returns

@@ -1,10 +1,6 @@
-use mathlib.Core.Path.{◌≡◌}
-use mathlib.Core.List.{◌++◌}
-use Prim.Native.Nat.{◌+◌, ◌-◌, ◌*◌, ◌≤◌}
-use lib.ListN.{length, take, drop}
+use lib.ListN.{take}
 use borrow.Author.Rules.{rules}
-use Rattle.io.specs.Counts.{IsPrefixLen}
-use Rattle.text_hex.specs.Hexadecimal.{hex_of, hexes_of}
+use Rattle.text_hex.specs.Hexadecimal.{hex_of}
 use Rattle.text_hex.proofs.RowLaws.{row_more, row-end}
 use Rattle.text_hex.proofs.rows.with_hexes.Goals as goal
 
