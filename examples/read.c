@@ -69,7 +69,7 @@ int main(int count, char **words)
     result = nbft_records(table, length, NBFT_HOST, 0, NBFT_SSNS, entries, sizeof entries);
     answer = NBFT_RECORDS_ANSWER(result);
     if (answer != NBFT_DONE) {
-        fprintf(stderr, "%s is refused: %s (number %u, kind %u, position %u)\n", words[1], nbft_words(answer),
+        fprintf(stderr, "%s is refused: number %u, kind %u, position %u\n", words[1],
                 NBFT_NUMBER(answer), NBFT_KIND(answer), NBFT_POSITION(answer));
         return 1;
     }

@@ -13,7 +13,7 @@ use Rattle.table.specs.declared.Region.{Region}
 use Rattle.table.specs.declared.Need.TheVariants.{Optional, Required}
 use Rattle.table.specs.Bytes.{pick, num, odd}
 use Rattle.table.specs.Layout.{offsets, region}
-use Rattle.table.specs.FixedLayouts.{layout_of, list_kinds, ssns}
+use Rattle.table.specs.FixedLayouts.{layout_of, list_kinds}
 use Rattle.table.specs.Objects.{read_body}
 use Rattle.table.specs.Rules.{answer, body_rule, done, first, first_fail, first_of, reaches, ref_rule}
 use Rattle.table.specs.Meaning.{meaning}

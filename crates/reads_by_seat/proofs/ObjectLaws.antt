@@ -1,5 +1,5 @@
 -- The length of an object, and where it stands. Assumes nothing.
-use Rattle.std.proofs.Common.{◌≡◌, ℕ, ◌≤◌, Bool, true, false, eqb, List, length, sym, refl, ap, ◌∙◌, subst, true≢false, zero-add, arith, ne_eqb, eqb-true}
+use Rattle.std.proofs.Common.{◌≡◌, ℕ, ◌≤◌, Bool, true, false, eqb, List, sym, refl, ap, ◌∙◌, subst, true≢false, zero-add, arith, ne_eqb, eqb-true}
 use Rattle.table.specs.declared.Place.{Place}
 use Rattle.table.specs.declared.Need.{Need}
 use Rattle.table.specs.declared.Need.TheVariants.{Ignored, Optional, Required}

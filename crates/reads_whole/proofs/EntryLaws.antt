@@ -1,18 +1,18 @@
 -- Laws of an entry: how long it is, and that it is the same by a record's own bytes and by its place in the table. Assumes nothing.
 use mathlib.Core.Path.{◌≡◌, refl, sym, ap, ap₂, ◌∙◌}
 use mathlib.Core.Bool.{Bool, true, false}
-use mathlib.Core.List.{List, [], ◌∷◌, ◌++◌}
+use mathlib.Core.List.{List, ◌++◌}
 use Prim.Native.Nat.{ℕ, zero, suc, ◌+◌, ◌-◌, ◌*◌, ◌≤◌}
 use native.Mathlib.Omega.{arith}
 use lib.ListN.{length, get_or, take, drop, replicate, length-append, length-replicate, replicate-append-replicate}
 use lib.Dec.{lit≤}
 use Rattle.table.specs.declared.Image.{Image}
 use Rattle.table.specs.declared.Place.{Place}
-use Rattle.table.specs.Bytes.{pick, part, padded, splice}
+use Rattle.table.specs.Bytes.{part, padded, splice}
 use Rattle.table.specs.Layout.{base_of}
 use Rattle.table.specs.FixedLayouts.{layout_of, header, control, host, hfi, ssns, security, discovery, info, extended, hfi_extended, no_kind}
 use Rattle.table.specs.Reads as reads
-use Rattle.table.specs.Reads.{seat, seat_of, shown, image_at, content_at, handed, place_at}
+use Rattle.table.specs.Reads.{seat, seat_of, shown, image_at, content_at, handed}
 use Rattle.laws.specs.ListWalk.{by_layout, base-small}
 use Rattle.laws.specs.ImageLaws.{length-image}
 use Rattle.layout_kinds.specs.References.{object_refs}

@@ -9,7 +9,7 @@ use lib.ListN.{length, take, drop, length-append, length-drop}
 use lib.Seq.{take-add, take_all, drop-drop, drop-length, length-take-le}
 use lib.Dec.{leb, eqb, lit≤}
 use borrow.Author.Tests.{leb-true, leb-false, lt-leb, ne_eqb}
-use Rattle.table.specs.Bytes.{pick, splice}
+use Rattle.table.specs.Bytes.{splice}
 use Rattle.bytes_writer.proofs.StoreLaws.{splice-next}
 use Rattle.reader.specs.Accepted.{Accepted}
 use Rattle.reads_seats.specs.Told.{count_of}

@@ -1,12 +1,12 @@
 -- Laws of rows that stand behind one another, all of one length. Assumes nothing.
-use mathlib.Core.Path.{◌≡◌, refl, sym, ap, ap₂, ◌∙◌}
-use mathlib.Core.List.{List, [], ◌∷◌, ◌++◌, append-nil, append_assoc}
+use mathlib.Core.Path.{◌≡◌, sym, ap, ap₂, ◌∙◌}
+use mathlib.Core.List.{List, ◌++◌, append-nil, append_assoc}
 use Prim.Native.Nat.{ℕ, zero, suc, ◌+◌, ◌-◌, ◌*◌, ◌≤◌}
 use native.Mathlib.Nat.{add-zero, zero-add, mul-zero}
 use native.Mathlib.Numerals.{add-one}
 use native.Mathlib.Omega.{arith}
 use lib.ListN.{length, take, drop, length-append}
-use lib.Seq.{take_at, take-append-le, drop_at}
+use lib.Seq.{take_at, drop_at}
 use Rattle.table.specs.Bytes.{splice}
 use Rattle.bytes_writer.proofs.StoreLaws.{splice-next}
 use Rattle.reads_whole.specs.Whole.{rows}

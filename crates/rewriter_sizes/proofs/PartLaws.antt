@@ -6,10 +6,9 @@ use Prim.Native.Nat.{ℕ, zero, suc, ◌+◌, ◌-◌, ◌*◌, ◌≤◌, ◌<�
 use native.Mathlib.Nat.{add-zero, zero-add, sub-zero, le_trans, mul-le-mul_left, mul-le-mul_right}
 use native.Mathlib.Numerals.{add-one}
 use native.Mathlib.Omega.{arith}
-use lib.ListN.{length, get_or, take, drop, length-append, get_or-append}
-use lib.Seq.{get_or-take, drop-cons, drop-length}
+use lib.ListN.{length, get_or, drop}
+use lib.Seq.{drop-cons, drop-length}
 use lib.Dec.{eqb, lit<}
-use borrow.Author.Tests.{eq-eqb}
 use Rattle.table.specs.declared.Need.{Need}
 use Rattle.table.specs.Bytes.{pick, part, Edit, edit}
 use Rattle.table.specs.Layout.{Shape, Layout, Refs, none, plain, nest, Slots, base_of, offsets}
@@ -21,7 +20,7 @@ use Rattle.laws.specs.Fields.{Bytes, image_in}
 use Rattle.laws.specs.ListWalk.{base-small}
 use Rattle.layout_images.proofs.Laws.{by_kind, part-long, other-layout}
 use Rattle.bytes_writer.specs.Stores.{ref_num}
-use Rattle.layout_kinds.specs.References.{object_refs, held_refs}
+use Rattle.layout_kinds.specs.References.{held_refs}
 use Rattle.bytes_writer.proofs.RecordLaws.{ref-num, ref-for}
 use Rattle.reader.specs.Accepted.{Accepted}
 use Rattle.reads_seats.specs.declared.seats.Seat.{Seat}

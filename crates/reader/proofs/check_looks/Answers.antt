@@ -3,7 +3,6 @@ use Rattle.table.specs.declared.Answer.{Answer}
 use Rattle.reader_frame.proofs.Laws.{laid_out_lem}
 use Rattle.laws.specs.LookLaws.{behind_more, behind-stop}
 use Rattle.reader.proofs.Laws.{answer-stop, answer-more, check-is, looks-are}
-use borrow.Author.Rules.{rules}
 use Rattle.reader.proofs.check_looks.Goals as goal
 
 pub returns-then-fault-ne0 : goal.returns-then-fault-ne0

@@ -1,6 +1,5 @@
 use native.Mathlib.Nat.{add-sub_cancel_left}
 use native.Mathlib.Omega.{arith}
-use borrow.Author.Rules.{rules}
 use Rattle.reader.proofs.heap_of.Goals as goal
 
 pub slice_bounds-result-end-2 : goal.slice_bounds-result-end-2

@@ -8,7 +8,6 @@ use Rattle.table.specs.Layout.{region}
 use Rattle.table.specs.FixedLayouts.{layout_of, host}
 use Rattle.reader.proofs.Laws.{host-off, host-on, looks-off, looks_on}
 use Rattle.table.proofs.Rules.{picks}
-use borrow.Author.Rules.{rules}
 use Rattle.reader.proofs.host_fault.Goals as goal
 
 pub overflow_add-a : goal.overflow_add-a

@@ -7,13 +7,12 @@ use Rattle.table.specs.Layout.{region}
 use Rattle.table.specs.FixedLayouts.{layout_of, hfi, ssns, security, discovery}
 use Rattle.reader_lists.specs.Lists.{list_fault, list_looks}
 use Rattle.reader.proofs.Laws.{answer-stop, answer-more, body_is, body-looks, last-list, last-looks, look_stop, look-more}
-use borrow.Author.Rules.{rules}
 use Rattle.reader.proofs.lists_fault.Goals as goal
 
 pub list_fault-hfi-requires : goal.list_fault-hfi-requires
 unfolding layout_of hfi
 list_fault-hfi-requires c =
-    record { laid_out = (c.requires.0, lit≤ tt, lit≤ tt, c.requires.1); c_in_bounds = (omega (arith, c.requires.0.lent), c.requires.0.hfi); }
+    record { laid_out = (c.requires.0, lit≤ tt, lit≤ tt, c.requires.1); c_in_bounds = (omega (arith, c.requires.0.lent), c.requires.0.hfi) }
 
 pub returns-then-hfi-ne0 : goal.returns-then-hfi-ne0
 returns-then-hfi-ne0 c =
@@ -28,7 +27,7 @@ returns-then-hfi-ne0 c =
 pub list_fault-second-requires : goal.list_fault-second-requires
 unfolding layout_of ssns
 list_fault-second-requires c =
-    record { laid_out = (c.requires.0, lit≤ tt, lit≤ tt, c.requires.1); c_in_bounds = (omega (arith, c.requires.0.lent), c.requires.0.ssns); }
+    record { laid_out = (c.requires.0, lit≤ tt, lit≤ tt, c.requires.1); c_in_bounds = (omega (arith, c.requires.0.lent), c.requires.0.ssns) }
 
 pub returns-then-ssns-ne0 : goal.returns-then-ssns-ne0
 returns-then-ssns-ne0 c =
@@ -48,7 +47,7 @@ returns-then-ssns-ne0 c =
 pub list_fault-third-requires : goal.list_fault-third-requires
 unfolding layout_of security
 list_fault-third-requires c =
-    record { laid_out = (c.requires.0, lit≤ tt, lit≤ tt, c.requires.1); c_in_bounds = (omega (arith, c.requires.0.lent), c.requires.0.security); }
+    record { laid_out = (c.requires.0, lit≤ tt, lit≤ tt, c.requires.1); c_in_bounds = (omega (arith, c.requires.0.lent), c.requires.0.security) }
 
 pub behind-security-requires : goal.behind-security-requires
 behind-security-requires c = let s = c.behind-ssns.ensures in omega (arith, s.1, c.list_fault-second.ensures.2, c.list_fault-hfi.ensures.2, c.list_fault-third.ensures.2)
@@ -80,7 +79,7 @@ returns-then-security-ne0 c =
 pub list_fault-last-requires : goal.list_fault-last-requires
 unfolding layout_of discovery
 list_fault-last-requires c =
-    record { laid_out = (c.requires.0, lit≤ tt, lit≤ tt, c.requires.1); c_in_bounds = (omega (arith, c.requires.0.lent), c.requires.0.discovery); }
+    record { laid_out = (c.requires.0, lit≤ tt, lit≤ tt, c.requires.1); c_in_bounds = (omega (arith, c.requires.0.lent), c.requires.0.discovery) }
 
 pub behind-requires : goal.behind-requires
 behind-requires c =

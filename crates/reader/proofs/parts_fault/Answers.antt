@@ -9,7 +9,6 @@ use Rattle.table.specs.FixedLayouts.{layout_of, header}
 use Rattle.reader.specs.Stages.{numbered}
 use Rattle.laws.specs.LookLaws.{behind_more, behind-stop}
 use Rattle.reader.proofs.Laws.{answer-stop, answer-more, heap-at, look-more, look_stop, parts_are, parts-look}
-use borrow.Author.Rules.{rules}
 use Rattle.reader.proofs.parts_fault.Goals as goal
 
 pub refs_fault-requires : goal.refs_fault-requires

@@ -3,7 +3,6 @@ use Prim.Native.Nat.{◌+◌, ◌≤◌, ◌<◌}
 use lib.ListN.{length}
 use Rattle.table.specs.declared.Region.{Region}
 use Rattle.reader.proofs.Laws.{heap-length, is-heap}
-use borrow.Author.Rules.{rules}
 use Rattle.reader.proofs.records_fault.Goals as goal
 
 pub heap_of-requires : goal.heap_of-requires

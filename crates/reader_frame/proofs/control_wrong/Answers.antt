@@ -1,6 +1,5 @@
 use Rattle.reader_frame.specs.Tests.{control_wrong}
 use Rattle.table.proofs.Rules.{picks}
-use borrow.Author.Rules.{rules}
 use Rattle.reader_frame.proofs.control_wrong.Goals as goal
 
 pub returns-then-h-ne-ID : goal.returns-then-h-ne-ID

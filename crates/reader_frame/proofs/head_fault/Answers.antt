@@ -1,5 +1,4 @@
 use Rattle.reader_frame.specs.Tests.{head_tests}
-use borrow.Author.Rules.{rules}
 use Rattle.reader_frame.proofs.head_fault.Goals as goal
 
 pub returns : goal.returns

@@ -1,7 +1,6 @@
 use Rattle.table.specs.FixedLayouts.{hfi, ssns, security, discovery}
 use Rattle.reader_frame.specs.Tests.{short_lists}
 use Rattle.table.proofs.Rules.{picks}
-use borrow.Author.Rules.{rules}
 use Rattle.reader_frame.proofs.short_lists.Goals as goal
 
 pub returns : goal.returns

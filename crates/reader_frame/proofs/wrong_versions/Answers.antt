@@ -1,6 +1,5 @@
 use Rattle.reader_frame.specs.Tests.{wrong_versions}
 use Rattle.table.proofs.Rules.{picks}
-use borrow.Author.Rules.{rules}
 use Rattle.reader_frame.proofs.wrong_versions.Goals as goal
 
 pub returns : goal.returns

@@ -1,5 +1,4 @@
 use Rattle.table.proofs.Rules.{picks}
-use borrow.Author.Rules.{rules}
 use Rattle.reader_head.proofs.entry_at.Goals as goal
 
 pub returns : goal.returns

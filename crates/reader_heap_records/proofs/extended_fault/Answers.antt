@@ -7,7 +7,6 @@ use Rattle.table.specs.Bytes.{pick}
 use Rattle.table.specs.FixedLayouts.{layout_of, extended}
 use Rattle.table.specs.Layout.{image}
 use native.Mathlib.Omega.{arith}
-use borrow.Author.Rules.{rules}
 use Rattle.reader_heap_records.proofs.extended_fault.Goals.{After-sound-fault}
 use Rattle.reader_heap_records.proofs.extended_fault.Goals as goal
 

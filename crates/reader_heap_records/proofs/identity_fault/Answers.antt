@@ -7,7 +7,6 @@ use Rattle.table.specs.Bytes.{pick}
 use Rattle.table.specs.FixedLayouts.{layout_of, info, hfi_extended}
 use Rattle.table.specs.Layout.{image}
 use native.Mathlib.Omega.{arith}
-use borrow.Author.Rules.{rules}
 use Rattle.reader_heap_records.proofs.identity_fault.Goals.{After-sound-fault}
 use Rattle.reader_heap_records.proofs.identity_fault.Goals as goal
 

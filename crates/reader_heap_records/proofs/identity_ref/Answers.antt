@@ -3,7 +3,6 @@ use lib.ListN.{length}
 use Rattle.reader_heap_records.proofs.Laws.{identity-wrong, identity-absent, identity-there}
 use Rattle.reader_heap_records.specs.HeapRecords.{identity_fault}
 use Rattle.table.proofs.Rules.{picks}
-use borrow.Author.Rules.{rules}
 use Rattle.reader_heap_records.proofs.identity_ref.Goals as goal
 
 pub returns-then-x-ne2 : goal.returns-then-x-ne2

@@ -8,7 +8,6 @@ use Rattle.table.specs.FixedLayouts.{info}
 use Rattle.table.specs.Rules.{is_sound}
 use Rattle.reader_heap_records.specs.HeapRecords.{spot, info_part}
 use Rattle.reader_heap_records.proofs.Laws.{info-sound, sound-short, sound-stop, sound-on}
-use borrow.Author.Rules.{rules}
 use Rattle.reader_heap_records.proofs.info_fault.Goals.{After-sound-fault}
 use Rattle.reader_heap_records.proofs.info_fault.Goals as goal
 

@@ -2,7 +2,6 @@ use mathlib.Core.Path.{refl}
 use native.Mathlib.Omega.{arith}
 use borrow.Author.Tests.{eq-eqb, ne_eqb}
 use Rattle.reader_heap_records.proofs.Laws.{info-flags}
-use borrow.Author.Rules.{rules}
 use Rattle.reader_heap_records.proofs.info_flags.Goals as goal
 
 pub returns-then-x-eq0 : goal.returns-then-x-eq0

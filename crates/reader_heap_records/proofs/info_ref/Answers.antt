@@ -4,7 +4,6 @@ use borrow.Author.Tests.{ne_eqb}
 use Rattle.reader_references.proofs.Laws.{as-text, as_bytes}
 use Rattle.reader_heap_records.specs.HeapRecords.{info_fault}
 use Rattle.table.proofs.Rules.{picks}
-use borrow.Author.Rules.{rules}
 use Rattle.reader_heap_records.proofs.info_ref.Goals as goal
 
 pub returns-then-off-eq110 : goal.returns-then-off-eq110

@@ -1,11 +1,10 @@
-use mathlib.Core.Path.{◌≡◌, refl, ◌∙◌}
-use Prim.Native.Nat.{ℕ, ◌≤◌, ◌-◌}
+use mathlib.Core.Path.{refl, ◌∙◌}
+use Prim.Native.Nat.{◌-◌}
 use native.Mathlib.Omega.{arith}
-use lib.ListN.{drop}
 use Rattle.table.specs.Layout.{offsets}
 use Rattle.table.specs.FixedLayouts.{layout_of, info}
 use Rattle.laws.specs.ListWalk.{refs-within}
-use Rattle.laws.specs.RefWalk.{first_over, lists_at_lem, over-stop, over-more, over_none}
+use Rattle.laws.specs.RefWalk.{lists_at_lem, over-stop, over-more, over_none}
 use Rattle.reader_heap_records.specs.HeapRecords.{info_fault, info_faults}
 use Rattle.table.proofs.Rules.{picks}
 use Rattle.reader_heap_records.proofs.info_refs.Goals as goal

@@ -1,12 +1,12 @@
 use Rattle.reader_heap_records.specs.HeapRecords.{own_fault, own_faults}
 use Rattle.laws.specs.ListWalk.{refs-within}
-use Rattle.laws.specs.RefWalk.{first_over, lists_at_lem, over-stop, over-more, over_none}
+use Rattle.laws.specs.RefWalk.{lists_at_lem, over-stop, over-more, over_none}
 use Rattle.table.specs.FixedLayouts.{layout_of}
 use Rattle.table.specs.Layout.{offsets}
-use Prim.Native.Nat.{ℕ, ◌≤◌, ◌<◌, ◌-◌}
+use Prim.Native.Nat.{◌<◌, ◌-◌}
 use native.Mathlib.Omega.{arith}
-use lib.ListN.{length, drop}
-use mathlib.Core.Path.{◌≡◌, refl, ◌∙◌}
+use lib.ListN.{length}
+use mathlib.Core.Path.{refl, ◌∙◌}
 use Rattle.table.proofs.Rules.{picks}
 use Rattle.reader_heap_records.proofs.own_fault.Goals as goal
 

@@ -1,13 +1,10 @@
-use Rattle.reader_heap_records.specs.HeapRecords.{own_fault, own_faults}
-use Rattle.laws.specs.ListWalk.{refs-within}
-use Rattle.laws.specs.RefWalk.{first_over, lists_at_lem, over-stop, over-more, over_none}
+use Rattle.reader_heap_records.specs.HeapRecords.{own_fault}
+use Rattle.laws.specs.RefWalk.{first_over}
 use Rattle.table.specs.FixedLayouts.{layout_of}
 use Rattle.table.specs.Layout.{offsets}
-use Prim.Native.Nat.{ℕ, ◌≤◌, ◌<◌, ◌-◌}
-use native.Mathlib.Omega.{arith}
-use lib.ListN.{length, drop}
-use mathlib.Core.Path.{◌≡◌, refl, ◌∙◌}
-use Rattle.table.proofs.Rules.{picks}
+use Prim.Native.Nat.{◌≤◌, ◌-◌}
+use lib.ListN.{drop}
+use mathlib.Core.Path.{◌≡◌}
 use Rattle.reader_heap_records.proofs.own_fault.Given as goal
 
 abbrev pub invariant-loop-i : goal.invariant-loop-i

@@ -4,7 +4,6 @@ use Rattle.table.specs.Layout.{base_of}
 use Rattle.table.specs.FixedLayouts.{layout_of, hfi_extended}
 use Rattle.reader_heap_records.specs.HeapRecords.{own_need}
 use Rattle.table.proofs.Rules.{picks}
-use borrow.Author.Rules.{rules}
 use Rattle.reader_heap_records.proofs.own_need.Goals as goal
 
 pub identity_need-requires : goal.identity_need-requires

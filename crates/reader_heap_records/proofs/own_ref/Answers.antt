@@ -1,7 +1,6 @@
 use Rattle.table.specs.Layout.{reference_at}
 use Rattle.reader_references.proofs.Laws.{as-text, as_bytes}
 use Rattle.reader_heap_records.specs.HeapRecords.{own_fault}
-use borrow.Author.Rules.{rules}
 use Rattle.reader_heap_records.proofs.own_ref.Goals as goal
 
 pub returns-then-holds_text : goal.returns-then-holds_text

@@ -3,7 +3,6 @@ use Prim.Native.Nat.{◌<◌, ◌-◌}
 use native.Mathlib.Omega.{arith}
 use Rattle.reader_indexes.proofs.Laws.{stride}
 use Rattle.table.proofs.Rules.{picks}
-use borrow.Author.Rules.{rules}
 use Rattle.reader_indexes.proofs.listed.Goals as goal
 
 pub returns-then-n-eq0 : goal.returns-then-n-eq0

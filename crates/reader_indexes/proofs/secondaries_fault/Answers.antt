@@ -1,11 +1,11 @@
 use mathlib.Core.Path.{◌≡◌, ap, ◌∙◌}
 use mathlib.Core.List.{[], ◌∷◌}
-use Prim.Native.Nat.{ℕ, ◌-◌, ◌≤◌}
+use Prim.Native.Nat.{ℕ, ◌-◌}
 use native.Mathlib.Omega.{arith}
-use lib.ListN.{length, get_or, drop}
+use lib.ListN.{get_or}
 use Rattle.table.specs.declared.Found.{Found}
-use Rattle.table.specs.Layout.{each, index}
-use Rattle.laws.specs.IndexLaws.{after, after_none, found_by}
+use Rattle.table.specs.Layout.{index}
+use Rattle.laws.specs.IndexLaws.{after_none, found_by}
 use Rattle.laws.specs.ListWalk.{valid_in}
 use Rattle.reader_indexes.proofs.Laws.{list-stop, list-more, list-none}
 use Rattle.table.proofs.Rules.{picks}

@@ -1,14 +1,9 @@
-use mathlib.Core.Path.{◌≡◌, ap, ◌∙◌}
-use mathlib.Core.List.{[], ◌∷◌}
-use Prim.Native.Nat.{ℕ, ◌-◌, ◌≤◌}
-use native.Mathlib.Omega.{arith}
-use lib.ListN.{length, get_or, drop}
-use Rattle.table.specs.declared.Found.{Found}
-use Rattle.table.specs.Layout.{each, index}
-use Rattle.laws.specs.IndexLaws.{after, after_none, found_by}
+use mathlib.Core.Path.{◌≡◌}
+use Prim.Native.Nat.{◌-◌, ◌≤◌}
+use lib.ListN.{length, drop}
+use Rattle.table.specs.Layout.{each}
+use Rattle.laws.specs.IndexLaws.{after, found_by}
 use Rattle.laws.specs.ListWalk.{valid_in}
-use Rattle.reader_indexes.proofs.Laws.{list-stop, list-more, list-none}
-use Rattle.table.proofs.Rules.{picks}
 use Rattle.reader_indexes.proofs.secondaries_fault.Given as goal
 
 abbrev pub invariant-loop-i : goal.invariant-loop-i

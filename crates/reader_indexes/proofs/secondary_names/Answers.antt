@@ -8,7 +8,6 @@ use Rattle.laws.specs.IndexLaws.{found_by}
 use Rattle.laws.specs.ListWalk.{valid_in}
 use Rattle.reader_references.specs.References.{part_in}
 use Rattle.reader_indexes.proofs.Laws.{secondary-part, part-short}
-use borrow.Author.Rules.{rules}
 use Rattle.reader_indexes.proofs.secondary_names.Goals as goal
 
 pub secondaries_fault-requires : goal.secondaries_fault-requires

@@ -1,4 +1,3 @@
-use borrow.Author.Rules.{rules}
 use Rattle.table.specs.FixedLayouts.{layout_of, hfi, ssns, security, discovery}
 use Prim.Native.Nat.{◌+◌}
 use Rattle.laws.specs.ListWalk.{valid_in}

@@ -1,5 +1,4 @@
 use native.Mathlib.Omega.{arith}
-use borrow.Author.Rules.{rules}
 use Rattle.reader_indexes.proofs.valid_in.Goals as goal
 
 pub listed-requires : goal.listed-requires

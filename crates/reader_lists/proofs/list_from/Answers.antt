@@ -1,11 +1,11 @@
 use mathlib.Core.Path.{◌≡◌, sym, ap, ◌∙◌}
-use Prim.Native.Nat.{ℕ, ◌≤◌, ◌-◌, ◌+◌, ◌*◌}
+use Prim.Native.Nat.{ℕ, ◌-◌, ◌+◌}
 use native.Mathlib.Nat.{zero-mul, zero-add, add_comm, add-zero, sub-zero}
 use native.Mathlib.Omega.{arith}
 use lib.ListN.{length}
 use Rattle.table.specs.Layout.{region}
 use Rattle.reader_indexes.proofs.Laws.{stride}
-use Rattle.reader_lists.specs.Lists.{from_looks, list_from, record_fault, record_looks}
+use Rattle.reader_lists.specs.Lists.{record_fault, record_looks}
 use Rattle.reader_lists.proofs.Laws.{turn-stop, turn_more, turn-none, took-stop, took_more, took-none, next_start}
 use Rattle.table.proofs.Rules.{picks}
 use Rattle.reader_lists.proofs.list_from.Goals.{After-record_fault-found}

@@ -8,7 +8,6 @@ use Rattle.table.specs.Layout.{region}
 use Rattle.table.specs.FixedLayouts.{layout_of}
 use Rattle.reader_lists.proofs.Laws.{record-by, looks-by, flag-within}
 use Rattle.table.proofs.Rules.{picks}
-use borrow.Author.Rules.{rules}
 use Rattle.reader_lists.proofs.record_fault.Goals as goal
 
 pub overflow_add-a : goal.overflow_add-a

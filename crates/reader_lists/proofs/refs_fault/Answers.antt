@@ -1,12 +1,12 @@
 use Rattle.reader_rules.specs.Rules.{ref_fault}
 use Rattle.laws.specs.ListWalk.{refs-within}
-use Rattle.laws.specs.RefWalk.{first_over, lists_at_lem, over-stop, over-more, over_none}
+use Rattle.laws.specs.RefWalk.{lists_at_lem, over-stop, over-more, over_none}
 use Rattle.table.specs.FixedLayouts.{layout_of}
 use Rattle.table.specs.Layout.{region, offsets}
-use Prim.Native.Nat.{◌≤◌, ◌<◌, ◌-◌}
+use Prim.Native.Nat.{◌<◌, ◌-◌}
 use native.Mathlib.Omega.{arith}
-use lib.ListN.{length, drop}
-use mathlib.Core.Path.{◌≡◌, refl, sym, ◌∙◌}
+use lib.ListN.{length}
+use mathlib.Core.Path.{refl, sym, ◌∙◌}
 use Rattle.reader_lists.proofs.Laws.{refs-are}
 use Rattle.table.proofs.Rules.{picks}
 use Rattle.reader_lists.proofs.refs_fault.Goals as goal
@@ -37,16 +37,15 @@ returns-then-fault-ne0 c =
     c.args.t.now c.args.a c.args.position)
 
 pub loop-i-preserved : goal.loop-i-preserved
-loop-i-preserved c =
-     (
-      search picks,
-      over-more (ref_fault c.args.kind (region c.args.from (length c.args.heap.now))
-          c.args.t.now c.args.a c.args.position)
-          c.reference_offsets-rs.result.count c.reference_offsets-rs.result.at
-          c.reference_offsets-rs.ensures.0 c.reference_offsets-rs.ensures.1
-          c.loop-i-test.true c.ref_fault-fault.ensures c.if-fault-ne0.false
-          ∙ c.loop-i.invariant.1,
-    )
+loop-i-preserved c = (
+  search picks,
+  over-more (ref_fault c.args.kind (region c.args.from (length c.args.heap.now))
+      c.args.t.now c.args.a c.args.position)
+      c.reference_offsets-rs.result.count c.reference_offsets-rs.result.at
+      c.reference_offsets-rs.ensures.0 c.reference_offsets-rs.ensures.1
+      c.loop-i-test.true c.ref_fault-fault.ensures c.if-fault-ne0.false
+      ∙ c.loop-i.invariant.1,
+)
 
 pub returns : goal.returns
 returns c =

@@ -1,14 +1,10 @@
 use Rattle.reader_rules.specs.Rules.{ref_fault}
-use Rattle.laws.specs.ListWalk.{refs-within}
-use Rattle.laws.specs.RefWalk.{first_over, lists_at_lem, over-stop, over-more, over_none}
+use Rattle.laws.specs.RefWalk.{first_over}
 use Rattle.table.specs.FixedLayouts.{layout_of}
 use Rattle.table.specs.Layout.{region, offsets}
-use Prim.Native.Nat.{◌≤◌, ◌<◌, ◌-◌}
-use native.Mathlib.Omega.{arith}
+use Prim.Native.Nat.{◌≤◌, ◌-◌}
 use lib.ListN.{length, drop}
-use mathlib.Core.Path.{◌≡◌, refl, sym, ◌∙◌}
-use Rattle.reader_lists.proofs.Laws.{refs-are}
-use Rattle.table.proofs.Rules.{picks}
+use mathlib.Core.Path.{◌≡◌}
 use Rattle.reader_lists.proofs.refs_fault.Given as goal
 
 abbrev pub invariant-loop-i : goal.invariant-loop-i

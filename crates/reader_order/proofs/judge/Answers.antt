@@ -1,7 +1,6 @@
 use Rattle.table.specs.FixedLayouts.{host}
 use Rattle.reader_order.specs.Judging.{judged}
 use Rattle.table.proofs.Rules.{picks}
-use borrow.Author.Rules.{rules}
 use Rattle.reader_order.proofs.judge.Goals as goal
 
 pub returns-then-major-ne1 : goal.returns-then-major-ne1

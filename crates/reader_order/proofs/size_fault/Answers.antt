@@ -1,7 +1,6 @@
 use Rattle.table.specs.Meaning.{limit}
 use Rattle.reader_order.specs.Judging.{size_tests}
 use Rattle.table.proofs.Rules.{picks}
-use borrow.Author.Rules.{rules}
 use Rattle.reader_order.proofs.size_fault.Goals as goal
 
 pub returns-then-signature-ne-SIGNATURE : goal.returns-then-signature-ne-SIGNATURE

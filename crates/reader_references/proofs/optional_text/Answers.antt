@@ -6,7 +6,6 @@ use Rattle.table.specs.Layout.{region, reference_at}
 use Rattle.reader_references.specs.declared.Ref.TheVariants.{Absent, Wrong}
 use Rattle.reader_references.specs.References.{ref_number}
 use Rattle.reader_references.proofs.Laws.{Inside, part-inside, ref-absent, ref-wrong, text-nowhere, text-there}
-use borrow.Author.Rules.{rules}
 use Rattle.reader_references.proofs.optional_text.Goals.{In-Part}
 use Rattle.reader_references.proofs.optional_text.Goals as goal
 

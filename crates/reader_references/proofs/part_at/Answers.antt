@@ -7,7 +7,6 @@ use mathlib.Core.Bool.{true}
 use mathlib.Core.Path.{◌≡◌, sym, ◌∙◌}
 use native.Mathlib.Nat.{add-sub_cancel_left}
 use native.Mathlib.Omega.{arith}
-use borrow.Author.Rules.{rules}
 use Rattle.reader_references.proofs.part_at.Goals.{In-Part}
 use Rattle.reader_references.proofs.part_at.Goals as goal
 

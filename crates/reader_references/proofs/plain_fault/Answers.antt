@@ -1,7 +1,6 @@
 use mathlib.Core.Path.{ap, ◌∙◌}
 use Rattle.reader_references.specs.References.{ref_number}
 use Rattle.reader_references.proofs.Laws.{ref-rule}
-use borrow.Author.Rules.{rules}
 use Rattle.reader_references.proofs.plain_fault.Goals as goal
 
 pub returns : goal.returns

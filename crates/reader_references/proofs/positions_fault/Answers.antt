@@ -6,7 +6,6 @@ use Rattle.table.specs.Layout.{region, reference_at}
 use Rattle.reader_references.specs.declared.Ref.TheVariants.{Absent, Wrong}
 use Rattle.reader_references.specs.References.{ref_number, positions_rule}
 use Rattle.reader_references.proofs.Laws.{Inside, part-inside, ref-absent, ref-wrong, asked-nowhere, asked-there, positions-free}
-use borrow.Author.Rules.{rules}
 use Rattle.reader_references.proofs.positions_fault.Goals.{In-Part}
 use Rattle.reader_references.proofs.positions_fault.Goals as goal
 

@@ -5,7 +5,6 @@ use native.Mathlib.Nat.{add-sub_cancel_left}
 use lib.ListN.{take, drop}
 use Rattle.table.specs.Bytes.{pick, part}
 use Rattle.table.specs.Layout.{are_positions}
-use borrow.Author.Rules.{rules}
 use Rattle.reader_references.proofs.positions_number.Goals.{After-are_positions}
 use Rattle.reader_references.proofs.positions_number.Goals as goal
 

@@ -2,7 +2,6 @@ use Rattle.reader_references.specs.References.{ref_of}
 use Rattle.table.specs.Layout.{region}
 use Rattle.table.specs.declared.Region.{Region}
 use mathlib.Core.Path.{ap, ◌∙◌}
-use borrow.Author.Rules.{rules}
 use Rattle.reader_references.proofs.ref_at.Goals as goal
 
 pub returns : goal.returns

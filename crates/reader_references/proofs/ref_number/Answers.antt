@@ -1,6 +1,5 @@
 use Rattle.reader_references.specs.References.{ref_number}
 use Rattle.table.proofs.Rules.{picks}
-use borrow.Author.Rules.{rules}
 use Rattle.reader_references.proofs.ref_number.Goals as goal
 
 pub returns-in-Ignored : goal.returns-in-Ignored

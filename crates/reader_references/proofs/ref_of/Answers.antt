@@ -2,7 +2,6 @@ use native.Mathlib.Omega.{arith}
 use Rattle.reader_references.proofs.Laws.{ref-out, ref-in}
 use Rattle.reader_references.specs.References.{ref_of}
 use Rattle.table.proofs.Rules.{picks}
-use borrow.Author.Rules.{rules}
 use Rattle.reader_references.proofs.ref_of.Goals as goal
 
 pub returns-then-len-eq0 : goal.returns-then-len-eq0

@@ -1,6 +1,5 @@
 use mathlib.Core.Path.{refl}
 use Rattle.reader_references.specs.References.{object_rule}
-use borrow.Author.Rules.{rules}
 use Rattle.reader_references.proofs.text_fault.Goals as goal
 
 pub returns-in-Ignored : goal.returns-in-Ignored

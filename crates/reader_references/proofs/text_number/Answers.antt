@@ -5,7 +5,6 @@ use native.Mathlib.Nat.{add-sub_cancel_left}
 use lib.ListN.{take, drop}
 use Rattle.table.specs.Bytes.{pick, part}
 use Rattle.table.specs.Layout.{is_text}
-use borrow.Author.Rules.{rules}
 use Rattle.reader_references.proofs.text_number.Goals.{After-is_text}
 use Rattle.reader_references.proofs.text_number.Goals as goal
 

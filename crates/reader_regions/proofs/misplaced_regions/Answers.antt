@@ -1,10 +1,9 @@
 use Rattle.reader_regions.specs.Regions.{misplaced}
 use native.Mathlib.Omega.{arith}
-use borrow.Author.Rules.{rules}
 use Rattle.reader_regions.proofs.misplaced_regions.Goals as goal
 
 pub overflow_add-lo : goal.overflow_add-lo
-overflow_add-lo c =  omega (arith, c.requires.csl)
+overflow_add-lo c = omega (arith, c.requires.csl)
 
 pub all_outside-requires : goal.all_outside-requires
 all_outside-requires c =

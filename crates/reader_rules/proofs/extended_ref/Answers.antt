@@ -7,7 +7,6 @@ use Rattle.reader_references.proofs.Laws.{part_none, part-some, part-yes}
 use Rattle.table.specs.Layout.{reference_at}
 use mathlib.Core.List.{[]}
 use mathlib.Core.Path.{ap, sym, ◌∙◌}
-use borrow.Author.Rules.{rules}
 use Rattle.reader_rules.proofs.extended_ref.Goals as goal
 
 pub returns-then-ssns_flags-eq0 : goal.returns-then-ssns_flags-eq0

@@ -2,7 +2,6 @@ use lib.ListN.{length}
 use Rattle.table.specs.Layout.{region}
 use borrow.Author.Tests.{ne_eqb}
 use Rattle.reader_rules.proofs.HeapLaws.{hfi-other}
-use borrow.Author.Rules.{rules}
 use Rattle.reader_rules.proofs.hfi_ref.Goals as goal
 
 pub returns-then-off-eq16 : goal.returns-then-off-eq16

@@ -5,7 +5,6 @@ use Rattle.reader_references.proofs.Laws.{part_none, part-some, part-yes}
 use native.Mathlib.Omega.{arith}
 use Rattle.table.specs.Layout.{reference_at}
 use mathlib.Core.Path.{ap, sym, ◌∙◌}
-use borrow.Author.Rules.{rules}
 use Rattle.reader_rules.proofs.info_ref.Goals as goal
 
 pub returns-then-x-eq0 : goal.returns-then-x-eq0

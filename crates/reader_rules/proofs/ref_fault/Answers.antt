@@ -6,7 +6,6 @@ use Rattle.reader_references.proofs.Laws.{as-text, as_bytes}
 use Rattle.table.specs.FixedLayouts.{layout_of, hfi, ssns, security}
 use Rattle.reader_rules.proofs.HeapLaws.{security-plain, host-texts, discovery-texts, plain-left}
 use Rattle.table.proofs.Rules.{picks}
-use borrow.Author.Rules.{rules}
 use Rattle.reader_rules.proofs.ref_fault.Goals as goal
 
 pub hfi_ref-requires : goal.hfi_ref-requires

@@ -3,7 +3,6 @@ use Prim.Native.Nat.{ℕ, ◌+◌}
 use Rattle.table.specs.declared.Need.TheVariants.{Optional}
 use Rattle.table.specs.Layout.{reference_at}
 use Rattle.reader_references.specs.References.{asked_rule, positions_rule}
-use borrow.Author.Rules.{rules}
 use Rattle.reader_rules.proofs.secondary_ref.Goals as goal
 
 pub returns : goal.returns

@@ -5,7 +5,6 @@ use Rattle.layout_needs.specs.Needs.{ssns_need}
 use Rattle.reader_references.proofs.Laws.{as-text, as_bytes}
 use borrow.Author.Tests.{ne_eqb}
 use Rattle.reader_rules.proofs.HeapLaws.{secondary-is, ssns-plain}
-use borrow.Author.Rules.{rules}
 use Rattle.reader_rules.proofs.ssns_ref.Goals as goal
 
 pub returns-then-off-eq60 : goal.returns-then-off-eq60

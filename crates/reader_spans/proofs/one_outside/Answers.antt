@@ -3,7 +3,6 @@ use Rattle.reader_spans.proofs.SpanLaws.{span-out, span-in}
 use native.Mathlib.Omega.{arith}
 use Rattle.reader_spans.specs.Spans.{outside}
 use Rattle.table.proofs.Rules.{picks}
-use borrow.Author.Rules.{rules}
 use Rattle.reader_spans.proofs.one_outside.Goals as goal
 
 pub returns-then-s-eq0 : goal.returns-then-s-eq0

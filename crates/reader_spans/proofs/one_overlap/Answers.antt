@@ -1,6 +1,5 @@
 use Rattle.reader_spans.specs.Spans.{overlap}
 use Rattle.table.proofs.Rules.{picks}
-use borrow.Author.Rules.{rules}
 use Rattle.reader_spans.proofs.one_overlap.Goals as goal
 
 pub returns-then-a-eq0 : goal.returns-then-a-eq0

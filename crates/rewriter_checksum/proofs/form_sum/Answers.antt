@@ -1,4 +1,4 @@
-use Rattle.std.proofs.Common.{ap, arith, rules}
+use Rattle.std.proofs.Common.{ap, arith}
 use Rattle.table.specs.Bytes.{total}
 use Rattle.rewriter_checksum.proofs.form_sum.Goals as goal
 

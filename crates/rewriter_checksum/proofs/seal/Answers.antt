@@ -1,5 +1,5 @@
 use Rattle.table.specs.Bytes.{splice, total, checksum}
-use Rattle.std.proofs.Common.{◌≡◌, ℕ, ◌%◌, [], ◌∷◌, take, ap, ◌∙◌, arith, length-take-le, rules}
+use Rattle.std.proofs.Common.{◌≡◌, ℕ, ◌%◌, [], ◌∷◌, take, ap, ◌∙◌, arith, length-take-le}
 use native.Mathlib.Nat.{sub-zero}
 use Rattle.rewriter_checksum.proofs.seal.Goals as goal
 

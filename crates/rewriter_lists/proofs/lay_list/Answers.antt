@@ -1,16 +1,14 @@
 use Rattle.rewriter_lists.proofs.RunLaws.{one_less, list-turn, list-ended}
 use Rattle.rewriter_objects.specs.Laid.{laid}
 use Rattle.rewriter_sizes.proofs.PartLaws.{size-more, size-done, list_all}
-use Rattle.rewriter_sizes.specs.Parts.{list_of, list_from}
 use Rattle.table.specs.Objects.{size_list, recs_list, heap_list}
 use Rattle.table.specs.FixedLayouts.{layout_of}
 use Rattle.table.specs.Layout.{Entry, base_of}
-use lib.ListN.{length}
 use native.Mathlib.Omega.{arith}
 use native.Mathlib.Nat.{sub-zero}
-use Prim.Native.Nat.{◌+◌, ◌-◌, ◌*◌, ◌≤◌}
+use Prim.Native.Nat.{◌+◌, ◌-◌, ◌≤◌}
 use mathlib.Core.List.{List}
-use mathlib.Core.Path.{◌≡◌, refl, sym, ap, ◌∙◌}
+use mathlib.Core.Path.{refl, sym, ap, ◌∙◌}
 use Rattle.table.proofs.Rules.{picks}
 use Rattle.rewriter_lists.proofs.lay_list.Goals as goal
 
@@ -40,7 +38,7 @@ lay_position-cursor-requires c =
     let h = c.loop-position-test.true in
     let m = size-more t k l.position n h in
     let q = one_less n l.position (base_of (layout_of k)) h in
-    record { accepted = ok; kind_bound = (omega (arith, q, l.invariant.1), omega (arith, m, l.invariant.2, l.invariant.3, c.requires.kind_bound)); }
+    record { accepted = ok; kind_bound = (omega (arith, q, l.invariant.1), omega (arith, m, l.invariant.2, l.invariant.3, c.requires.kind_bound)) }
 
 pub overflow_add-at : goal.overflow_add-at
 overflow_add-at c =

@@ -1,17 +1,11 @@
-use Rattle.rewriter_lists.proofs.RunLaws.{one_less, list-turn, list-ended}
 use Rattle.rewriter_objects.specs.Laid.{laid}
-use Rattle.rewriter_sizes.proofs.PartLaws.{size-more, size-done, list_all}
 use Rattle.rewriter_sizes.specs.Parts.{list_of, list_from}
 use Rattle.table.specs.Objects.{size_list, recs_list, heap_list}
 use Rattle.table.specs.FixedLayouts.{layout_of}
-use Rattle.table.specs.Layout.{Entry, base_of}
+use Rattle.table.specs.Layout.{base_of}
 use lib.ListN.{length}
-use native.Mathlib.Omega.{arith}
-use native.Mathlib.Nat.{sub-zero}
 use Prim.Native.Nat.{◌+◌, ◌-◌, ◌*◌, ◌≤◌}
-use mathlib.Core.List.{List}
-use mathlib.Core.Path.{◌≡◌, refl, sym, ap, ◌∙◌}
-use Rattle.table.proofs.Rules.{picks}
+use mathlib.Core.Path.{◌≡◌}
 use Rattle.rewriter_lists.proofs.lay_list.Given as goal
 
 abbrev pub invariant-loop-position : goal.invariant-loop-position

@@ -2,7 +2,6 @@ use Prim.Native.Nat.{◌+◌}
 use native.Mathlib.Omega.{arith}
 use Rattle.rewriter_sizes.proofs.PartLaws.{span-parts}
 use Rattle.rewriter_lists.proofs.ListLaws.{size-body, lists-laid}
-use borrow.Author.Rules.{rules}
 use Rattle.rewriter_lists.proofs.lay_lists.Goals as goal
 
 pub lay_list-ssns_next-requires : goal.lay_list-ssns_next-requires
@@ -12,7 +11,7 @@ lay_list-ssns_next-requires c =
     let ok = c.requires.accepted in
     let sp = span-parts t (λ i. omega (arith, c.type_inv.t i)) ok in
     let sb = size-body t (λ i. omega (arith, c.type_inv.t i)) ok a.next in
-    record { accepted = ok; kind_bound = (omega (arith, sp, c.requires.t_bound), omega (arith, sb, c.requires.t_bound)); }
+    record { accepted = ok; kind_bound = (omega (arith, sp, c.requires.t_bound), omega (arith, sb, c.requires.t_bound)) }
 
 pub lay_list-security_next-requires : goal.lay_list-security_next-requires
 lay_list-security_next-requires c =
@@ -23,7 +22,7 @@ lay_list-security_next-requires c =
     let sb = size-body t (λ i. omega (arith, c.type_inv.t i)) ok a.next in
     let w = c.list_span.ensures.0 in
     let p = c.lay_list-ssns_next in
-    record { accepted = ok; kind_bound = (omega (arith, sp, c.requires.t_bound, w, p.ensures.0), omega (arith, sb, c.requires.t_bound, p.ensures.0, p.auto.out)); }
+    record { accepted = ok; kind_bound = (omega (arith, sp, c.requires.t_bound, w, p.ensures.0), omega (arith, sb, c.requires.t_bound, p.ensures.0, p.auto.out)) }
 
 pub lay_list-discovery_next-requires : goal.lay_list-discovery_next-requires
 lay_list-discovery_next-requires c =
@@ -35,10 +34,13 @@ lay_list-discovery_next-requires c =
     let w = c.list_span.ensures.0 in
     let v = c.list_span-2.ensures.0 in
     let p = c.lay_list-ssns_next in
-    let q = c.lay_list-security_next in record { accepted = ok; kind_bound = (
+    let q = c.lay_list-security_next in record {
+      accepted = ok;
+      kind_bound = (
         omega (arith, sp, c.requires.t_bound, w, v, p.ensures.0, q.ensures.0),
         omega (arith, sb, c.requires.t_bound, p.ensures.0, p.auto.out, q.ensures.0, q.auto.out),
-      ); }
+      );
+    }
 
 pub lay_list-requires : goal.lay_list-requires
 lay_list-requires c =
@@ -52,7 +54,9 @@ lay_list-requires c =
     let x = c.list_span-3.ensures.0 in
     let p = c.lay_list-ssns_next in
     let q = c.lay_list-security_next in
-    let r = c.lay_list-discovery_next in record { accepted = ok; kind_bound = (
+    let r = c.lay_list-discovery_next in record {
+      accepted = ok;
+      kind_bound = (
         omega (arith, sp, c.requires.t_bound, w, v, x, p.ensures.0, q.ensures.0, r.ensures.0),
         omega (
           arith,
@@ -65,7 +69,8 @@ lay_list-requires c =
           r.ensures.0,
           r.auto.out,
         ),
-      ); }
+      );
+    }
 
 pub returns : goal.returns
 returns c =

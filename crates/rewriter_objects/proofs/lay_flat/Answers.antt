@@ -28,10 +28,13 @@ unfolding record_part
 lay_objects-requires c =
     let a = c.args in
     let b = c.base_size-size.ensures in
-    let z = sized-flat a.t.now c.requires.accepted.0 a.kind a.source c.requires.accepted.1 c.requires.accepted.2 in record { accepted = (c.requires.accepted.0, c.requires.accepted.1); kind_bound = (
+    let z = sized-flat a.t.now c.requires.accepted.0 a.kind a.source c.requires.accepted.1 c.requires.accepted.2 in record {
+      accepted = (c.requires.accepted.0, c.requires.accepted.1);
+      kind_bound = (
         omega (arith, b),
         omega (arith, b, z, c.requires.slot_bound, c.put_slot.auto.part, c.put_record.auto.out),
-      ); }
+      );
+    }
 
 pub returns : goal.returns
 unfolding record_part

@@ -1,6 +1,5 @@
-use mathlib.Core.Path.{refl, sym, ap, ap₂, ◌∙◌}
-use mathlib.Core.List.{List}
-use Prim.Native.Nat.{ℕ, ◌+◌}
+use mathlib.Core.Path.{refl, sym, ap, ◌∙◌}
+use Prim.Native.Nat.{◌+◌}
 use native.Mathlib.Nat.{add-zero}
 use native.Mathlib.Omega.{arith}
 use Rattle.table.specs.FixedLayouts.{layout_of, hfi, ssns, extended}
@@ -9,9 +8,8 @@ use Rattle.reads_seats.specs.declared.seats.Seat.{Seat}
 use Rattle.reads_seats.proofs.SeatLaws.{record-held}
 use Rattle.rewriter_sizes.specs.Parts.{record_part, record_bytes, spans_over}
 use Rattle.rewriter_sizes.proofs.PartLaws.{spans-held, held_none}
-use Rattle.rewriter_objects.specs.Laid.{laid, laid_over}
+use Rattle.rewriter_objects.specs.Laid.{laid}
 use Rattle.rewriter_objects.proofs.LaidLaws.{over_none, over-held}
-use borrow.Author.Rules.{rules}
 use Rattle.rewriter_objects.proofs.lay_held.Goals as goal
 
 pub heap_record-info-requires : goal.heap_record-info-requires

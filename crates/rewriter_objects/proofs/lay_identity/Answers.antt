@@ -9,7 +9,6 @@ use Rattle.rewriter_sizes.specs.Parts.{record_part, record_bytes}
 use Rattle.rewriter_sizes.proofs.PartLaws.{spans-held}
 use Rattle.rewriter_objects.specs.Laid.{laid}
 use Rattle.rewriter_objects.proofs.LaidLaws.{over-held}
-use borrow.Author.Rules.{rules}
 use Rattle.rewriter_objects.proofs.lay_identity.Goals as goal
 
 pub lay_flat_record-requires : goal.lay_flat_record-requires

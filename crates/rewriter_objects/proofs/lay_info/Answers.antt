@@ -9,7 +9,6 @@ use Rattle.rewriter_sizes.specs.Parts.{slots_in, held_of, record_part}
 use Rattle.rewriter_sizes.proofs.PartLaws.{sized-split}
 use Rattle.rewriter_objects.specs.Laid.{named, laid_over}
 use Rattle.rewriter_objects.proofs.LaidLaws.{named-join, held-laid}
-use borrow.Author.Rules.{rules}
 use Rattle.rewriter_objects.proofs.lay_info.Goals as goal
 
 pub put_record-requires : goal.put_record-requires
@@ -22,17 +21,20 @@ unfolding record_part layout_of info
 lay_objects-behind-requires c =
     let a = c.args in
     let z = sized-split a.t.now c.requires.accepted.0 7 a.source c.requires.accepted.1 in
-    record { accepted = c.requires.accepted; kind_bound = (omega arith, omega (arith, z, c.requires.slot_bound, c.put_slot.auto.part, c.put_record.auto.out)); }
+    record { accepted = c.requires.accepted; kind_bound = (omega arith, omega (arith, z, c.requires.slot_bound, c.put_slot.auto.part, c.put_record.auto.out)) }
 
 pub lay_identity-requires : goal.lay_identity-requires
 unfolding record_part layout_of info
 lay_identity-requires c =
     let a = c.args in
     let z = sized-split a.t.now c.requires.accepted.0 7 a.source c.requires.accepted.1 in
-    let o = c.lay_objects-behind in record { accepted = c.requires.accepted; layout_of_bound = (
+    let o = c.lay_objects-behind in record {
+      accepted = c.requires.accepted;
+      layout_of_bound = (
         omega (arith, o.ensures.0),
         omega (arith, o.ensures.0, o.auto.out, z, c.requires.slot_bound, c.put_slot.auto.part, c.put_record.auto.out),
-      ); }
+      );
+    }
 
 pub returns : goal.returns
 unfolding record_part layout_of info

@@ -4,13 +4,12 @@ use Rattle.table.specs.Bytes.{splice}
 use Rattle.bytes_writer.proofs.StoreLaws.{splice-none}
 use Rattle.bytes_writer.specs.Stores.{ref_num}
 use Rattle.rewriter_sizes.specs.Parts.{record_part, record_bytes}
-use borrow.Author.Rules.{rules}
 use Rattle.rewriter_objects.proofs.lay_info_record.Goals as goal
 
 pub lay_info-requires : goal.lay_info-requires
 unfolding record_part
 lay_info-requires c =
-    record { accepted = (c.requires.accepted.0, rw c.in-At.is at c.requires.accepted.1); slot_bound = rw c.in-At.is at c.requires.slot_bound; }
+    record { accepted = (c.requires.accepted.0, rw c.in-At.is at c.requires.accepted.1); slot_bound = rw c.in-At.is at c.requires.slot_bound }
 
 pub returns-in-Nowhere : goal.returns-in-Nowhere
 unfolding record_part record_bytes

@@ -10,7 +10,6 @@ use Rattle.rewriter_sizes.proofs.LengthLaws.{bytes-long}
 use Rattle.rewriter_sizes.specs.Parts.{part_at}
 use Rattle.rewriter_objects.specs.Laid.{laid}
 use Rattle.rewriter_objects.proofs.LaidLaws.{object-len, object-size, object-none, object-laid}
-use borrow.Author.Rules.{rules}
 use Rattle.rewriter_objects.proofs.lay_object.Goals as goal
 
 pub returns-then-len-eq0 : goal.returns-then-len-eq0
@@ -41,7 +40,7 @@ object_bytes-requires c =
     let d = c.requires.accepted.1 in
     let w = c.requires.accepted.2 in
     let o = c.object_len-len in
-    record { accepted = (ok, d, w); len_value = (o.ensures.0, omega (arith, c.if-len-eq0.false)); }
+    record { accepted = (ok, d, w); len_value = (o.ensures.0, omega (arith, c.if-len-eq0.false)) }
 
 pub copy_into-requires : goal.copy_into-requires
 copy_into-requires c =

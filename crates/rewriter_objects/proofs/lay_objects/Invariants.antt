@@ -1,11 +1,6 @@
-use mathlib.Core.Path.{refl}
-use Prim.Native.Nat.{◌-◌, ◌≤◌, ◌<◌}
-use lib.ListN.{length}
-use native.Mathlib.Omega.{arith}
-use Rattle.rewriter_objects.proofs.LaidLaws.{Walk, objects-within, walk-room, walk_turn, walk-done}
-use Rattle.reads_seats.proofs.ReferenceLaws.{offset-is, plain-each}
+use Prim.Native.Nat.{◌-◌, ◌≤◌}
+use Rattle.rewriter_objects.proofs.LaidLaws.{Walk}
 use Rattle.rewriter_sizes.specs.Parts.{objects_of}
-use Rattle.table.proofs.Rules.{picks}
 use Rattle.rewriter_objects.proofs.lay_objects.Given as goal
 
 abbrev pub invariant-loop-i : goal.invariant-loop-i

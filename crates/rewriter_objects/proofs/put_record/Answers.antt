@@ -8,11 +8,10 @@ use Rattle.table.specs.FixedLayouts.{layout_of}
 use Rattle.laws.specs.Fields.{image_in}
 use Rattle.reads_seats.proofs.MeaningLaws.{image-front}
 use Rattle.bytes_writer.proofs.StoreLaws.{lent}
-use borrow.Author.Rules.{rules}
 use Rattle.rewriter_objects.proofs.put_record.Goals as goal
 
 pub image_into-requires : goal.image_into-requires
-image_into-requires c =  let a = c.args in let b = c.base_size in let x = a.out.now in let k : ℕ = a.place + b.result - a.place in
+image_into-requires c = let a = c.args in let b = c.base_size in let x = a.out.now in let k : ℕ = a.place + b.result - a.place in
     let l : length (take k (drop a.place x)) ≡ k = length-take-le k (drop a.place x) (rw length-drop (omega (arith, b.ensures, c.requires.2))) in
     (c.requires.0, c.requires.1, omega (arith, l, b.ensures))
 

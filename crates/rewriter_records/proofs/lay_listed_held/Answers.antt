@@ -4,7 +4,6 @@ use lib.ListN.{length, length-append}
 use Rattle.rewriter_sizes.specs.Parts.{objects_of, held_of}
 use Rattle.reads_seats.proofs.ReferenceLaws.{refs-split}
 use Rattle.rewriter_objects.proofs.LaidLaws.{over-empty}
-use borrow.Author.Rules.{rules}
 use Rattle.rewriter_records.proofs.lay_listed_held.Goals as goal
 
 -- all references are to objects: that to a heap record is none

@@ -1,7 +1,6 @@
 use mathlib.Core.Path.{sym, ◌∙◌}
 use Rattle.rewriter_sizes.specs.Parts.{objects_of}
 use Rattle.rewriter_objects.proofs.LaidLaws.{over-empty}
-use borrow.Author.Rules.{rules}
 use Rattle.rewriter_records.proofs.lay_listed_objects.Goals as goal
 
 pub returns-then-object_count-eq0 : goal.returns-then-object_count-eq0

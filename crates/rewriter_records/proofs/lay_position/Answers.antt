@@ -12,7 +12,6 @@ use Rattle.bytes_writer.proofs.StoreLaws.{splice-none}
 use Rattle.rewriter_sizes.specs.Parts.{slots_in}
 use Rattle.reads_seats.specs.Seats.{as_seat}
 use Rattle.reads_seats.proofs.EntryLaws.{seated-at, entry-nowhere, entry-off, entry-on}
-use borrow.Author.Rules.{rules}
 use Rattle.rewriter_records.proofs.lay_position.Goals as goal
 
 pub lay_listed-requires : goal.lay_listed-requires
@@ -24,7 +23,7 @@ lay_listed-requires c =
     let e = (sym c.seat_of-seat.ensures
     ∙ ap (as_seat (layout_of k)) c.in-At.is
     ∙ ap (seat (layout_of k) c.in-At.at) c.if-used.true) in
-    let z = ap size_entry (entry-on t k a.position c.in-At.at e) in record { accepted = (c.requires.accepted, seated-at t c.requires.accepted k a.position c.in-At.at true e); kind_bound = (c.requires.kind_bound.0, omega (arith, z, c.requires.kind_bound)); }
+    let z = ap size_entry (entry-on t k a.position c.in-At.at e) in record { accepted = (c.requires.accepted, seated-at t c.requires.accepted k a.position c.in-At.at true e); kind_bound = (c.requires.kind_bound.0, omega (arith, z, c.requires.kind_bound)) }
 
 pub returns-in-Nowhere : goal.returns-in-Nowhere
 unfolding size_entry rec_entry heap_entry

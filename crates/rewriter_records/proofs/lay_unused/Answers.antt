@@ -2,7 +2,6 @@ use Rattle.table.specs.Bytes.{splice}
 use lib.ListN.{replicate}
 use Prim.Native.Nat.{ℕ}
 use mathlib.Core.Path.{refl, ap, ◌∙◌}
-use borrow.Author.Rules.{rules}
 use Rattle.rewriter_records.proofs.lay_unused.Goals as goal
 
 pub returns : goal.returns

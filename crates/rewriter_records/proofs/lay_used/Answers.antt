@@ -1,21 +1,20 @@
 use native.Mathlib.Omega.{arith}
 use Rattle.rewriter_sizes.proofs.PartLaws.{sized-split}
 use Rattle.rewriter_objects.proofs.LaidLaws.{used-laid}
-use borrow.Author.Rules.{rules}
 use Rattle.rewriter_records.proofs.lay_used.Goals as goal
 
 pub lay_objects-behind-requires : goal.lay_objects-behind-requires
 lay_objects-behind-requires c =
     let a = c.args in
     let z = sized-split a.t.now c.requires.accepted.0 a.kind a.source c.requires.accepted.1 in
-    record { accepted = c.requires.accepted; kind_bound = (c.requires.kind_bound.0, omega (arith, c.requires.kind_bound, z, c.put_record.auto.out)); }
+    record { accepted = c.requires.accepted; kind_bound = (c.requires.kind_bound.0, omega (arith, c.requires.kind_bound, z, c.put_record.auto.out)) }
 
 pub lay_held-requires : goal.lay_held-requires
 lay_held-requires c =
     let o = c.lay_objects-behind in
     let a = c.args in
     let z = sized-split a.t.now c.requires.accepted.0 a.kind a.source c.requires.accepted.1 in
-    record { accepted = c.requires.accepted; kind_bound = (omega (arith, c.requires.kind_bound, o.ensures.0), omega (arith, c.requires.kind_bound, z, o.ensures.0, o.auto.out, c.put_record.auto.out)); }
+    record { accepted = c.requires.accepted; kind_bound = (omega (arith, c.requires.kind_bound, o.ensures.0), omega (arith, c.requires.kind_bound, z, o.ensures.0, o.auto.out, c.put_record.auto.out)) }
 
 pub returns : goal.returns
 returns c =

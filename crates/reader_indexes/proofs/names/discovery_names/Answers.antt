@@ -9,7 +9,6 @@ use Rattle.table.specs.Layout.{index, unless}
 use Rattle.laws.specs.IndexLaws.{after, found-more, found-stop, found_by}
 use Rattle.laws.specs.ListWalk.{valid_in}
 use Rattle.reader_indexes.proofs.Laws.{discovery-names}
-use borrow.Author.Rules.{rules}
 use Rattle.reader_indexes.proofs.names.discovery_names.Goals.{After-index_fault-interface}
 use Rattle.reader_indexes.proofs.names.discovery_names.Goals as goal
 

@@ -8,12 +8,11 @@ use Rattle.table.specs.Layout.{index, unless}
 use Rattle.laws.specs.IndexLaws.{after, first_found, found-more, found-stop, found_by}
 use Rattle.laws.specs.ListWalk.{valid_in}
 use Rattle.reader_indexes.proofs.Laws.{discovery_found, security_found, primary_found, ssns-names}
-use borrow.Author.Rules.{rules}
 use Rattle.reader_indexes.proofs.names.ssns_names.Goals.{After-behind-primary, After-behind-security, After-optional_index-discovery}
 use Rattle.reader_indexes.proofs.names.ssns_names.Goals as goal
 
 -- what was found of the discovery index
-discovery : (c : After-optional_index-discovery) →  c.optional_index-discovery.result ≡ discovery_found c.args.t.now c.args.a
+discovery : (c : After-optional_index-discovery) → c.optional_index-discovery.result ≡ discovery_found c.args.t.now c.args.a
 discovery c =
     let t = c.args.t.now in
     c.optional_index-discovery.ensures.0 ∙ ap (λ (n : ℕ). found_by (valid_in t) (unless (eqb n 0) (index 6 n) [])) c.wide.ensures.0
@@ -38,8 +37,7 @@ primary : (c : After-behind-primary) →
     × (c.behind-primary.result.looks ≤ 3)
 primary c s =
     let t = c.args.t.now in
-    let own = c.index_fault-own.ensures.0 ∙ ap (λ (n : ℕ). found_by (valid_in t) (index 3 n ∷ [])) c.wide-2.ensures.0 in
-    (
+    let own = c.index_fault-own.ensures.0 ∙ ap (λ (n : ℕ). found_by (valid_in t) (index 3 n ∷ [])) c.wide-2.ensures.0 in (
       found-more s.0 _ c.if-security-ne0.false (c.behind-primary.ensures ∙ ap (after c.behind-security.result.looks) own),
       omega (arith, ap (λ (f : Found). f.looks) c.behind-primary.ensures, s.1, c.index_fault-own.ensures.1),
     )
@@ -77,7 +75,7 @@ returns-then-primary-ne0 c =
 pub behind-requires : goal.behind-requires
 behind-requires c =
     let at = goal.at.behind-requires c in
- omega (arith, (primary at.After-behind-primary (secured at.After-behind-security (discovery at.After-optional_index-discovery))).1, c.secondary_names.ensures.1)
+    omega (arith, (primary at.After-behind-primary (secured at.After-behind-security (discovery at.After-optional_index-discovery))).1, c.secondary_names.ensures.1)
 
 pub returns : goal.returns
 returns c =

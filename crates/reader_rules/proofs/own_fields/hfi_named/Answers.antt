@@ -1,6 +1,5 @@
 use native.Mathlib.Omega.{arith}
 use Rattle.reader_rules.proofs.OwnFieldLaws.{hfi-named}
-use borrow.Author.Rules.{rules}
 use Rattle.reader_rules.proofs.own_fields.hfi_named.Goals as goal
 
 pub returns : goal.returns

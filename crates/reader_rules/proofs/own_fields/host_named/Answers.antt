@@ -1,6 +1,5 @@
 use native.Mathlib.Omega.{arith}
 use Rattle.reader_rules.proofs.OwnFieldLaws.{host-named}
-use borrow.Author.Rules.{rules}
 use Rattle.reader_rules.proofs.own_fields.host_named.Goals as goal
 
 pub returns : goal.returns

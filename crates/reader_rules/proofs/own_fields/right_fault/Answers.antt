@@ -1,6 +1,5 @@
 use Rattle.reader_rules.proofs.OwnFieldLaws.{right_is}
 use Rattle.table.proofs.Rules.{picks}
-use borrow.Author.Rules.{rules}
 use Rattle.reader_rules.proofs.own_fields.right_fault.Goals as goal
 
 pub returns-then-fault-ne0 : goal.returns-then-fault-ne0

@@ -4,7 +4,6 @@ use Rattle.table.specs.FixedLayouts.{layout_of}
 use Rattle.table.specs.Layout.{base_of}
 use Rattle.table.specs.Bytes.{padded}
 use mathlib.Core.Path.{sym, ap, ◌∙◌}
-use borrow.Author.Rules.{rules}
 use Rattle.reads.proofs.fields.field_bytes.Goals as goal
 
 pub returns-then-used : goal.returns-then-used

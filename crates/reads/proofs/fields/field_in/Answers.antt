@@ -9,7 +9,6 @@ use native.Mathlib.Omega.{arith}
 use Prim.Native.Nat.{ℕ}
 use mathlib.Core.List.{List}
 use mathlib.Core.Path.{sym, ap, ◌∙◌}
-use borrow.Author.Rules.{rules}
 use Rattle.reads.proofs.fields.field_in.Goals.{In-At}
 use Rattle.reads.proofs.fields.field_in.Goals as goal
 
@@ -24,12 +23,11 @@ seated c =
     (sym c.seat_of-s.ensures ∙ ap (as_seat (layout_of a.kind)) c.in-At.is)
 
 pub record_at-requires : goal.record_at-requires
-record_at-requires c =
-     (
-      c.requires,
-      standing c.args.t.now (layout_of c.args.kind) c.in-At.at
-          c.in-At.used (seated (goal.at.record_at-requires c).In-At),
-    )
+record_at-requires c = (
+  c.requires,
+  standing c.args.t.now (layout_of c.args.kind) c.in-At.at
+      c.in-At.used (seated (goal.at.record_at-requires c).In-At),
+)
 
 pub field_of-requires : goal.field_of-requires
 field_of-requires c = let a = c.args in

@@ -3,7 +3,6 @@ use Rattle.table.specs.Reads.{refused_field}
 use borrow.Author.Tests.{eq-eqb, ne_eqb}
 use native.Mathlib.Omega.{arith}
 use mathlib.Core.Path.{refl, ap, ◌∙◌}
-use borrow.Author.Rules.{rules}
 use Rattle.reads.proofs.fields.field_of.Goals as goal
 
 pub returns-then-len-eq0 : goal.returns-then-len-eq0

@@ -1,6 +1,5 @@
 use mathlib.Core.Path.{refl}
 use Rattle.reads_seats.specs.Objects.{handed_place}
-use borrow.Author.Rules.{rules}
 use Rattle.reads.proofs.objects.handed.Goals as goal
 
 pub returns : goal.returns

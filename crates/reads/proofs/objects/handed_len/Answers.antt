@@ -1,8 +1,6 @@
 use mathlib.Core.Path.{refl}
 use native.Mathlib.Omega.{arith}
-use borrow.Author.Tests.{not-true, not-false}
 use Rattle.reads_seats.specs.Objects.{handed_len}
-use borrow.Author.Rules.{rules}
 use Rattle.reads.proofs.objects.handed_len.Goals as goal
 
 pub returns-then-not-holds_text : goal.returns-then-not-holds_text

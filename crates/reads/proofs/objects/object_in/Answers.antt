@@ -1,7 +1,6 @@
 use mathlib.Core.Path.{◌∙◌}
 use native.Mathlib.Omega.{arith}
 use Rattle.reads.proofs.HandedLaws.{handed-at, handed-bytes}
-use borrow.Author.Rules.{rules}
 use Rattle.reads.proofs.objects.object_in.Goals as goal
 
 pub returns : goal.returns

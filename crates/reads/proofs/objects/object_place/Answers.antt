@@ -4,7 +4,6 @@ use Rattle.table.specs.Numbers.{check}
 use Rattle.table.specs.declared.Answer.{Answer}
 use borrow.Author.Tests.{eq-eqb, ne_eqb}
 use mathlib.Core.Path.{sym, ap, ◌∙◌}
-use borrow.Author.Rules.{rules}
 use Rattle.reads.proofs.objects.object_place.Goals as goal
 
 pub returns-then-a-ne0 : goal.returns-then-a-ne0

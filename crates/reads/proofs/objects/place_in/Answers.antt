@@ -1,7 +1,6 @@
 use mathlib.Core.Path.{sym, ap, ◌∙◌}
 use Rattle.reads_seats.specs.Objects.{handed_place}
 use Rattle.reads.proofs.HandedLaws.{handed-place}
-use borrow.Author.Rules.{rules}
 use Rattle.reads.proofs.objects.place_in.Goals as goal
 
 pub returns : goal.returns

@@ -1,6 +1,5 @@
 use Rattle.table.specs.Reads.{no_place}
 use mathlib.Core.Path.{sym, ap, ◌∙◌}
-use borrow.Author.Rules.{rules}
 use Rattle.reads.proofs.objects.whole_of.Goals as goal
 
 pub object_of-requires : goal.object_of-requires

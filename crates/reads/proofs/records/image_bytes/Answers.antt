@@ -3,7 +3,6 @@ use Rattle.laws.specs.ListWalk.{base-small}
 use Rattle.laws.specs.Fields.{image_in}
 use Rattle.table.specs.FixedLayouts.{layout_of}
 use Rattle.table.specs.Layout.{base_of}
-use borrow.Author.Rules.{rules}
 use Rattle.reads.proofs.records.image_bytes.Goals as goal
 
 pub returns-then-used : goal.returns-then-used

@@ -1,5 +1,4 @@
 use mathlib.Core.Path.{refl}
-use borrow.Author.Rules.{rules}
 use Rattle.reads.proofs.records.image_of.Goals as goal
 
 pub returns : goal.returns

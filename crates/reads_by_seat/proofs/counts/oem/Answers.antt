@@ -10,11 +10,10 @@ part_of-requires c = omega (arith, (laid c.args.t.now c.requires).lent)
 
 pub returns : goal.returns
 unfolding oem_of
-returns c =
-     (
-      c.part_of.ensures.0
-          ∙ sym
-          (oem-told c.args.t.now (λ i. omega (arith, c.type_inv.t i)) c.requires),
-      ap length c.part_of.ensures.0
-          ∙ part-long c.args.t.now 10 26 (omega (arith, (laid c.args.t.now c.requires).lent)),
-    )
+returns c = (
+  c.part_of.ensures.0
+      ∙ sym
+      (oem-told c.args.t.now (λ i. omega (arith, c.type_inv.t i)) c.requires),
+  ap length c.part_of.ensures.0
+      ∙ part-long c.args.t.now 10 26 (omega (arith, (laid c.args.t.now c.requires).lent)),
+)

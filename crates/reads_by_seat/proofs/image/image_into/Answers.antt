@@ -5,14 +5,14 @@ use Rattle.reads_seats.proofs.OwnLaws.{own-long}
 use Rattle.layout_images.proofs.Laws.{image-own}
 use Rattle.laws.specs.Fields.{image_in, length-image_in}
 use Rattle.table.specs.FixedLayouts.{layout_of}
-use Rattle.std.proofs.Common.{ℕ, true, List, length, sym, ap, ◌∙◌, arith, rules}
+use Rattle.std.proofs.Common.{ℕ, true, List, length, sym, ap, ◌∙◌, arith}
 use Rattle.reads_by_seat.proofs.image.image_into.Goals as goal
 
 pub record_at-requires : goal.record_at-requires
-record_at-requires c =  (c.requires.0, standing c.args.t.now (layout_of c.args.kind) c.args.at true c.requires.1)
+record_at-requires c = (c.requires.0, standing c.args.t.now (layout_of c.args.kind) c.args.at true c.requires.1)
 
 pub put_image-requires : goal.put_image-requires
-put_image-requires c =  let a = c.args in
+put_image-requires c = let a = c.args in
     (omega (arith, ap length c.record_at.ensures, own-long a.kind a.t.now a.at c.requires.1.within), omega (arith, c.requires.2))
 
 pub returns : goal.returns

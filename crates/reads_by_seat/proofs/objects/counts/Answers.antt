@@ -1,4 +1,4 @@
-use Rattle.std.proofs.Common.{Bool, true, false, ap, ◌∙◌, arith, rules}
+use Rattle.std.proofs.Common.{Bool, true, false, ap, ◌∙◌, arith}
 use Rattle.table.specs.declared.Need.{Need}
 use Rattle.table.specs.FixedLayouts.{layout_of, security, hfi_extended}
 use Rattle.table.specs.Objects.{under}

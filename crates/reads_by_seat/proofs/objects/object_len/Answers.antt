@@ -3,11 +3,11 @@ use Rattle.table.specs.Reads.{seat, whole_at}
 use Rattle.table.specs.FixedLayouts.{layout_of}
 use Rattle.table.specs.Bytes.{part}
 use Rattle.table.specs.declared.Place.{Place}
-use Rattle.std.proofs.Common.{ℕ, true, List, length, ap, ◌∙◌, arith, rules}
+use Rattle.std.proofs.Common.{ℕ, true, List, length, ap, ◌∙◌, arith}
 use Rattle.reads_by_seat.proofs.objects.object_len.Goals as goal
 
 pub named_len-requires : goal.named_len-requires
-named_len-requires c =  let a = c.args in let t = a.t.now in
+named_len-requires c = let a = c.args in let t = a.t.now in
     (omega (arith, ap length (c.part_of.ensures.0 ∙ ap (part t a.at) c.base_size.ensures), own-long a.kind t a.at c.requires.0), c.requires.1)
 
 pub returns : goal.returns

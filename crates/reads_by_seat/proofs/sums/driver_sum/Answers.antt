@@ -1,5 +1,5 @@
 use Rattle.table.specs.declared.Region.{Region}
-use Rattle.std.proofs.Common.{◌≡◌, ℕ, ◌-◌, ◌%◌, true, List, length, take, sym, refl, ap, ◌∙◌, ap₂, arith, rules}
+use Rattle.std.proofs.Common.{◌≡◌, ℕ, ◌-◌, ◌%◌, true, List, length, take, sym, refl, ap, ◌∙◌, ap₂, arith}
 use native.Mathlib.Nat.{sub-zero}
 use Rattle.table.specs.Bytes.{part, total}
 use Rattle.table.specs.FixedLayouts.{layout_of, header}
@@ -32,7 +32,7 @@ pub returns-then-len-size : goal.returns-then-len-size
 returns-then-len-size c = c.sum8-then-len-size.ensures ∙ ap (λ (x : List ℕ). total x % 256) c.object_part-driver.ensures
 
 pub slice_bounds-sum_but-end : goal.slice_bounds-sum_but-end
-slice_bounds-sum_but-end c =  omega (arith, (laid c.args.t.now c.requires).sized, c.u32_at-size.ensures.0)
+slice_bounds-sum_but-end c = omega (arith, (laid c.args.t.now c.requires).sized, c.u32_at-size.ensures.0)
 
 pub returns : goal.returns
 returns c =

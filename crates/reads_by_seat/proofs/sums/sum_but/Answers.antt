@@ -1,4 +1,4 @@
-use Rattle.std.proofs.Common.{◌≡◌, ℕ, ◌+◌, ◌-◌, ◌%◌, List, length, take, drop, ap, ◌∙◌, arith, length-drop, take_all, rules}
+use Rattle.std.proofs.Common.{◌≡◌, ℕ, ◌+◌, ◌-◌, ◌%◌, List, length, take, drop, ap, ◌∙◌, arith, length-drop, take_all}
 use native.Mathlib.Nat.{sub-zero}
 use Rattle.table.specs.Bytes.{total}
 use Rattle.reads_by_seat.proofs.SumLaws.{total-parts}

@@ -1,4 +1,4 @@
-use Rattle.std.proofs.Common.{◌≡◌, ℕ, ◌+◌, List, length, get_or, drop, sym, refl, ap, ◌∙◌, arith, lit<, get_or-drop, get_or-take, rules}
+use Rattle.std.proofs.Common.{◌≡◌, ℕ, ◌+◌, List, length, get_or, drop, sym, refl, ap, ◌∙◌, arith, lit<, get_or-drop, get_or-take}
 use Rattle.table.specs.Bytes.{part}
 use Rattle.table.specs.Layout.{base_of}
 use Rattle.table.specs.FixedLayouts.{layout_of, info}

@@ -24,15 +24,15 @@ region_at-region-requires c =
 
 pub heap_of-heap-requires : goal.heap_of-heap-requires
 unfolding heap_in
-heap_of-heap-requires c =  let h = c.requires.1 (omega (arith, c.if-len-eq0.false)) in
+heap_of-heap-requires c = let h = c.requires.1 (omega (arith, c.if-len-eq0.false)) in
     (c.requires.0, c.region_at-region.ensures.0, omega (arith, h, c.if-len-eq0.false, ap (λ (r : Region). r.len) c.region_at-region.ensures.0))
 
 pub overflow_sub-at : goal.overflow_sub-at
-overflow_sub-at c =  let i = c.requires.1 (omega (arith, c.if-len-eq0.false)) in
+overflow_sub-at c = let i = c.requires.1 (omega (arith, c.if-len-eq0.false)) in
     omega (arith, i, ap (λ (r : Region). r.at) c.region_at-region.ensures.0)
 
 pub part_of-requires-2 : goal.part_of-requires-2
-part_of-requires-2 c =  let a = c.args in let h : 0 < a.len = omega (arith, c.if-len-eq0.false) in
+part_of-requires-2 c = let a = c.args in let h : 0 < a.len = omega (arith, c.if-len-eq0.false) in
     rw (c.heap_of-heap.ensures.0, c.region_at-region.ensures.0) (inside-heap a.t.now c.requires.0 a.at a.len h (c.requires.1 h))
 
 pub returns : goal.returns

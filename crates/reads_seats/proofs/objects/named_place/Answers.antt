@@ -1,6 +1,5 @@
 use Rattle.table.specs.Reads.{no_place}
 use mathlib.Core.Path.{ap, ◌∙◌}
-use borrow.Author.Rules.{rules}
 use Rattle.reads_seats.proofs.objects.named_place.Goals as goal
 
 pub returns-in-Ignored : goal.returns-in-Ignored

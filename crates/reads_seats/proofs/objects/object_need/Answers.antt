@@ -6,7 +6,6 @@ use Rattle.table.specs.FixedLayouts.{layout_of, ssns, security, hfi_extended}
 use native.Mathlib.Omega.{arith}
 use Prim.Native.Nat.{ℕ}
 use mathlib.Core.Path.{ap, ◌∙◌}
-use borrow.Author.Rules.{rules}
 use Rattle.reads_seats.proofs.objects.object_need.Goals as goal
 
 pub ssns_flags-requires : goal.ssns_flags-requires

@@ -8,7 +8,6 @@ use Rattle.reads_seats.proofs.ObjectLaws.{plain_fits}
 use Rattle.laws.specs.Fields.{image_in}
 use Rattle.table.specs.Reads.{no_place, ref_place}
 use native.Mathlib.Omega.{arith}
-use borrow.Author.Rules.{rules}
 use Rattle.reads_seats.proofs.objects.object_of.Goals as goal
 
 pub named_place-requires : goal.named_place-requires
@@ -18,7 +17,7 @@ named_place-requires c =
 
 pub returns-then-used : goal.returns-then-used
 unfolding image_in
-returns-then-used c =  let x = c.args.bytes.now in let off = c.args.offset in
+returns-then-used c = let x = c.args.bytes.now in let off = c.args.offset in
     rw (c.requires.1, c.if-used.true)
     (c.named_place.ensures
     ∙ ap₂ (λ (n : Need) (i : ℕ). under n (no_place done) (ref_place x i)) c.object_need.ensures (sym (zero-add off)))

@@ -2,7 +2,6 @@ use Rattle.table.specs.Reads.{no_place}
 use Rattle.table.specs.declared.Region.{Region}
 use borrow.Author.Tests.{eq-eqb, ne_eqb}
 use mathlib.Core.Path.{refl, ap, ◌∙◌}
-use borrow.Author.Rules.{rules}
 use Rattle.reads_seats.proofs.objects.ref_place.Goals as goal
 
 pub returns-then-len-eq0 : goal.returns-then-len-eq0

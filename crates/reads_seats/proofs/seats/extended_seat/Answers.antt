@@ -1,6 +1,5 @@
 use Rattle.reads_seats.specs.Seats.{extended_at}
 use Rattle.table.proofs.Rules.{picks}
-use borrow.Author.Rules.{rules}
 use Rattle.reads_seats.proofs.seats.extended_seat.Goals as goal
 
 pub returns-then-ssns_flags-eq0 : goal.returns-then-ssns_flags-eq0

@@ -7,11 +7,10 @@ use lib.ListN.{length}
 use mathlib.Core.List.{List}
 use mathlib.Core.Path.{ap, ◌∙◌}
 use native.Mathlib.Omega.{arith}
-use borrow.Author.Rules.{rules}
 use Rattle.reads_seats.proofs.seats.heap_record.Goals as goal
 
 pub inner_seat-requires : goal.inner_seat-requires
-inner_seat-requires c =  let n = c.base_size in let l = part-long c.args.t.now c.args.at n.result (omega (arith, n.ensures, c.requires)) in
+inner_seat-requires c = let n = c.base_size in let l = part-long c.args.t.now c.args.at n.result (omega (arith, n.ensures, c.requires)) in
     omega (arith, ap length c.part_of.ensures.0, l, n.ensures)
 
 pub returns : goal.returns

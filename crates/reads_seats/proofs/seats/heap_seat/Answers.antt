@@ -2,7 +2,6 @@ use Rattle.reads_seats.specs.Seats.{heap_at}
 use Rattle.table.specs.declared.Region.{Region}
 use mathlib.Core.Path.{ap}
 use Rattle.table.proofs.Rules.{picks}
-use borrow.Author.Rules.{rules}
 use Rattle.reads_seats.proofs.seats.heap_seat.Goals as goal
 
 pub returns-then-len-eq0 : goal.returns-then-len-eq0

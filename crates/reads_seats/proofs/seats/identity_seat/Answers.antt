@@ -3,7 +3,6 @@ use native.Mathlib.Omega.{arith}
 use borrow.Author.Tests.{eq-eqb, ne_eqb}
 use Rattle.reads_seats.specs.Seats.{identity_at}
 use Rattle.reads_seats.proofs.Laws.{version-is}
-use borrow.Author.Rules.{rules}
 use Rattle.reads_seats.proofs.seats.identity_seat.Goals as goal
 
 pub returns-then-bytes-ne2 : goal.returns-then-bytes-ne2

@@ -18,7 +18,7 @@ use Rattle.reads_seats.proofs.seats.list_seat.Goals as goal
 -- the record lies in the table
 inside : (c : After-u16_at-step) → let a = c.args in num a.t.now a.list 4 + (a.position - 1) * c.u16_at-step.result + base_of (layout_of
     a.kind) ≤ length a.t.now
-inside c =  let a = c.args in
+inside c = let a = c.args in
     rw (← c.u16_at-step.ensures.0) at (record-in a.t.now a.list (base_of (layout_of a.kind)) (a.position - 1) c.requires.3 (omega
     (arith, c.wide.ensures.0, c.if-wide-position.false)))
 

@@ -1,6 +1,5 @@
 use Rattle.reads_seats.specs.Seats.{owned_of}
 use mathlib.Core.Path.{refl}
-use borrow.Author.Rules.{rules}
 use Rattle.reads_seats.proofs.seats.owned_seat.Goals as goal
 
 pub heap_record-requires : goal.heap_record-requires

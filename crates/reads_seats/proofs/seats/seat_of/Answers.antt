@@ -7,7 +7,6 @@ use lib.Dec.{lit≤}
 use native.Mathlib.Omega.{arith}
 use mathlib.Core.Path.{ap, ◌∙◌}
 use Rattle.table.proofs.Rules.{picks}
-use borrow.Author.Rules.{rules}
 use Rattle.reads_seats.proofs.seats.seat_of.Goals as goal
 
 pub reference_at-requires : goal.reference_at-requires

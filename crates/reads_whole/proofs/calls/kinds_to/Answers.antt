@@ -1,7 +1,5 @@
 use Rattle.reads_whole.specs.Whole.{kinds_to}
 use native.Mathlib.Omega.{arith}
-use Rattle.table.proofs.Rules.{picks}
-use borrow.Author.Rules.{rules}
 use Rattle.reads_whole.proofs.calls.kinds_to.Goals as goal
 
 pub returns-then-end-from : goal.returns-then-end-from

@@ -6,7 +6,6 @@ use Rattle.table.specs.declared.Answer.{Answer}
 use borrow.Author.Tests.{eq-eqb, ne_eqb}
 use mathlib.Core.Path.{sym, ap, ◌∙◌}
 use Rattle.table.proofs.Rules.{picks}
-use borrow.Author.Rules.{rules}
 use Rattle.reads_whole.proofs.calls.record.Goals as goal
 
 pub returns-then-answer-ne0 : goal.returns-then-answer-ne0
@@ -19,12 +18,11 @@ returns-then-answer-ne0 c =
     )
 
 pub record_in-requires : goal.record_in-requires
-record_in-requires c =
-     (
-      accepted c.args.t.now
-          (sym (ap (λ (x : Answer). x.number) c.check-answer.ensures) ∙ c.if-answer-ne0.false),
-      c.requires,
-    )
+record_in-requires c = (
+  accepted c.args.t.now
+      (sym (ap (λ (x : Answer). x.number) c.check-answer.ensures) ∙ c.if-answer-ne0.false),
+  c.requires,
+)
 
 pub returns : goal.returns
 unfolding read_record

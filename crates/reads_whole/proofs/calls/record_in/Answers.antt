@@ -1,7 +1,5 @@
 use Rattle.reads_whole.specs.Whole.{entry_after}
 use mathlib.Core.Path.{refl}
-use Rattle.table.proofs.Rules.{picks}
-use borrow.Author.Rules.{rules}
 use Rattle.reads_whole.proofs.calls.record_in.Goals as goal
 
 pub returns-in-Nowhere : goal.returns-in-Nowhere
@@ -10,8 +8,7 @@ returns-in-Nowhere c = (rw (← c.seat_of-s.ensures, c.in-Nowhere.is) c.refuse.e
 
 pub returns-in-At : goal.returns-in-At
 unfolding entry_after
-returns-in-At c =
-     (
-      rw (← c.seat_of-s.ensures, c.in-At.is) c.done.ensures,
-      rw c.done.ensures c.put_entry.ensures,
-    )
+returns-in-At c = (
+  rw (← c.seat_of-s.ensures, c.in-At.is) c.done.ensures,
+  rw c.done.ensures c.put_entry.ensures,
+)

@@ -11,8 +11,6 @@ use native.Mathlib.Omega.{arith}
 use Prim.Native.Nat.{ℕ}
 use mathlib.Core.List.{List}
 use mathlib.Core.Path.{sym, ap, ◌∙◌}
-use Rattle.table.proofs.Rules.{picks}
-use borrow.Author.Rules.{rules}
 use Rattle.reads_whole.proofs.entries.put_entry.Goals.{In-At}
 use Rattle.reads_whole.proofs.entries.put_entry.Goals as goal
 
@@ -27,15 +25,14 @@ seated c =
     (sym c.seat_of-s.ensures ∙ ap (as_seat (layout_of a.kind)) c.in-At.is)
 
 pub record_at-requires : goal.record_at-requires
-record_at-requires c =
-     (
-      c.requires.0,
-      standing c.args.t.now (layout_of c.args.kind) c.in-At.at c.in-At.used
-          (seated (goal.at.record_at-requires c).In-At),
-    )
+record_at-requires c = (
+  c.requires.0,
+  standing c.args.t.now (layout_of c.args.kind) c.in-At.at c.in-At.used
+      (seated (goal.at.record_at-requires c).In-At),
+)
 
 pub put_found-requires : goal.put_found-requires
-put_found-requires c = 
+put_found-requires c =
     let a = c.args in (
       c.requires.1,
       omega (arith, ap length c.record_at.ensures, own-long a.kind a.t.now c.in-At.at (seated (goal.at.put_found-requires c).In-At).within),

@@ -6,9 +6,7 @@ use Rattle.table.specs.Bytes.{pick}
 use lib.ListN.{length}
 use Prim.Native.Nat.{ℕ, ◌%◌}
 use mathlib.Core.List.{List, [], ◌∷◌, ◌++◌}
-use mathlib.Core.Path.{◌≡◌, ap, ap₂, ◌∙◌}
-use Rattle.table.proofs.Rules.{picks}
-use borrow.Author.Rules.{rules}
+use mathlib.Core.Path.{ap, ap₂, ◌∙◌}
 use Rattle.reads_whole.proofs.entries.put_found.Goals as goal
 
 pub returns : goal.returns

@@ -1,7 +1,5 @@
 use Rattle.bytes_writer.proofs.RecordLaws.{splice_all}
 use mathlib.Core.Path.{sym, ◌∙◌}
-use Rattle.table.proofs.Rules.{picks}
-use borrow.Author.Rules.{rules}
 use Rattle.reads_whole.proofs.entries.put_head.Goals as goal
 
 pub returns : goal.returns

@@ -4,10 +4,8 @@ use Rattle.table.specs.Objects.{ref6}
 use Rattle.table.specs.Bytes.{splice}
 use native.Mathlib.Omega.{arith}
 use Prim.Native.Nat.{ℕ, ◌+◌}
-use mathlib.Core.List.{List, [], ◌∷◌, ◌++◌}
+use mathlib.Core.List.{[], ◌∷◌, ◌++◌}
 use mathlib.Core.Path.{refl, ap, ◌∙◌}
-use Rattle.table.proofs.Rules.{picks}
-use borrow.Author.Rules.{rules}
 use Rattle.reads_whole.proofs.entries.put_place.Goals as goal
 
 pub returns : goal.returns

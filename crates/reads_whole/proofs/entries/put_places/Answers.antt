@@ -8,11 +8,10 @@ use Rattle.layout_images.proofs.Laws.{splice-padded}
 use Rattle.layout_kinds.specs.References.{object_refs}
 use Rattle.table.specs.Reads.{seat, place_at}
 use Rattle.table.specs.FixedLayouts.{layout_of}
-use Rattle.table.specs.Bytes.{splice, padded}
+use Rattle.table.specs.Bytes.{splice}
 use lib.ListN.{length, get_or, replicate, length-replicate}
 use native.Mathlib.Omega.{arith}
-use Prim.Native.Nat.{ℕ, ◌+◌, ◌-◌, ◌*◌, ◌≤◌, ◌<◌}
-use mathlib.Core.List.{List}
+use Prim.Native.Nat.{ℕ, ◌+◌, ◌-◌, ◌*◌, ◌<◌}
 use mathlib.Core.Path.{◌≡◌, refl, sym, ap, ◌∙◌}
 use Rattle.table.proofs.Rules.{picks}
 use Rattle.reads_whole.proofs.entries.put_places.Goals as goal

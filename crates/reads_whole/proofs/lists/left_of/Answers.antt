@@ -1,7 +1,5 @@
 use native.Mathlib.Omega.{arith}
 use Rattle.reads_whole.specs.Whole.{left_of}
-use Rattle.table.proofs.Rules.{picks}
-use borrow.Author.Rules.{rules}
 use Rattle.reads_whole.proofs.lists.left_of.Goals as goal
 
 pub returns-then-end-position : goal.returns-then-end-position

@@ -2,7 +2,6 @@ use Rattle.reads_seats.specs.Told.{count_of}
 use mathlib.Core.Path.{ap, ◌∙◌}
 use Rattle.reads_whole.specs.Whole.{many_of}
 use Rattle.table.proofs.Rules.{picks}
-use borrow.Author.Rules.{rules}
 use Rattle.reads_whole.proofs.lists.many_of.Goals as goal
 
 pub returns-then-kind-le-ID : goal.returns-then-kind-le-ID

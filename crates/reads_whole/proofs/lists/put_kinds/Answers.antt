@@ -4,24 +4,23 @@ use Rattle.reads_whole.specs.Whole.{rows, entry_at, first_of, left_of, entries_o
 use Rattle.bytes_writer.proofs.StoreLaws.{splice-none}
 use Rattle.table.specs.Bytes.{splice}
 use borrow.Author.Tests.{le-leb}
-use lib.ListN.{length, take, drop}
+use lib.ListN.{length, drop}
 use native.Mathlib.Omega.{arith}
 use native.Mathlib.Nat.{zero-add}
-use Prim.Native.Nat.{ℕ, ◌+◌, ◌-◌, ◌*◌, ◌≤◌}
-use mathlib.Core.List.{List, ◌++◌}
+use Prim.Native.Nat.{ℕ, ◌+◌, ◌-◌, ◌*◌}
+use mathlib.Core.List.{◌++◌}
 use mathlib.Core.Path.{◌≡◌, refl, sym, ap, ◌∙◌}
-use Rattle.table.proofs.Rules.{picks}
 use Rattle.reads_whole.proofs.lists.put_kinds.Goals as goal
 
 pub loop-rest-init : goal.loop-rest-init
 unfolding least
-loop-rest-init c = 
+loop-rest-init c =
     let a = c.args in
     let whole = entries_of a.t.now a.first_kind a.first_position a.kinds in
     (refl, c.requires.3, rw (le-leb 0 a.room (omega arith)) refl, omega arith, omega arith, refl, omega arith, refl, zero-add _, splice-none a.out.now 0)
 
 pub put_run-requires : goal.put_run-requires
-put_run-requires c = 
+put_run-requires c =
     let l = c.loop-rest in
     let start = 184 * l.written in
     let fits = c.least_of-fits.ensures in (
@@ -64,10 +63,10 @@ loop-rest-preserved c =
 
 pub returns : goal.returns
 unfolding number_of
-returns c = 
+returns c =
     let a = c.args in
     let t = a.t.now in
     let l = c.loop-rest in
     let none : l.rest ≡ 0 = omega (arith, c.loop-rest-test.false) in
     let no : number_of t l.kind l.position l.rest ≡ 0 = ap (number_of t l.kind l.position) none in
-    record { total_value = (omega (arith, l.invariant.8, no), l.invariant.2, omega (arith, l.invariant.2, least-le l.total a.room), omega (arith, l.invariant.4)); out_after = l.invariant.9; }
+    record { total_value = (omega (arith, l.invariant.8, no), l.invariant.2, omega (arith, l.invariant.2, least-le l.total a.room), omega (arith, l.invariant.4)); out_after = l.invariant.9 }

@@ -1,16 +1,8 @@
-use Rattle.layout_images.proofs.Laws.{part-long}
-use Rattle.reads_whole.proofs.ListLaws.{least-le, entries-more, number_more, tail-laid, kinds-turn}
-use Rattle.reads_whole.specs.Whole.{rows, entry_at, first_of, left_of, entries_of, number_of, least}
-use Rattle.bytes_writer.proofs.StoreLaws.{splice-none}
+use Rattle.reads_whole.specs.Whole.{entries_of, number_of, least}
 use Rattle.table.specs.Bytes.{splice}
-use borrow.Author.Tests.{le-leb}
 use lib.ListN.{length, take, drop}
-use native.Mathlib.Omega.{arith}
-use native.Mathlib.Nat.{zero-add}
-use Prim.Native.Nat.{ℕ, ◌+◌, ◌-◌, ◌*◌, ◌≤◌}
-use mathlib.Core.List.{List, ◌++◌}
-use mathlib.Core.Path.{◌≡◌, refl, sym, ap, ◌∙◌}
-use Rattle.table.proofs.Rules.{picks}
+use Prim.Native.Nat.{◌+◌, ◌-◌, ◌*◌, ◌≤◌}
+use mathlib.Core.Path.{◌≡◌}
 use Rattle.reads_whole.proofs.lists.put_kinds.Given as goal
 
 abbrev pub invariant-loop-rest : goal.invariant-loop-rest

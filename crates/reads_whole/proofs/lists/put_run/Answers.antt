@@ -5,9 +5,8 @@ use Rattle.bytes_writer.proofs.StoreLaws.{lent, splice-none}
 use Rattle.table.specs.Bytes.{splice}
 use lib.ListN.{length}
 use native.Mathlib.Omega.{arith}
-use Prim.Native.Nat.{ℕ, ◌+◌, ◌-◌, ◌*◌, ◌≤◌}
-use mathlib.Core.List.{List}
-use mathlib.Core.Path.{◌≡◌, refl, sym, ap, ◌∙◌}
+use Prim.Native.Nat.{ℕ, ◌+◌, ◌-◌, ◌*◌}
+use mathlib.Core.Path.{◌≡◌, refl, ap, ◌∙◌}
 use Rattle.table.proofs.Rules.{picks}
 use Rattle.reads_whole.proofs.lists.put_run.Goals as goal
 

@@ -11,7 +11,6 @@ use Rattle.table.specs.Bytes.{splice}
 use native.Mathlib.Omega.{arith}
 use Prim.Native.Nat.{ℕ, ◌+◌, ◌-◌}
 use mathlib.Core.Path.{◌≡◌, refl, ap, ◌∙◌}
-use borrow.Author.Rules.{rules}
 use Rattle.rewriter.proofs.rewriting.lay_form.Goals as goal
 
 pub lay_entry-after_driver-requires : goal.lay_entry-after_driver-requires
@@ -20,7 +19,7 @@ lay_entry-after_driver-requires c =
     let ok = c.requires.0 in
     let b : Bytes t = λ i. omega (arith, c.type_inv.t i) in
     let z = sizes-are t b ok c.args.size c.args.heap c.requires.1 c.requires.2 in
-    record { accepted = ok; kind_bound = (omega (arith, z.0, base-small 0), omega (arith, z.1, c.requires.3)); }
+    record { accepted = ok; kind_bound = (omega (arith, z.0, base-small 0), omega (arith, z.1, c.requires.3)) }
 
 pub overflow_sub-size : goal.overflow_sub-size
 overflow_sub-size c =
@@ -45,10 +44,13 @@ lay_entry-after_host-requires c =
     let ok = c.requires.0 in
     let b : Bytes t = λ i. omega (arith, c.type_inv.t i) in
     let z = sizes-are t b ok c.args.size c.args.heap c.requires.1 c.requires.2 in
-    let e = c.lay_entry-after_driver in record { accepted = ok; kind_bound = (
+    let e = c.lay_entry-after_driver in record {
+      accepted = ok;
+      kind_bound = (
         omega (arith, z.0, e.ensures.0),
         omega (arith, z.1, e.ensures.0, c.requires.3, e.auto.out, c.lay_front.auto.out),
-      ); }
+      );
+    }
 
 pub lay_lists-requires : goal.lay_lists-requires
 lay_lists-requires c =
@@ -57,7 +59,9 @@ lay_lists-requires c =
     let b : Bytes t = λ i. omega (arith, c.type_inv.t i) in
     let z = sizes-are t b ok c.args.size c.args.heap c.requires.1 c.requires.2 in
     let e = c.lay_entry-after_driver in
-    let p = c.lay_entry-after_host in record { accepted = ok; t_bound = (
+    let p = c.lay_entry-after_host in record {
+      accepted = ok;
+      t_bound = (
         omega (arith, z.0, e.ensures.0, p.ensures.0),
         omega (
           arith,
@@ -69,7 +73,8 @@ lay_lists-requires c =
           c.lay_front.auto.out,
           p.auto.out,
         ),
-      ); }
+      );
+    }
 
 pub returns : goal.returns
 returns c =

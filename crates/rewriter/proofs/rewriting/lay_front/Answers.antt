@@ -1,11 +1,10 @@
 use Rattle.table.specs.Meaning.{heap_at}
 use native.Mathlib.Omega.{arith}
-use borrow.Author.Rules.{rules}
 use Rattle.rewriter.proofs.rewriting.lay_front.Goals as goal
 
 pub write_front-requires : goal.write_front-requires
 unfolding heap_at
-write_front-requires c =  (omega (arith, c.requires.1), c.oem.ensures.1)
+write_front-requires c = (omega (arith, c.requires.1), c.oem.ensures.1)
 
 pub returns : goal.returns
 returns c =

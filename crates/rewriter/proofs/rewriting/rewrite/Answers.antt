@@ -12,7 +12,6 @@ use native.Mathlib.Omega.{arith}
 use Prim.Native.Nat.{ℕ}
 use mathlib.Core.List.{List, [], ◌∷◌}
 use mathlib.Core.Path.{refl, sym, ap, ap₂, ◌∙◌}
-use borrow.Author.Rules.{rules}
 use Rattle.rewriter.proofs.rewriting.rewrite.Goals as goal
 
 pub returns-then-judged-ne0 : goal.returns-then-judged-ne0
@@ -89,7 +88,7 @@ seal-requires c =
     let w = sizes-are t b ok n h.result g h.ensures.0 in
     let v = signature-here t b ok n (heap_len m) g refl y.result y.ensures.0 in
     let f = ap (take n) y.ensures.1 ∙ take-front (laid_out m n 0 (heap_len m) (minor_of m)) a.out.now n
-    (g ∙ sym (laid-length t b ok n (heap_len m))) in record { lt_size = (omega (arith, w.0, w.1), omega (arith, p.1, y.auto.out), ok); signature_bound = (omega (arith, v.0, h.ensures.0), ap₂ (λ (x : List ℕ) (i : ℕ). part x i y.result) f h.ensures.0 ∙ v.1); }
+    (g ∙ sym (laid-length t b ok n (heap_len m))) in record { lt_size = (omega (arith, w.0, w.1), omega (arith, p.1, y.auto.out), ok); signature_bound = (omega (arith, v.0, h.ensures.0), ap₂ (λ (x : List ℕ) (i : ℕ). part x i y.result) f h.ensures.0 ∙ v.1) }
 
 pub returns : goal.returns
 returns c =

@@ -1,13 +1,7 @@
-use mathlib.Core.Path.{◌≡◌, refl, sym, ap, ◌∙◌}
-use mathlib.Core.Bool.{Bool, true, false, ◌||◌}
-use Prim.Native.Nat.{◌+◌, ◌-◌, ◌≤◌}
-use native.Mathlib.Omega.{arith}
-use Rattle.table.specs.Bytes.{pick}
+use mathlib.Core.Path.{◌≡◌}
+use Prim.Native.Nat.{◌-◌, ◌≤◌}
 use Rattle.table.specs.Objects.{newer_list}
-use Rattle.table.specs.Meaning.{meaning, minor_of}
 use Rattle.rewriter_sizes.specs.Parts.{list_from}
-use Rattle.rewriter_sizes.proofs.MinorLaws.{newer-more, newer-done, minor-is}
-use Rattle.table.proofs.Rules.{picks}
 use Rattle.rewriter_sizes.proofs.minor.form_minor.Given as goal
 
 -- no HFI before asks for it

@@ -1,14 +1,12 @@
 use mathlib.Core.Path.{◌≡◌, sym, ap, ◌∙◌}
-use mathlib.Core.List.{List}
 use Prim.Native.Nat.{ℕ}
 use lib.Dec.{eqb}
-use Rattle.table.specs.FixedLayouts.{layout_of, info}
+use Rattle.table.specs.FixedLayouts.{layout_of}
 use Rattle.table.specs.Reads.{seat, seat_of}
-use Rattle.reads_seats.specs.Seats.{as_seat, Seated}
+use Rattle.reads_seats.specs.Seats.{as_seat}
 use Rattle.reads_seats.proofs.SeatLaws.{standing}
 use Rattle.reads_seats.proofs.EntryLaws.{seated-at}
 use Rattle.rewriter_sizes.proofs.MinorLaws.{newer_at, newer-is}
-use borrow.Author.Rules.{rules}
 use Rattle.rewriter_sizes.proofs.minor.is_newer.Goals as goal
 
 pub info_version-requires : goal.info_version-requires

@@ -4,7 +4,6 @@ use Rattle.rewriter_sizes.proofs.PartLaws.{sized-flat}
 use native.Mathlib.Omega.{arith}
 use mathlib.Core.Path.{refl}
 use lib.Dec.{lit≤}
-use borrow.Author.Rules.{rules}
 use Rattle.rewriter_sizes.proofs.references.flat_span.Goals as goal
 
 pub objects_size-len-requires : goal.objects_size-len-requires

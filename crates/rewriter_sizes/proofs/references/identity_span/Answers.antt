@@ -1,12 +1,9 @@
 use mathlib.Core.Path.{refl, sym, ap, ◌∙◌}
-use mathlib.Core.List.{[]}
-use native.Mathlib.Omega.{arith}
 use Rattle.table.specs.FixedLayouts.{layout_of, info, hfi_extended}
 use Rattle.reads_seats.specs.declared.seats.Seat.{Seat}
 use Rattle.reads_seats.proofs.SeatLaws.{record-held}
 use Rattle.rewriter_sizes.specs.Parts.{record_part}
 use Rattle.rewriter_sizes.proofs.PartLaws.{spans-held}
-use borrow.Author.Rules.{rules}
 use Rattle.rewriter_sizes.proofs.references.identity_span.Goals as goal
 
 pub flat_span-requires : goal.flat_span-requires

@@ -4,7 +4,6 @@ use lib.Dec.{lit≤}
 use Rattle.table.specs.FixedLayouts.{layout_of, info}
 use Rattle.rewriter_sizes.specs.Parts.{record_part}
 use Rattle.rewriter_sizes.proofs.PartLaws.{sized-split}
-use borrow.Author.Rules.{rules}
 use Rattle.rewriter_sizes.proofs.references.info_span.Goals as goal
 
 pub objects_size-objects-requires : goal.objects_size-objects-requires

@@ -1,6 +1,5 @@
 use native.Mathlib.Omega.{arith}
 use Rattle.rewriter_sizes.proofs.PartLaws.{sized-split}
-use borrow.Author.Rules.{rules}
 use Rattle.rewriter_sizes.proofs.references.named_size.Goals as goal
 
 pub returns : goal.returns

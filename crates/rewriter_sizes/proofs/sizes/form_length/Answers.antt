@@ -1,6 +1,5 @@
 use native.Mathlib.Omega.{arith}
 use Rattle.table.specs.Meaning.{form_length}
-use borrow.Author.Rules.{rules}
 use Rattle.rewriter_sizes.proofs.sizes.form_length.Goals as goal
 
 pub returns : goal.returns

@@ -1,6 +1,5 @@
 use native.Mathlib.Omega.{arith}
 use Rattle.rewriter_sizes.proofs.PartLaws.{heap-parts}
-use borrow.Author.Rules.{rules}
 use Rattle.rewriter_sizes.proofs.sizes.heap_size.Goals as goal
 
 pub returns : goal.returns

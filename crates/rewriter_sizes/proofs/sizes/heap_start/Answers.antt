@@ -1,7 +1,6 @@
 use native.Mathlib.Omega.{arith}
 use Rattle.table.specs.Meaning.{heap_at}
 use Rattle.rewriter_sizes.proofs.PartLaws.{span-parts}
-use borrow.Author.Rules.{rules}
 use Rattle.rewriter_sizes.proofs.sizes.heap_start.Goals as goal
 
 pub returns : goal.returns

@@ -1,10 +1,9 @@
 use Rattle.rewriter_sizes.proofs.PartLaws.{size-more, size-done, list_all}
-use Rattle.rewriter_sizes.specs.Parts.{list_of, list_from}
 use Rattle.table.specs.Objects.{size_list}
 use native.Mathlib.Nat.{zero-add}
 use native.Mathlib.Omega.{arith}
-use Prim.Native.Nat.{◌+◌, ◌-◌, ◌*◌, ◌≤◌}
-use mathlib.Core.Path.{◌≡◌, ap, ◌∙◌}
+use Prim.Native.Nat.{◌-◌}
+use mathlib.Core.Path.{ap, ◌∙◌}
 use Rattle.table.proofs.Rules.{picks}
 use Rattle.rewriter_sizes.proofs.sizes.list_size.Goals as goal
 

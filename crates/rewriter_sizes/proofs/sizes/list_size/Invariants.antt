@@ -1,11 +1,7 @@
-use Rattle.rewriter_sizes.proofs.PartLaws.{size-more, size-done, list_all}
 use Rattle.rewriter_sizes.specs.Parts.{list_of, list_from}
 use Rattle.table.specs.Objects.{size_list}
-use native.Mathlib.Nat.{zero-add}
-use native.Mathlib.Omega.{arith}
 use Prim.Native.Nat.{◌+◌, ◌-◌, ◌*◌, ◌≤◌}
-use mathlib.Core.Path.{◌≡◌, ap, ◌∙◌}
-use Rattle.table.proofs.Rules.{picks}
+use mathlib.Core.Path.{◌≡◌}
 use Rattle.rewriter_sizes.proofs.sizes.list_size.Given as goal
 
 abbrev pub invariant-loop-position : goal.invariant-loop-position

@@ -2,7 +2,6 @@ use native.Mathlib.Omega.{arith}
 use mathlib.Core.Path.{ap₂}
 use Prim.Native.Nat.{◌*◌}
 use Rattle.rewriter_sizes.proofs.PartLaws.{span_small}
-use borrow.Author.Rules.{rules}
 use Rattle.rewriter_sizes.proofs.sizes.list_span.Goals as goal
 
 pub overflow_mul-result : goal.overflow_mul-result
