@@ -195,4 +195,5 @@ linked: $(if $(NBFT_LIB),,library)
 clean:
 	rm -rf target build crates/*/out second/target second/linked/target bench/target bindings/rust/target
 
-include bench/rules.mk
+# By the place of this file, which examples/installed has read in a folder that has no benchmark.
+include $(dir $(lastword $(MAKEFILE_LIST)))bench/rules.mk

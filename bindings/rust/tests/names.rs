@@ -163,7 +163,7 @@ fn words_in_c() -> Vec<(u64, &'static str)> {
 
 /// The same by the definition.
 fn words_defined() -> Vec<(u64, &'static str)> {
-    let lines = WORDS.split_once("meaningOf n =\n").expect("it is there").1.lines();
+    let lines = WORDS.split_once("meaning_of n =\n").expect("it is there").1.lines();
     let lines = lines.take_while(|line| !line.is_empty());
     let words = lines.map(|line| line.split('"').nth(1).expect("words"));
     let numbers = WORDS.split("eqb n ").skip(1).map(|text| text.split(')').next().and_then(|n| n.parse().ok()));
