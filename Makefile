@@ -93,11 +93,13 @@ compared: second-tests
 	@$(MAKE) --no-print-directory --jobs=2 --output-sync=target comparisons
 	@$(MAKE) --no-print-directory readme compared-pairs compared-shown
 
-# The second program's own tests, and that the committed vectors, samples and cases are what it writes.
+# The second program's own tests, that the committed vectors, samples and cases are what it writes, and that a description that stands
+# twice is the same.
 second-tests: second
 	cd second && $(CARGO) test --offline --quiet
 	$(SECOND) vectors check second/vectors
 	$(SECOND) samples check samples
+	cmp samples/machine.txt crates/nbft_build/data/machine.txt
 	$(SECOND) cases check $(AGREED)
 
 # The library beside the second program, and as its users meet it.
