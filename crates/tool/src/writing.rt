@@ -99,6 +99,11 @@ fn is_link<R: Files>(rt: &R, name: &str) -> bool {
     }
 }
 
+// Tells a regular file from a pipe, a terminal or a device such as /dev/null, which keep nothing that `fsync` could wait for. A disk passes.
+fn holds_bytes<F: OpenFile>(file: &F) -> bool {
+    file.sync_all().is_ok()
+}
+
 // A rename puts a file in the place of whatever has the name, of /dev/null and /dev/stdout too.
 fn may_take<R: Files>(rt: &R, name: &str) -> bool {
     let path = name.as_bytes();
@@ -116,8 +121,7 @@ fn may_take<R: Files>(rt: &R, name: &str) -> bool {
             return false;
         }
     };
-    // Tells a regular file from a pipe, a terminal or a device such as /dev/null, which keep nothing that could be waited for. A disk passes.
-    if file.sync_all().is_ok() {
+    if holds_bytes(&file) {
         return true;
     }
     complain(path, b": no regular file, and not replaced\n");
