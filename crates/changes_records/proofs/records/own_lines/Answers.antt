@@ -49,27 +49,37 @@ module _ (y : After-record_in-y) where
       (ap (λ (i : Image). i.bytes) y.record_in-y.ensures)
 
 pub slice_bounds-one-end : goal.slice_bounds-one-end
-slice_bounds-one-end c = one-fits (goal.at.slice_bounds-one-end c).After-record_in-y
+slice_bounds-one-end c =
+    let w = (goal.at.slice_bounds-one-end c).After-record_in-y in
+    one-fits w
 
 pub slice_bounds-image_lines-end : goal.slice_bounds-image_lines-end
-slice_bounds-image_lines-end c = sym (length-take-le (base (goal.at.slice_bounds-image_lines-end c).After-record_in-y) _ (one-fits (goal.at.slice_bounds-image_lines-end c).After-record_in-y))
+slice_bounds-image_lines-end c =
+    let w = (goal.at.slice_bounds-image_lines-end c).After-record_in-y in
+    sym (length-take-le (base w) _ (one-fits w))
 
 pub slice_bounds-other-end : goal.slice_bounds-other-end
-slice_bounds-other-end c = other_fits (goal.at.slice_bounds-other-end c).After-record_in-y
+slice_bounds-other-end c =
+    let w = (goal.at.slice_bounds-other-end c).After-record_in-y in
+    other_fits w
 
 pub slice_bounds-image_lines-end-2 : goal.slice_bounds-image_lines-end-2
-slice_bounds-image_lines-end-2 c = sym (length-take-le (base (goal.at.slice_bounds-image_lines-end-2 c).After-record_in-y) _ (other_fits (goal.at.slice_bounds-image_lines-end-2 c).After-record_in-y))
+slice_bounds-image_lines-end-2 c =
+    let w = (goal.at.slice_bounds-image_lines-end-2 c).After-record_in-y in
+    sym (length-take-le (base w) _ (other_fits w))
 
 pub image_lines-requires : goal.image_lines-requires
 image_lines-requires c =
+    let w = (goal.at.image_lines-requires c).After-record_in-y in
     let p = c.requires in
-    (p.0, p.1, p.2, length-take-le (base (goal.at.image_lines-requires c).After-record_in-y) _ (one-fits (goal.at.image_lines-requires c).After-record_in-y) ∙ base-is (goal.at.image_lines-requires c).After-record_in-y, length-take-le (base (goal.at.image_lines-requires c).After-record_in-y) _ (other_fits (goal.at.image_lines-requires c).After-record_in-y) ∙ base-is (goal.at.image_lines-requires c).After-record_in-y, omega (arith, p.3))
+    (p.0, p.1, p.2, length-take-le (base w) _ (one-fits w) ∙ base-is w, length-take-le (base w) _ (other_fits w) ∙ base-is w, omega (arith, p.3))
 
 pub returns : goal.returns
 unfolding own_lines
 returns c =
+    let w = (goal.at.returns c).After-record_in-y in
     let a = c.args in
     let r = c.image_lines.ensures in
     let told = plain_lines a.t.now a.u.now a.kind a.position in
     let lines : List ℕ → List ℕ → List ℕ = λ x z. take a.from a.out.now ++ texts_of (record_lines a.kind a.position (layout_of a.kind).shape x z told) in
-    (r.0, r.1, r.2 ∙ ap₂ lines (one-is (goal.at.returns c).After-record_in-y) (other-is (goal.at.returns c).After-record_in-y), r.3)
+    (r.0, r.1, r.2 ∙ ap₂ lines (one-is w) (other-is w), r.3)

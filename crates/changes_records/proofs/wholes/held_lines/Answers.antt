@@ -50,58 +50,63 @@ module _ (w : After-is_there-other) where
 
 pub own_lines-requires : goal.own_lines-requires
 own_lines-requires c =
+    let w = (goal.at.own_lines-requires c).After-is_there-other in
     let p = c.requires in
-    (p.0, p.1, p.2, omega (arith, p.3), eqb-true _ 0 (one-is (goal.at.own_lines-requires c).After-is_there-other c.if-one.true), eqb-true _ 0 (other-is (goal.at.own_lines-requires c).After-is_there-other c.if-other.true))
+    (p.0, p.1, p.2, omega (arith, p.3), eqb-true _ 0 (one-is w c.if-one.true), eqb-true _ 0 (other-is w c.if-other.true))
 
 pub returns-then-other : goal.returns-then-other
 returns-then-other c =
+    let w = (goal.at.returns-then-other c).After-is_there-other in
     let own = c.own_lines.ensures in
     let e = c.if-one.true in
     let f = c.if-other.true in
     let l = c.level_of.ensures in (
-      l.1 ∙ sym (both_is (goal.at.returns-then-other c).After-is_there-other e f),
+      l.1 ∙ sym (both_is w e f),
       omega (arith, l.0, own.0),
       omega (arith, l.0, own.1),
-      ap (λ (m : ℕ). take m c.own_lines.new.out) l.0 ∙ own.2 ∙ ap (behind (goal.at.returns-then-other c).After-is_there-other) (sym (level-is (goal.at.returns-then-other c).After-is_there-other e f)),
+      ap (λ (m : ℕ). take m c.own_lines.new.out) l.0 ∙ own.2 ∙ ap (behind w) (sym (level-is w e f)),
       own.3,
     )
 
 pub returns-then-one : goal.returns-then-one
 returns-then-one c =
+    let w = (goal.at.returns-then-one c).After-is_there-other in
     let put = c.put_text.ensures in
     let e = c.if-one.true in
     let f = c.if-other.false in
     let l = c.level_of-then-one.ensures in
     let x = c.only_line.ensures.1 ∙ sym (line-text _) in (
-      l.1 ∙ sym (both_is (goal.at.returns-then-one c).After-is_there-other e f),
+      l.1 ∙ sym (both_is w e f),
       omega (arith, l.0, put.0),
       omega (arith, l.0, put.1),
-      ap (λ (m : ℕ). take m c.put_text.new.out) l.0 ∙ put.2 ∙ ap (then (goal.at.returns-then-one c).After-is_there-other) x ∙ ap (behind (goal.at.returns-then-one c).After-is_there-other) (sym (level-is (goal.at.returns-then-one c).After-is_there-other e f)),
+      ap (λ (m : ℕ). take m c.put_text.new.out) l.0 ∙ put.2 ∙ ap (then w) x ∙ ap (behind w) (sym (level-is w e f)),
       put.3,
     )
 
 pub returns-then-other-2 : goal.returns-then-other-2
 returns-then-other-2 c =
+    let w = (goal.at.returns-then-other-2 c).After-is_there-other in
     let put = c.put_text-then-other-2.ensures in
     let e = c.if-one.false in
     let f = c.if-other-2.true in
     let l = c.level_of-then-other-2.ensures in
     let x = c.only_line-then-other-2.ensures.1 ∙ sym (line-text _) in (
-      l.1 ∙ sym (both_is (goal.at.returns-then-other-2 c).After-is_there-other e f),
+      l.1 ∙ sym (both_is w e f),
       omega (arith, l.0, put.0),
       omega (arith, l.0, put.1),
-      ap (λ (m : ℕ). take m c.put_text-then-other-2.new.out) l.0 ∙ put.2 ∙ ap (then (goal.at.returns-then-other-2 c).After-is_there-other) x ∙ ap (behind (goal.at.returns-then-other-2 c).After-is_there-other) (sym (level-is (goal.at.returns-then-other-2 c).After-is_there-other e f)),
+      ap (λ (m : ℕ). take m c.put_text-then-other-2.new.out) l.0 ∙ put.2 ∙ ap (then w) x ∙ ap (behind w) (sym (level-is w e f)),
       put.3,
     )
 
 pub returns : goal.returns
 returns c =
+    let w = (goal.at.returns c).After-is_there-other in
     let e = c.if-one.false in
     let f = c.if-other-2.false in
     let l = c.level_of-2.ensures in (
-      l.1 ∙ sym (both_is (goal.at.returns c).After-is_there-other e f),
+      l.1 ∙ sym (both_is w e f),
       omega (arith, l.0),
       omega (arith, l.0),
-      ap (λ (m : ℕ). take m c.args.out.now) l.0 ∙ sym (append-nil (take c.args.from c.args.out.now)) ∙ ap (behind (goal.at.returns c).After-is_there-other) (sym (level-is (goal.at.returns c).After-is_there-other e f)),
+      ap (λ (m : ℕ). take m c.args.out.now) l.0 ∙ sym (append-nil (take c.args.from c.args.out.now)) ∙ ap (behind w) (sym (level-is w e f)),
       refl,
     )
