@@ -13,7 +13,7 @@ use Rattle.table.specs.declared.Need.TheVariants.{Optional}
 use Rattle.table.specs.declared.Answer.{Answer}
 use Rattle.table.specs.declared.State.{State}
 use Rattle.table.specs.Bytes.{pick, num}
-use Rattle.table.specs.Layout.{Slots, bytes, rec_at, base_of, anything, text}
+use Rattle.table.specs.Layout.{Slots, rec_at, base_of, anything, text}
 use Rattle.table.specs.FixedLayouts.{layout_of, when_set, info_rule, identity_rule, hfi, info, hfi_extended}
 use Rattle.table.specs.Objects.{under, size_of, heap_of, patched}
 use Rattle.table.specs.Rules.{first_of, first_fail}

@@ -13,7 +13,7 @@ use Rattle.table.specs.declared.Answer.{Answer}
 use Rattle.table.specs.declared.State.{State}
 use Rattle.table.specs.Bytes.{pick, num, bits}
 use Rattle.table.specs.Layout.{Slots, nil, bytes, gone, rec, anything, text, positions, are_positions}
-use Rattle.table.specs.FixedLayouts.{layout_of, hfi, ssns, info, extended}
+use Rattle.table.specs.FixedLayouts.{layout_of, hfi, ssns, extended}
 use Rattle.table.specs.Objects.{under, size_of, heap_of, patched}
 use Rattle.table.specs.Rules.{first_of, first_fail}
 use Rattle.table.specs.Builder.{env_of, waits, ended, told_image, told_slots}

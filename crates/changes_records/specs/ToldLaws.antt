@@ -10,7 +10,7 @@ use Rattle.std.proofs.Math.Dec.{eqb}
 use Rattle.std.proofs.Math.Facts.{and_yes}
 use Rattle.table.specs.declared.Region.{Region}
 use Rattle.table.specs.Bytes.{pick}
-use Rattle.table.specs.Layout.{Refs, Shape, Slots, nest, none, plain}
+use Rattle.table.specs.Layout.{Refs, Shape, nest, none, plain}
 use Rattle.table.specs.FixedLayouts.{discovery, extended, header, hfi, hfi_extended, host, info, layout_of, security, ssns}
 use Rattle.table.specs.Reads.{has_plain, width_at}
 use Rattle.reads_seats.specs.Objects.{object_in}

@@ -9,7 +9,7 @@ use lib.Seq.{drop-length}
 use lib.Dec.{T, eqb, leb, leb→le}
 use mir.Facts.{and_yes}
 use borrow.Author.Tests.{le-leb, lt-leb, ne_eqb}
-use Rattle.table.specs.Bytes.{le, num, padded, part, pick, splice}
+use Rattle.table.specs.Bytes.{le, num, padded, part, splice}
 use Rattle.table.specs.Rules.{answer, done, first_fail, test}
 use Rattle.table.specs.Numbers.{check, heap_in, tests}
 use Rattle.table.specs.Closing.{close_answer, close_bytes, close_map, close_moved, closed, closed_heap, map_of, marks, mended, moved, moved_of, one, ones, overlapped, sift, slid, stored}

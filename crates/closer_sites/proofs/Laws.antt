@@ -1,6 +1,6 @@
 -- What the functions of a walk come to: the length of a heap record, the next record of a list, a reference by its number. Assumes nothing.
-use mathlib.Core.Path.{◌≡◌, refl, sym, ap, ◌∙◌}
-use mathlib.Core.Bool.{Bool, true, false}
+use mathlib.Core.Path.{◌≡◌, refl, ap, ◌∙◌}
+use mathlib.Core.Bool.{true}
 use mathlib.Core.List.{List, [], ◌∷◌}
 use Prim.Native.Nat.{ℕ, zero, suc, ◌+◌, ◌-◌, ◌*◌, ◌≤◌, ◌<◌}
 use native.Mathlib.Omega.{arith}
@@ -12,9 +12,8 @@ use borrow.Author.Tests.{le-ltb, lt-ltb}
 use Rattle.table.specs.declared.Need.{Need}
 use Rattle.table.specs.declared.Need.TheVariants.{Ignored, Optional, Required}
 use Rattle.table.specs.Bytes.{num, pick}
-use Rattle.table.specs.Layout.{Layout, base_of, is_valid, offsets}
+use Rattle.table.specs.Layout.{Layout, base_of, offsets}
 use Rattle.table.specs.FixedLayouts.{control, discovery, extended, header, hfi, hfi_extended, host, info, layout_of, no_kind, security, ssns}
-use Rattle.table.specs.declared.Place.{Place}
 use Rattle.table.specs.Objects.{under}
 use Rattle.table.specs.Rules.{done}
 use Rattle.table.specs.Reads as reads

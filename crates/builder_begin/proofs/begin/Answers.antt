@@ -8,7 +8,6 @@ use Rattle.builder_record.proofs.LayLaws.{step_is}
 use Rattle.table.specs.declared.State.{State}
 use Rattle.table.specs.declared.Answer.{Answer}
 use mathlib.Core.Path.{sym, ap, ◌∙◌}
-use borrow.Author.Rules.{rules}
 use Rattle.builder_begin.proofs.begin.Goals as goal
 
 pub returns-then-not-is_empty : goal.returns-then-not-is_empty

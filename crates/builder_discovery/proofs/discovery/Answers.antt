@@ -11,7 +11,6 @@ use Rattle.builder_record.proofs.LayLaws.{step_is}
 use Prim.Native.Nat.{ℕ}
 use Rattle.laws.specs.TextLaws.{told_fault}
 use Rattle.builder_discovery.proofs.Laws.{discovery-refused, discovery-passed, discovery-done}
-use borrow.Author.Rules.{rules}
 use Rattle.builder_discovery.proofs.discovery.Goals.{After-judged-answer}
 use Rattle.builder_discovery.proofs.discovery.Goals as goal
 

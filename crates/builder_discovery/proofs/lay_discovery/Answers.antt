@@ -16,7 +16,6 @@ use Rattle.builder_state.proofs.Laws.{in-limit, used-bounds}
 use Rattle.builder_record.proofs.FillLaws.{discovery-free}
 use Rattle.builder_record.proofs.LayLaws.{part-size, part-stored, roomy, laid-refused, laid_done, two-long}
 use Rattle.builder_discovery.proofs.Laws.{discovery-size, discovery-record, discovery-heap}
-use borrow.Author.Rules.{rules}
 use Rattle.builder_discovery.proofs.lay_discovery.Goals.{After-ended_len-nqn_len, After-place_of-at}
 use Rattle.builder_discovery.proofs.lay_discovery.Goals as goal
 
@@ -58,7 +57,7 @@ returns-then-room-ne0 c =
     c.refused.ensures.0 c.if-room-ne0.true c.refused.ensures.1
 
 pub place_of-at-requires : goal.place_of-at-requires
-place_of-at-requires c =  (lit≤ tt, lit≤ tt, c.requires.0)
+place_of-at-requires c = (lit≤ tt, lit≤ tt, c.requires.0)
 
 pub overflow_add-end : goal.overflow_add-end
 unfolding layout_of discovery
@@ -69,12 +68,11 @@ slice_bounds-write_discovery-end c = omega (arith, inside (goal.at.slice_bounds-
 
 pub write_discovery-requires : goal.write_discovery-requires
 unfolding discovery
-write_discovery-requires c =
-     (
-      (part-size c.args.out.now c.place_of-at.result 32 (inside (goal.at.write_discovery-requires c).After-place_of-at), c.requires.1, omega (arith, roomy-here (goal.at.write_discovery-requires c).After-place_of-at)),
-      omega (arith, c.requires.2, c.ended_len-address_len.ensures),
-      omega (arith, c.requires.3, c.ended_len-nqn_len.ensures),
-    )
+write_discovery-requires c = (
+  (part-size c.args.out.now c.place_of-at.result 32 (inside (goal.at.write_discovery-requires c).After-place_of-at), c.requires.1, omega (arith, roomy-here (goal.at.write_discovery-requires c).After-place_of-at)),
+  omega (arith, c.requires.2, c.ended_len-address_len.ensures),
+  omega (arith, c.requires.3, c.ended_len-nqn_len.ensures),
+)
 
 pub lay_text-requires : goal.lay_text-requires
 lay_text-requires c =

@@ -8,7 +8,6 @@ use Rattle.table.specs.declared.State.{State}
 use Rattle.table.specs.declared.Answer.{Answer}
 use mathlib.Core.Path.{sym, ap, ◌∙◌}
 use native.Mathlib.Omega.{arith}
-use borrow.Author.Rules.{rules}
 use Rattle.builder_finish.proofs.finish.Goals as goal
 
 pub returns-then-not-waits : goal.returns-then-not-waits

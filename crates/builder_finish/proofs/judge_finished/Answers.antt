@@ -13,13 +13,12 @@ use Rattle.table.specs.Builder.{sealed}
 use Rattle.laws.specs.Fields.{num-part}
 use Rattle.builder_state.proofs.Laws.{used-bounds, minor-bound}
 use Rattle.builder_finish.proofs.EndLaws.{ends-from, sealed-is, all_back}
-use borrow.Author.Rules.{rules}
 use Rattle.builder_finish.proofs.judge_finished.Goals.{After-slice_known-1}
 use Rattle.builder_finish.proofs.judge_finished.Goals as goal
 
 -- the buffer has all bytes of the shortest table
 wide : (c : After-slice_known-1) → 160 ≤ length c.args.out.now
-wide c =  omega (arith, used-bounds c.args.state 7 c.requires.0, ends-from c.args.state, c.requires.1)
+wide c = omega (arith, used-bounds c.args.state 7 c.requires.0, ends-from c.args.state, c.requires.1)
 
 pub bounds-out-50 : goal.bounds-out-50
 bounds-out-50 c =
@@ -62,18 +61,17 @@ put_u8-requires-2 c =
     omega (arith, wide (goal.at.put_u8-requires-2 c).After-slice_known-1, c.put_u8.auto.part, c.put_u32.auto.part, c.put_u32-2.auto.part)
 
 pub seal-requires : goal.seal-requires
-seal-requires c =
-     (
-      omega (arith, used-bounds c.args.state 7 c.requires.0, ends-from c.args.state),
-      omega (
-        arith,
-        c.requires.1,
-        c.put_u8.auto.part,
-        c.put_u32.auto.part,
-        c.put_u32-2.auto.part,
-        c.put_u8-2.auto.part,
-      ),
-    )
+seal-requires c = (
+  omega (arith, used-bounds c.args.state 7 c.requires.0, ends-from c.args.state),
+  omega (
+    arith,
+    c.requires.1,
+    c.put_u8.auto.part,
+    c.put_u32.auto.part,
+    c.put_u32-2.auto.part,
+    c.put_u8-2.auto.part,
+  ),
+)
 
 pub put_u8-requires-then-judged-ne0 : goal.put_u8-requires-then-judged-ne0
 put_u8-requires-then-judged-ne0 c =

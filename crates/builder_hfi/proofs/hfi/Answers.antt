@@ -4,7 +4,6 @@ use Rattle.table.specs.FixedLayouts.{layout_of, hfi, info, hfi_extended}
 use Rattle.table.specs.Builder.{Outcome}
 use Rattle.builder_record.proofs.LayLaws.{step_is}
 use Rattle.builder_hfi.proofs.Laws.{hfi-refused, hfi-passed, hfi-done}
-use borrow.Author.Rules.{rules}
 use Rattle.builder_hfi.proofs.hfi.Goals as goal
 
 pub mark_32-marked-requires : goal.mark_32-marked-requires
@@ -50,7 +49,7 @@ lay_hfi-requires c =
     a.extended.bytes c.mark_20-marked_extended.result a.iaid.now a.duid.now c.own_fault-own.result c.object_fault-objects.result c.judged-answer.result
     c.mark_32-marked.ensures.0 c.mark_128-marked_info.ensures.0 c.mark_20-marked_extended.ensures.0 c.is_there-there.result c.is_there-there.ensures
     c.own_fault-own.ensures c.object_fault-objects.ensures c.judged-answer.ensures c.if-answer-ne0.false in
-    record { state_value = (p.0, c.mark_32-marked.ensures.2, c.mark_128-marked_info.ensures.2, c.mark_20-marked_extended.ensures.2); name_len_bound = (p.1, p.2, p.3); }
+    record { state_value = (p.0, c.mark_32-marked.ensures.2, c.mark_128-marked_info.ensures.2, c.mark_20-marked_extended.ensures.2); name_len_bound = (p.1, p.2, p.3) }
 
 pub returns : goal.returns
 returns c =

@@ -4,7 +4,6 @@ use lib.ListN.{get_or}
 use Rattle.table.specs.FixedLayouts.{info, hfi_extended}
 use Rattle.laws.specs.Fields.{image_in}
 use Rattle.builder_hfi.proofs.Laws.{origin-is, no-identifier, from-dhcp, from-elsewhere}
-use borrow.Author.Rules.{rules}
 use Rattle.builder_hfi.proofs.identity_fault.Goals as goal
 
 pub returns-then-identity_flags-eq0 : goal.returns-then-identity_flags-eq0

@@ -1,6 +1,5 @@
 use native.Mathlib.Omega.{arith}
 use Rattle.builder_hfi.proofs.Laws.{identity-size-is}
-use borrow.Author.Rules.{rules}
 use Rattle.builder_hfi.proofs.identity_size.Goals as goal
 
 pub returns : goal.returns

@@ -4,7 +4,6 @@ use native.Mathlib.Omega.{arith}
 use lib.ListN.{get_or}
 use borrow.Author.Tests.{eq-eqb, ne_eqb}
 use Rattle.builder_hfi.proofs.Laws.{info_tests, info-fault-is}
-use borrow.Author.Rules.{rules}
 use Rattle.builder_hfi.proofs.info_fault.Goals as goal
 
 pub returns-then-info-eq1 : goal.returns-then-info-eq1

@@ -1,7 +1,6 @@
 use mathlib.Core.Path.{refl}
 use native.Mathlib.Omega.{arith}
 use Rattle.builder_hfi.proofs.Laws.{version-is}
-use borrow.Author.Rules.{rules}
 use Rattle.builder_hfi.proofs.is_newer.Goals as goal
 
 pub returns : goal.returns

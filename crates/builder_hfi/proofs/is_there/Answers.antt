@@ -1,4 +1,3 @@
-use borrow.Author.Rules.{rules}
 use Rattle.builder_hfi.proofs.is_there.Goals as goal
 
 pub returns-then-extended_told : goal.returns-then-extended_told

@@ -15,20 +15,18 @@ use Rattle.builder_state.proofs.Laws.{in-limit, used-bounds}
 use Rattle.builder_record.proofs.LayLaws.{part-size, part-stored, roomy, laid-refused, laid_done}
 use Rattle.builder_hfi.specs.HfiParts.{hfi_slots, info_part, laid_hfi}
 use Rattle.builder_hfi.proofs.Laws.{Laid, hfi-laid, newer-is}
-use borrow.Author.Rules.{rules}
 use Rattle.builder_hfi.proofs.lay_hfi.Goals.{After-identity_size, After-kept-own_duid, After-place_of-at}
 use Rattle.builder_hfi.proofs.lay_hfi.Goals as goal
 
 -- what is left of the objects of the HFI extended info is short
 short : (c : After-kept-own_duid) →
     (length c.kept-own_iaid.result.now ≤ 65535) × (length c.kept-own_duid.result.now ≤ 65535)
-short c =
-     (
-      rw (c.kept-own_iaid.ensures ∙ ap (λ (n : Need). under n [] c.args.iaid.now) c.own_need-need.ensures)
-          c.requires.name_len_bound.1,
-      rw (c.kept-own_duid.ensures ∙ ap (λ (n : Need). under n [] c.args.duid.now) c.own_need-need.ensures)
-          c.requires.name_len_bound.2,
-    )
+short c = (
+  rw (c.kept-own_iaid.ensures ∙ ap (λ (n : Need). under n [] c.args.iaid.now) c.own_need-need.ensures)
+      c.requires.name_len_bound.1,
+  rw (c.kept-own_duid.ensures ∙ ap (λ (n : Need). under n [] c.args.duid.now) c.own_need-need.ensures)
+      c.requires.name_len_bound.2,
+)
 
 -- all that the record names, as it is kept
 abbrev slots : (e : After-identity_size) → Slots hfi.refs

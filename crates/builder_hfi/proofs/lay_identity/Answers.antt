@@ -9,7 +9,6 @@ use Rattle.table.specs.Meaning.{limit}
 use Rattle.bytes_writer.proofs.StoreLaws.{chain-laid, splice-none}
 use Rattle.builder_record.proofs.LayLaws.{part-size, part-stored}
 use Rattle.builder_hfi.proofs.Laws.{three-long, identity-none, identity-some, identity-long}
-use borrow.Author.Rules.{rules}
 use Rattle.builder_hfi.proofs.lay_identity.Goals as goal
 
 pub slice_bounds-write_hfi_extended-end : goal.slice_bounds-write_hfi_extended-end

@@ -13,7 +13,6 @@ use Rattle.bytes_writer.proofs.StoreLaws.{concat, chain-laid, splice-join}
 use Rattle.builder_record.proofs.LayLaws.{part-size, part-stored, two-long}
 use Rattle.builder_hfi.specs.HfiParts.{identity_part}
 use Rattle.builder_hfi.proofs.Laws.{info-part}
-use borrow.Author.Rules.{rules}
 use Rattle.builder_hfi.proofs.lay_info.Goals as goal
 
 pub write_info-requires : goal.write_info-requires

@@ -4,7 +4,6 @@ use Rattle.table.specs.declared.Need.{Need}
 use Rattle.table.specs.Layout.{anything}
 use Rattle.table.specs.Rules.{first_of}
 use Rattle.laws.specs.TextLaws.{told_fault}
-use borrow.Author.Rules.{rules}
 use Rattle.builder_hfi.proofs.object_fault.Goals as goal
 
 pub returns : goal.returns

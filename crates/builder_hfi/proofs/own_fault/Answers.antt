@@ -7,7 +7,6 @@ use Rattle.table.specs.Rules.{first_of}
 use Rattle.laws.specs.Fields.{image_in}
 use Rattle.laws.specs.RefWalk.{first-zero}
 use Rattle.builder_hfi.specs.HfiParts.{own_fault}
-use borrow.Author.Rules.{rules}
 use Rattle.builder_hfi.proofs.own_fault.Goals as goal
 
 pub returns-then-there : goal.returns-then-there

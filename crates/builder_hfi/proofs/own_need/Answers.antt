@@ -1,7 +1,6 @@
 use mathlib.Core.Path.{refl}
 use Rattle.table.specs.FixedLayouts.{hfi_extended}
 use Rattle.builder_hfi.specs.HfiParts.{own_need}
-use borrow.Author.Rules.{rules}
 use Rattle.builder_hfi.proofs.own_need.Goals as goal
 
 pub returns-then-there : goal.returns-then-there

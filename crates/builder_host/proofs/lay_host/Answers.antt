@@ -14,7 +14,6 @@ use Rattle.builder_state.proofs.Laws.{in-limit, used-bounds}
 use Rattle.builder_record.proofs.FillLaws.{host-free}
 use Rattle.builder_record.proofs.LayLaws.{part-size, part-stored, roomy, laid-refused, laid_done}
 use Rattle.builder_host.proofs.Laws.{host-size, host-record, host-heap}
-use borrow.Author.Rules.{rules}
 use Rattle.builder_host.proofs.lay_host.Goals.{After-place_of-at}
 use Rattle.builder_host.proofs.lay_host.Goals as goal
 
@@ -44,7 +43,7 @@ returns-then-room-ne0 c =
     c.refused.ensures.0 c.if-room-ne0.true c.refused.ensures.1
 
 pub place_of-at-requires : goal.place_of-at-requires
-place_of-at-requires c =  (lit≤ tt, lit≤ tt, c.requires.0)
+place_of-at-requires c = (lit≤ tt, lit≤ tt, c.requires.0)
 
 pub overflow_add-end : goal.overflow_add-end
 unfolding layout_of host
@@ -55,11 +54,10 @@ slice_bounds-write_host-end c = omega (arith, inside (goal.at.slice_bounds-write
 
 pub write_host-requires : goal.write_host-requires
 unfolding host
-write_host-requires c =
-     (
-      (part-size c.args.out.now c.place_of-at.result 32 (inside (goal.at.write_host-requires c).After-place_of-at), c.requires.1, omega (arith, roomy-here (goal.at.write_host-requires c).After-place_of-at)),
-      omega (arith, c.requires.2, c.ended_len-written.ensures),
-    )
+write_host-requires c = (
+  (part-size c.args.out.now c.place_of-at.result 32 (inside (goal.at.write_host-requires c).After-place_of-at), c.requires.1, omega (arith, roomy-here (goal.at.write_host-requires c).After-place_of-at)),
+  omega (arith, c.requires.2, c.ended_len-written.ensures),
+)
 
 pub lay_text-requires : goal.lay_text-requires
 lay_text-requires c =

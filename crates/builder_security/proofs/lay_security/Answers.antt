@@ -13,7 +13,6 @@ use Rattle.builder_state.proofs.Laws.{in-limit, used-bounds}
 use Rattle.builder_record.proofs.FillLaws.{security-free}
 use Rattle.builder_record.proofs.LayLaws.{part-size, part-stored, roomy, laid-refused, laid_done, six-long}
 use Rattle.builder_security.proofs.Laws.{security-size, security-record, security-heap}
-use borrow.Author.Rules.{rules}
 use Rattle.builder_security.proofs.lay_security.Goals.{After-place_of-at}
 use Rattle.builder_security.proofs.lay_security.Goals as goal
 
@@ -37,7 +36,7 @@ unfolding layout_of security
 inside c = omega (arith, roomy-here c, c.place_of-at.ensures.1)
 
 pub overflow_add-used : goal.overflow_add-used
-overflow_add-used c =  let v = used-bounds c.args.state 5 c.requires.state_value.0 in omega (arith, v, c.requires)
+overflow_add-used c = let v = used-bounds c.args.state 5 c.requires.state_value.0 in omega (arith, v, c.requires)
 
 pub returns-then-room-ne0 : goal.returns-then-room-ne0
 returns-then-room-ne0 c =
@@ -51,7 +50,7 @@ returns-then-room-ne0 c =
     c.refused.ensures.1
 
 pub place_of-at-requires : goal.place_of-at-requires
-place_of-at-requires c =  (lit≤ tt, lit≤ tt, c.requires.state_value.0)
+place_of-at-requires c = (lit≤ tt, lit≤ tt, c.requires.state_value.0)
 
 pub overflow_add-end : goal.overflow_add-end
 unfolding layout_of security
@@ -62,16 +61,15 @@ slice_bounds-write_security-end c = omega (arith, inside (goal.at.slice_bounds-w
 
 pub write_security-requires : goal.write_security-requires
 unfolding security
-write_security-requires c =
-     (
-      (part-size c.args.out.now c.place_of-at.result 64 (inside (goal.at.write_security-requires c).After-place_of-at), c.requires.state_value.1, omega (arith, roomy-here (goal.at.write_security-requires c).After-place_of-at)),
-      c.requires.algorithms_len_bound.0,
-      c.requires.algorithms_len_bound.1,
-      c.requires.algorithms_len_bound.2,
-      c.requires.algorithms_len_bound.3,
-      c.requires.algorithms_len_bound.4,
-      c.requires.algorithms_len_bound.5,
-    )
+write_security-requires c = (
+  (part-size c.args.out.now c.place_of-at.result 64 (inside (goal.at.write_security-requires c).After-place_of-at), c.requires.state_value.1, omega (arith, roomy-here (goal.at.write_security-requires c).After-place_of-at)),
+  c.requires.algorithms_len_bound.0,
+  c.requires.algorithms_len_bound.1,
+  c.requires.algorithms_len_bound.2,
+  c.requires.algorithms_len_bound.3,
+  c.requires.algorithms_len_bound.4,
+  c.requires.algorithms_len_bound.5,
+)
 
 pub lay_pieces-requires : goal.lay_pieces-requires
 lay_pieces-requires c =

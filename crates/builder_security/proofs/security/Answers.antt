@@ -13,7 +13,6 @@ use native.Mathlib.Omega.{arith}
 use Rattle.table.specs.declared.Need.{Need}
 use Rattle.table.specs.Objects.{under}
 use Rattle.builder_security.specs.SecurityFaults.{security_fault}
-use borrow.Author.Rules.{rules}
 use Rattle.builder_security.proofs.security.Goals.{After-judged-answer, After-kept-6}
 use Rattle.builder_security.proofs.security.Goals as goal
 
@@ -126,14 +125,17 @@ lay_security-requires c =
     c.mark_64-marked.result c.args.algorithms.now c.args.protocols.now c.args.ciphers.now
     c.args.groups.now c.args.hashes.now c.args.keypath.now c.judged-answer.result
     c.mark_64-marked.ensures.0 (judged-is (goal.at.lay_security-requires c).After-judged-answer) c.if-answer-ne0.false in
-    let k = (goal.at.lay_security-requires c).After-kept-6 in record { state_value = (p.0, c.mark_64-marked.ensures.2); algorithms_len_bound = (
+    let k = (goal.at.lay_security-requires c).After-kept-6 in record {
+      state_value = (p.0, c.mark_64-marked.ensures.2);
+      algorithms_len_bound = (
         rw (algorithms-kept k) p.1,
         rw (protocols-kept k) p.2,
         rw (ciphers-kept k) p.3,
         rw (groups-kept k) p.4,
         rw (hashes-kept k) p.5,
         rw (keypath-kept k) p.6,
-      ); }
+      );
+    }
 
 pub returns : goal.returns
 returns c =

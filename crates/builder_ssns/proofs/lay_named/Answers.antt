@@ -11,7 +11,6 @@ use Rattle.bytes_writer.proofs.StoreLaws.{concat, splice-join}
 use Rattle.builder_record.proofs.LayLaws.{six-long}
 use Rattle.builder_ssns.specs.SsnsParts.{extended_part, named_part}
 use Rattle.builder_ssns.proofs.Laws.{three-then}
-use borrow.Author.Rules.{rules}
 use Rattle.builder_ssns.proofs.lay_named.Goals as goal
 
 -- the first three objects
@@ -52,13 +51,12 @@ overflow_add-at-4 c = omega (
 
 pub lay_extended-requires : goal.lay_extended-requires
 unfolding limit
-lay_extended-requires c =
-     (
-      c.requires.extended_len.0,
-      c.requires.extended_len.1,
-      omega (arith, c.requires.path_bound, c.ended_len.ensures),
-      omega (arith, c.requires.path_bound, c.ended_len.ensures, c.lay_text.auto.out, c.lay_pieces.auto.out),
-    )
+lay_extended-requires c = (
+  c.requires.extended_len.0,
+  c.requires.extended_len.1,
+  omega (arith, c.requires.path_bound, c.ended_len.ensures),
+  omega (arith, c.requires.path_bound, c.ended_len.ensures, c.lay_text.auto.out, c.lay_pieces.auto.out),
+)
 
 pub returns : goal.returns
 unfolding named_part

@@ -18,7 +18,6 @@ use Rattle.builder_record.proofs.FillLaws.{ssns-free}
 use Rattle.builder_record.proofs.LayLaws.{part-size, part-stored, roomy, laid-refused, laid_done}
 use Rattle.builder_ssns.specs.SsnsParts.{ssns_slots, named_part, laid_ssns}
 use Rattle.builder_ssns.proofs.Laws.{Laid, ssns-laid, extended-room, ended-under}
-use borrow.Author.Rules.{rules}
 use Rattle.builder_ssns.proofs.lay_ssns.Goals.{After-ended_len-path_len, After-place_of-at}
 use Rattle.builder_ssns.proofs.lay_ssns.Goals as goal
 
@@ -126,30 +125,31 @@ slice_bounds-write_ssns-end c = omega (arith, inside (goal.at.slice_bounds-write
 
 pub write_ssns-requires : goal.write_ssns-requires
 unfolding ssns
-write_ssns-requires c =
-     (
-      (
-        part-size c.args.out.now c.place_of-at.result 128 (inside (goal.at.write_ssns-requires c).After-place_of-at),
-        c.requires.state_value.1,
-        omega (arith, roomy-here (goal.at.write_ssns-requires c).After-place_of-at),
-      ),
-      c.requires.address_len_bound.0,
-      c.requires.address_len_bound.1,
-      c.requires.address_len_bound.2,
-      omega (arith, c.requires.address_len_bound.3, c.ended_len-nqn_len.ensures),
-      omega (arith, c.own_size-size.ensures.1),
-      path-short (goal.at.write_ssns-requires c).After-ended_len-path_len,
-    )
+write_ssns-requires c = (
+  (
+    part-size c.args.out.now c.place_of-at.result 128 (inside (goal.at.write_ssns-requires c).After-place_of-at),
+    c.requires.state_value.1,
+    omega (arith, roomy-here (goal.at.write_ssns-requires c).After-place_of-at),
+  ),
+  c.requires.address_len_bound.0,
+  c.requires.address_len_bound.1,
+  c.requires.address_len_bound.2,
+  omega (arith, c.requires.address_len_bound.3, c.ended_len-nqn_len.ensures),
+  omega (arith, c.own_size-size.ensures.1),
+  path-short (goal.at.write_ssns-requires c).After-ended_len-path_len,
+)
 
 pub lay_named-requires : goal.lay_named-requires
 unfolding limit
 lay_named-requires c =
     let x = extended-room c.own_need-need.result c.own_size-size.result (ended text c.kept-own.result.now) c.own_size-size.ensures.0 in
     let r = roomy-here (goal.at.lay_named-requires c).After-place_of-at in record {
-      extended_len = (c.requires.state_value.2, omega (arith, path-short (goal.at.lay_named-requires c).After-ended_len-path_len, c.ended_len-path_len.ensures)); path_bound = (
+      extended_len = (c.requires.state_value.2, omega (arith, path-short (goal.at.lay_named-requires c).After-ended_len-path_len, c.ended_len-path_len.ensures));
+      path_bound = (
         omega (arith, x, r, c.ended_len-nqn_len.ensures, c.ended_len-path_len.ensures),
         omega (arith, x, r, c.ended_len-nqn_len.ensures, c.ended_len-path_len.ensures),
-      ); }
+      );
+    }
 
 pub stepped-requires : goal.stepped-requires
 stepped-requires c = in-limit _ (roomy-here (goal.at.stepped-requires c).After-place_of-at).1

@@ -1,7 +1,6 @@
 use Rattle.builder_ssns.proofs.Laws.{not_own, is-own}
 use Rattle.table.specs.FixedLayouts.{ssns}
 use Rattle.laws.specs.Fields.{image_in}
-use borrow.Author.Rules.{rules}
 use Rattle.builder_ssns.proofs.own_need.Goals as goal
 
 pub returns-then-ssns_flags-eq0 : goal.returns-then-ssns_flags-eq0

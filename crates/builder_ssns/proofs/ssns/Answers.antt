@@ -9,7 +9,6 @@ use Prim.Native.Nat.{ℕ}
 use Rattle.table.specs.FixedLayouts.{layout_of, ssns, extended}
 use Rattle.builder_ssns.specs.SsnsParts.{ssns_fault}
 use Rattle.builder_ssns.proofs.Laws.{ssns-refused, ssns-passed, ssns-done}
-use borrow.Author.Rules.{rules}
 use Rattle.builder_ssns.proofs.ssns.Goals.{After-judged-answer}
 use Rattle.builder_ssns.proofs.ssns.Goals as goal
 
@@ -57,7 +56,7 @@ lay_ssns-requires c =
     c.args.address.now c.args.service.now c.args.others.now c.args.nqn.now
     c.args.extended.bytes c.mark_18-marked_extended.result c.args.path.now c.judged-answer.result
     c.mark_128-marked.ensures.0 c.mark_18-marked_extended.ensures.0 (judged-is (goal.at.lay_ssns-requires c).After-judged-answer) c.if-answer-ne0.false in
-    record { state_value = (p.0, c.mark_128-marked.ensures.2, c.mark_18-marked_extended.ensures.2); address_len_bound = (p.1, p.2, p.3, p.4, p.5); }
+    record { state_value = (p.0, c.mark_128-marked.ensures.2, c.mark_18-marked_extended.ensures.2); address_len_bound = (p.1, p.2, p.3, p.4, p.5) }
 
 pub returns : goal.returns
 returns c =

@@ -3,7 +3,6 @@ use Rattle.builder_state.proofs.Laws.{none}
 use lib.Dec.{lit≤}
 use native.Mathlib.Omega.{arith}
 use Rattle.table.specs.FixedLayouts.{hfi, ssns, security, discovery}
-use borrow.Author.Rules.{rules}
 use Rattle.builder_state.proofs.count_of.Goals as goal
 
 pub returns-in-3 : goal.returns-in-3

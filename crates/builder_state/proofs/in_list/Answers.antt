@@ -2,7 +2,6 @@ use mathlib.Core.Path.{refl}
 use borrow.Author.Tests.{lt-leb}
 use Rattle.builder_state.proofs.Laws.{in-list-is}
 use native.Mathlib.Omega.{arith}
-use borrow.Author.Rules.{rules}
 use Rattle.builder_state.proofs.in_list.Goals as goal
 
 pub returns-then-position-lt1 : goal.returns-then-position-lt1

@@ -1,6 +1,5 @@
 use mathlib.Core.Path.{refl}
 use borrow.Author.Tests.{ne_eqb}
-use borrow.Author.Rules.{rules}
 use Rattle.builder_state.proofs.in_place.Goals as goal
 
 pub returns-then-kind-eq-HOST : goal.returns-then-kind-eq-HOST

@@ -2,7 +2,6 @@ use mathlib.Core.Path.{refl}
 use borrow.Author.Tests.{ne_eqb}
 use Rattle.builder_state.specs.Turns.{later_turn}
 use Rattle.table.specs.FixedLayouts.{hfi, ssns, security, discovery}
-use borrow.Author.Rules.{rules}
 use Rattle.builder_state.proofs.later_list.Goals as goal
 
 pub returns-in-2 : goal.returns-in-2

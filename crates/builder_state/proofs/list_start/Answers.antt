@@ -1,7 +1,6 @@
 use borrow.Author.Tests.{ne_eqb}
 use native.Mathlib.Omega.{arith}
 use Rattle.table.specs.FixedLayouts.{hfi, ssns, security, discovery}
-use borrow.Author.Rules.{rules}
 use Rattle.builder_state.proofs.list_start.Goals as goal
 
 pub returns-in-3 : goal.returns-in-3

@@ -3,7 +3,6 @@ use mathlib.Core.Path.{◌≡◌, ap, ◌∙◌}
 use Prim.Native.Nat.{ℕ, ◌+◌, ◌-◌, ◌*◌}
 use Rattle.table.specs.FixedLayouts.{layout_of}
 use native.Mathlib.Omega.{arith}
-use borrow.Author.Rules.{rules}
 use Rattle.builder_state.proofs.place_of.Goals as goal
 
 pub returns-then-kind-eq-ID : goal.returns-then-kind-eq-ID

@@ -1,7 +1,6 @@
 use Rattle.table.specs.Builder.{records_end}
 use native.Mathlib.Omega.{arith}
 use Rattle.table.specs.FixedLayouts.{hfi, ssns, security, discovery}
-use borrow.Author.Rules.{rules}
 use Rattle.builder_state.proofs.records_end.Goals as goal
 
 pub returns : goal.returns

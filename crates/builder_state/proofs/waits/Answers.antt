@@ -3,7 +3,6 @@ use borrow.Author.Tests.{ne_eqb}
 use Rattle.table.specs.Builder.{waits}
 use Rattle.builder_state.proofs.Laws.{not-in-place, too-low, too-high, waits-for}
 use native.Mathlib.Omega.{arith}
-use borrow.Author.Rules.{rules}
 use Rattle.builder_state.proofs.waits.Goals as goal
 
 pub returns-then-state-kind : goal.returns-then-state-kind

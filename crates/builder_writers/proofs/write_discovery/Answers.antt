@@ -4,7 +4,6 @@ use Rattle.table.specs.FixedLayouts.{layout_of, discovery}
 use Rattle.bytes_writer.specs.Stores.{stores_from}
 use Rattle.builder_writers.specs.Written.{record_with}
 use Rattle.builder_writers.proofs.WriterLaws.{same-record, six-narrow}
-use borrow.Author.Rules.{rules}
 use Rattle.builder_writers.proofs.write_discovery.Goals as goal
 
 pub write_record-requires : goal.write_record-requires

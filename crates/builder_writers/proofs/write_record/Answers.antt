@@ -7,14 +7,16 @@ use Rattle.table.specs.Bytes.{apply}
 use Prim.Native.Nat.{ℕ}
 use mathlib.Core.List.{List}
 use mathlib.Core.Path.{sym, ap, ◌∙◌}
-use borrow.Author.Rules.{rules}
 use Rattle.builder_writers.proofs.write_record.Goals as goal
 
 pub put_refs-requires : goal.put_refs-requires
 put_refs-requires c =
     let a = c.args in
-    let o = c.reference_offsets in record { room = refs-room a.kind o.result.at a.sizes.span o.result.count _ o.ensures.0 o.ensures.1
-          o.ensures.2 c.requires.1 (c.put_image.auto.out ∙ c.requires.0.0); heap_bound = c.requires.0.2; }
+    let o = c.reference_offsets in record {
+      room = refs-room a.kind o.result.at a.sizes.span o.result.count _ o.ensures.0 o.ensures.1
+          o.ensures.2 c.requires.1 (c.put_image.auto.out ∙ c.requires.0.0);
+      heap_bound = c.requires.0.2;
+    }
 
 pub returns : goal.returns
 returns c =

@@ -2,7 +2,6 @@ use Rattle.c_reads.proofs.Laws.{field_fits}
 use Rattle.c_answers.specs.Packed.{packed_field, value_after}
 use native.Mathlib.Omega.{arith}
 use mathlib.Core.Path.{ap, ◌∙◌}
-use borrow.Author.Rules.{rules}
 use Rattle.c_reads.proofs.field.Goals as goal
 
 pub pack_field-requires : goal.pack_field-requires

@@ -2,7 +2,6 @@ use Rattle.c_reads.proofs.Laws.{place-fits}
 use Rattle.c_answers.specs.Packed.{packed_place}
 use native.Mathlib.Omega.{arith}
 use mathlib.Core.Path.{ap, ◌∙◌}
-use borrow.Author.Rules.{rules}
 use Rattle.c_reads.proofs.object.Goals as goal
 
 pub pack_place-requires : goal.pack_place-requires

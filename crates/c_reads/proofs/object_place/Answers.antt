@@ -2,8 +2,6 @@ use Rattle.c_reads.specs.PackedReads.{packed_span}
 use Rattle.c_reads.proofs.Laws.{place-fits, place-told}
 use native.Mathlib.Omega.{arith}
 use mathlib.Core.Path.{ap, ◌∙◌}
-use Rattle.table.proofs.Rules.{picks}
-use borrow.Author.Rules.{rules}
 use Rattle.c_reads.proofs.object_place.Goals as goal
 
 pub pack_pair-requires : goal.pack_pair-requires

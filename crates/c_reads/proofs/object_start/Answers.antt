@@ -2,7 +2,6 @@ use Rattle.c_reads.proofs.Laws.{place-fits}
 use Rattle.table.specs.declared.Place.{Place}
 use native.Mathlib.Omega.{arith}
 use mathlib.Core.Path.{ap}
-use borrow.Author.Rules.{rules}
 use Rattle.c_reads.proofs.object_start.Goals as goal
 
 pub overflow_cast-result : goal.overflow_cast-result

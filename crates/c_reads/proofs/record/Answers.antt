@@ -3,10 +3,7 @@ use Rattle.reads_whole.specs.Whole.{entry_after}
 use Rattle.c_answers.specs.Packed.{packed}
 use Rattle.table.specs.declared.Answer.{Answer}
 use native.Mathlib.Omega.{arith}
-use mathlib.Core.List.{List}
 use mathlib.Core.Path.{ap, ◌∙◌}
-use Rattle.table.proofs.Rules.{picks}
-use borrow.Author.Rules.{rules}
 use Rattle.c_reads.proofs.record.Goals as goal
 
 pub pack-requires : goal.pack-requires

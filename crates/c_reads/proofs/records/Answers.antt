@@ -3,8 +3,6 @@ use Rattle.c_reads.proofs.Laws.{records-fit}
 use lib.ListN.{length}
 use native.Mathlib.Omega.{arith}
 use mathlib.Core.Path.{ap, ◌∙◌}
-use Rattle.table.proofs.Rules.{picks}
-use borrow.Author.Rules.{rules}
 use Rattle.c_reads.proofs.records.Goals as goal
 
 pub pack_pair-requires : goal.pack_pair-requires

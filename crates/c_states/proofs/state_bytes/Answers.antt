@@ -1,6 +1,5 @@
 use Rattle.c_states.specs.States.{state_bytes}
 use mathlib.Core.Path.{refl}
-use borrow.Author.Rules.{rules}
 use Rattle.c_states.proofs.state_bytes.Goals as goal
 
 pub returns : goal.returns

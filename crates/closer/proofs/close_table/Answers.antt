@@ -1,6 +1,6 @@
 use mathlib.Core.Path.{◌≡◌, sym, ap, ap₂, ◌∙◌}
 use mathlib.Core.List.{List}
-use Prim.Native.Nat.{ℕ, ◌+◌, ◌-◌, ◌*◌, ◌≤◌, ◌<◌}
+use Prim.Native.Nat.{ℕ, ◌+◌, ◌-◌, ◌≤◌}
 use native.Mathlib.Omega.{arith}
 use lib.ListN.{length, take, drop}
 use Rattle.table.specs.Bytes.{num}
@@ -11,14 +11,6 @@ use Rattle.layout_images.proofs.Laws.{part-long}
 use Rattle.reader.proofs.AcceptedLaws.{checked, laid}
 use Rattle.bytes_bits.specs.Bits.{bits_below, marked}
 use Rattle.closer.proofs.Laws.{closed_of, heap-closed, heap-fits, kept-is, kept-ones, long-enough, moved-is, stored-long}
-use Rattle.table.proofs.Rules.{picks}
-use borrow.Author.Rules.{rules}
-use Rattle.closer.proofs.close_table.Reads as reads
-use Rattle.bytes_bits.proofs.ones_below.Reads as ones-below-reads
-use Rattle.bytes_wire.proofs.u32_at.Reads as u32-at-reads
-use Rattle.closer.proofs.finish.Reads as finish-reads
-use Rattle.closer_slide.proofs.close_up.Reads as close-up-reads
-use Rattle.closer_stores.proofs.store_sites.Reads as store-sites-reads
 use Rattle.closer.proofs.close_table.Goals.{After-ones_below-kept, After-slice_known-1}
 use Rattle.closer.proofs.close_table.Goals as goal
 
@@ -63,13 +55,13 @@ module _ (c : After-ones_below-kept) (is-bytes : Bytes c.args.t.now) where
       ∙ ap₂ (λ (x : List ℕ) (j : ℕ). ones (marked x) j) (sym c.requires.3) (sym lent-long)
 
 pub u32_at-length-requires : goal.u32_at-length-requires
-u32_at-length-requires c =  omega (arith, (laid c.args.t.now c.requires.0).lent)
+u32_at-length-requires c = omega (arith, (laid c.args.t.now c.requires.0).lent)
 
 pub u32_at-start-requires : goal.u32_at-start-requires
-u32_at-start-requires c =  omega (arith, (laid c.args.t.now c.requires.0).lent)
+u32_at-start-requires c = omega (arith, (laid c.args.t.now c.requires.0).lent)
 
 pub u32_at-size-requires : goal.u32_at-size-requires
-u32_at-size-requires c =  omega (arith, (laid c.args.t.now c.requires.0).lent)
+u32_at-size-requires c = omega (arith, (laid c.args.t.now c.requires.0).lent)
 
 pub ones_below-kept-requires : goal.ones_below-kept-requires
 unfolding heap_in

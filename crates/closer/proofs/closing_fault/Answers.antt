@@ -5,17 +5,10 @@ use Rattle.table.specs.Bytes.{num}
 use Rattle.table.specs.Numbers.{heap_in}
 use Rattle.reader.proofs.AcceptedLaws.{laid}
 use Rattle.closer.proofs.Laws.{none-shared, one-shared, small-map}
-use Rattle.table.proofs.Rules.{picks}
-use borrow.Author.Rules.{rules}
-use Rattle.closer.proofs.closing_fault.Reads as reads
-use Rattle.bytes_wire.proofs.u32_at.Reads as u32-at-reads
-use Rattle.closer_marks.proofs.overlaps.is_overlapped.Reads as is-overlapped-reads
-use Rattle.table.proofs.done.Reads as done-reads
-use Rattle.table.proofs.refuse.Reads as refuse-reads
 use Rattle.closer.proofs.closing_fault.Goals as goal
 
 pub u32_at-size-requires : goal.u32_at-size-requires
-u32_at-size-requires c =  omega (arith, (laid c.args.t.now c.requires).lent)
+u32_at-size-requires c = omega (arith, (laid c.args.t.now c.requires).lent)
 
 pub returns-then-room-size : goal.returns-then-room-size
 unfolding heap_in

@@ -13,14 +13,6 @@ use Rattle.reads_seats.proofs.ObjectLaws.{accepted}
 use Rattle.bytes_bits.specs.MapLaws.{length-map}
 use Rattle.closing_laws.specs.Calls.{closes}
 use Rattle.closer.proofs.Laws.{all_done, all-refused, by-check, by-fault}
-use Rattle.table.proofs.Rules.{picks}
-use borrow.Author.Rules.{rules}
-use Rattle.closer.proofs.compact.Reads as reads
-use Rattle.closer.proofs.close_table.Reads as close-table-reads
-use Rattle.closer.proofs.closing_fault.Reads as closing-fault-reads
-use Rattle.closer.proofs.mark_map.Reads as mark-map-reads
-use Rattle.closer.proofs.refused.Reads as refused-reads
-use Rattle.reader.proofs.check.Reads as check-reads
 use Rattle.closer.proofs.compact.Goals.{Else-fault-ne0}
 use Rattle.closer.proofs.compact.Goals as goal
 
@@ -49,7 +41,7 @@ returns-then-judged-ne0 c =
     let no : (check t).number ≡ 0 → ⊥ = λ z. c.if-judged-ne0.true (ap (λ (a : Answer). a.number) j ∙ z) in
     let e = by-check t (length m) no in
     let r = all-refused t m (λ z. no (sym (ap (λ (a : Answer). a.number) e) ∙ z)) in
-    record { answer_value = (c.refused.ensures.0 ∙ j ∙ sym e, c.refused.ensures.1 ∙ r.0, omega (arith, c.refused.ensures.1)); t_after = (r.1, r.2); }
+    record { answer_value = (c.refused.ensures.0 ∙ j ∙ sym e, c.refused.ensures.1 ∙ r.0, omega (arith, c.refused.ensures.1)); t_after = (r.1, r.2) }
 
 pub closing_fault-fault-requires : goal.closing_fault-fault-requires
 closing_fault-fault-requires c =
@@ -90,4 +82,4 @@ returns c =
     let e = same_answer (goal.at.returns c).Else-fault-ne0 in
     let d = all_done t m (sym (ap (λ (a : Answer). a.number) e) ∙ c.if-fault-ne0.false) in
     let k = c.close_table.ensures in
-    record { answer_value = (e, k.0 ∙ d.0, k.1); t_after = (k.2 ∙ d.1, c.mark_map.ensures ∙ d.2); }
+    record { answer_value = (e, k.0 ∙ d.0, k.1); t_after = (k.2 ∙ d.1, c.mark_map.ensures ∙ d.2) }

@@ -4,12 +4,6 @@ use Prim.Native.Nat.{ℕ}
 use lib.ListN.{take}
 use Rattle.table.specs.Bytes.{checksum, splice}
 use Rattle.table.specs.Closing.{mended}
-use Rattle.table.proofs.Rules.{picks}
-use borrow.Author.Rules.{rules}
-use Rattle.closer.proofs.finish.Reads as reads
-use Rattle.bytes_writer.proofs.checksum.seal.Reads as seal-reads
-use Rattle.bytes_writer.proofs.stores.put_u32.Reads as put-u32-reads
-use Rattle.bytes_writer.proofs.stores.put_u8.Reads as put-u8-reads
 use Rattle.closer.proofs.finish.Goals as goal
 
 pub returns : goal.returns

@@ -4,11 +4,6 @@ use native.Mathlib.Omega.{arith}
 use lib.ListN.{length, replicate, length-replicate}
 use Rattle.table.specs.Closing.{map_of, marks}
 use Rattle.closer.proofs.Laws.{all-zero}
-use Rattle.table.proofs.Rules.{picks}
-use borrow.Author.Rules.{rules}
-use Rattle.closer.proofs.mark_map.Reads as reads
-use Rattle.bytes_writer.proofs.stores.fill_zero.Reads as fill-zero-reads
-use Rattle.closer_marks.proofs.marks.mark_sites.Reads as mark-sites-reads
 use Rattle.closer.proofs.mark_map.Goals as goal
 
 pub mark_sites-requires : goal.mark_sites-requires

@@ -1,6 +1,4 @@
 use mathlib.Core.Path.{refl}
-use Rattle.table.proofs.Rules.{picks}
-use Rattle.closer_sites.proofs.held_kind.Reads as reads
 use Rattle.closer_sites.proofs.held_kind.Goals as goal
 
 pub returns-in-7 : goal.returns-in-7

@@ -7,11 +7,6 @@ use Rattle.reads_seats.specs.declared.seats.Seat.{Seat}
 use Rattle.reads_seats.specs.Seats.{nest_at}
 use Rattle.closer_sites.specs.Walk.{len_at}
 use Rattle.closer_sites.proofs.Laws.{held-len, len_of}
-use Rattle.table.proofs.Rules.{picks}
-use borrow.Author.Rules.{rules}
-use Rattle.closer_sites.proofs.held_len.Reads as reads
-use Rattle.bytes_wire.proofs.reference_at.Reads as reference-at-reads
-use Rattle.reads_seats.proofs.seats.heap_record.Reads as heap-record-reads
 use Rattle.closer_sites.proofs.held_len.Goals as goal
 
 pub returns-in-Nowhere : goal.returns-in-Nowhere

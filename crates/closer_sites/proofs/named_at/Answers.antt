@@ -1,6 +1,6 @@
 use mathlib.Core.Path.{◌≡◌, ap, ◌∙◌}
 use mathlib.Core.Bool.{true}
-use Prim.Native.Nat.{ℕ, ◌+◌, ◌≤◌, ◌<◌}
+use Prim.Native.Nat.{◌+◌, ◌≤◌, ◌<◌}
 use native.Mathlib.Omega.{arith}
 use lib.ListN.{length}
 use Rattle.table.specs.declared.Region.{Region}
@@ -9,14 +9,6 @@ use Rattle.table.specs.Reads.{has_plain}
 use Rattle.laws.specs.ListWalk.{refs-within}
 use Rattle.layout_kinds.specs.References.{object_refs}
 use Rattle.closer_sites.proofs.Laws.{named-held, named-object, nest_last, object-len, plain_at}
-use Rattle.table.proofs.Rules.{picks}
-use borrow.Author.Rules.{rules}
-use Rattle.closer_sites.proofs.named_at.Reads as reads
-use Rattle.bytes_wire.proofs.reference_at.Reads as reference-at-reads
-use Rattle.closer_sites.proofs.held_kind.Reads as held-kind-reads
-use Rattle.closer_sites.proofs.held_len.Reads as held-len-reads
-use Rattle.layout_kinds.proofs.object_count.Reads as object-count-reads
-use Rattle.reads_by_seat.proofs.objects.object_len.Reads as object-len-reads
 use Rattle.closer_sites.proofs.named_at.Goals.{Start}
 use Rattle.closer_sites.proofs.named_at.Goals as goal
 

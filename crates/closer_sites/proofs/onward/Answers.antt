@@ -1,9 +1,6 @@
 use native.Mathlib.Omega.{arith}
 use Rattle.closer_sites.specs.Walk.{onward_of}
 use Rattle.table.proofs.Rules.{picks}
-use borrow.Author.Rules.{rules}
-use Rattle.closer_sites.proofs.onward.Reads as reads
-use Rattle.closer_sites.proofs.walk_of.Reads as walk_of-reads
 use Rattle.closer_sites.proofs.onward.Goals as goal
 
 pub overflow_add-w : goal.overflow_add-w

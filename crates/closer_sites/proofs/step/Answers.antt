@@ -4,14 +4,6 @@ use lib.Dec.{lit<}
 use Rattle.laws.specs.RefWalk.{lists_at_lem}
 use Rattle.closer_sites.specs.Walk.{onward_of, step}
 use Rattle.closer_sites.proofs.Laws.{step-record, step-reference}
-use Rattle.table.proofs.Rules.{picks}
-use borrow.Author.Rules.{rules}
-use Rattle.closer_sites.proofs.step.Reads as reads
-use Rattle.closer_sites.proofs.named_at.Reads as named-at-reads
-use Rattle.closer_sites.proofs.none_named.Reads as none-named-reads
-use Rattle.closer_sites.proofs.onward.Reads as onward-reads
-use Rattle.closer_sites.proofs.to_record.Reads as to-record-reads
-use Rattle.layout_kinds.proofs.reference_offsets.Reads as reference-offsets-reads
 use Rattle.closer_sites.proofs.step.Goals as goal
 
 pub named_at-named-requires : goal.named_at-named-requires

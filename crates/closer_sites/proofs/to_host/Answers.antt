@@ -11,14 +11,6 @@ use Rattle.table.specs.FixedLayouts.{host, layout_of}
 use Rattle.laws.specs.Fields.{image_in}
 use Rattle.layout_images.proofs.Laws.{image-own, part-long}
 use Rattle.closer_sites.specs.Walk.{first_of, host_of, walk}
-use Rattle.table.proofs.Rules.{picks}
-use borrow.Author.Rules.{rules}
-use Rattle.closer_sites.proofs.to_host.Reads as reads
-use Rattle.bytes_wire.proofs.reference_at.Reads as reference-at-reads
-use Rattle.closer_sites.proofs.first_of.Reads as first-of-reads
-use Rattle.closer_sites.proofs.walk_of.Reads as walk_of-reads
-use Rattle.reads_seats.proofs.lent.part_of.Reads as part-of-reads
-use Rattle.reads_seats.proofs.seats.is_used.Reads as is-used-reads
 use Rattle.closer_sites.proofs.to_host.Goals.{After-reference_at-at}
 use Rattle.closer_sites.proofs.to_host.Goals as goal
 

@@ -1,15 +1,8 @@
 use mathlib.Core.Path.{◌≡◌, sym, ap, ◌∙◌}
 use native.Mathlib.Omega.{arith}
-use Prim.Native.Nat.{ℕ, ◌+◌, ◌*◌}
+use Prim.Native.Nat.{◌+◌, ◌*◌}
 use Rattle.closer_sites.specs.Walk.{walk}
 use Rattle.closer_sites.proofs.Laws.{list-in, list-to, seat_walk}
-use Rattle.table.proofs.Rules.{picks}
-use borrow.Author.Rules.{rules}
-use Rattle.closer_sites.proofs.to_listed.Reads as reads
-use Rattle.bytes_wire.proofs.wide.Reads as wide-reads
-use Rattle.closer_sites.proofs.first_of.Reads as first-of-reads
-use Rattle.closer_sites.proofs.walk_of.Reads as walk_of-reads
-use Rattle.reads_seats.proofs.seats.list_seat.Reads as list-seat-reads
 use Rattle.closer_sites.proofs.to_listed.Goals as goal
 
 pub list_seat-seat-requires : goal.list_seat-seat-requires

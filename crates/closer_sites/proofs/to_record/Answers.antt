@@ -1,9 +1,5 @@
 use Rattle.closer_sites.specs.Walk.{record_of}
 use Rattle.table.proofs.Rules.{picks}
-use borrow.Author.Rules.{rules}
-use Rattle.closer_sites.proofs.to_record.Reads as reads
-use Rattle.closer_sites.proofs.to_host.Reads as to-host-reads
-use Rattle.closer_sites.proofs.to_listed.Reads as to-listed-reads
 use Rattle.closer_sites.proofs.to_record.Goals as goal
 
 pub returns-then-w-eq-ID : goal.returns-then-w-eq-ID

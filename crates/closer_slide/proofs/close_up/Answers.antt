@@ -1,4 +1,4 @@
-use mathlib.Core.Path.{◌≡◌, ap, ap₂, ◌∙◌}
+use mathlib.Core.Path.{ap, ap₂, ◌∙◌}
 use mathlib.Core.List.{List}
 use Prim.Native.Nat.{ℕ, ◌-◌}
 use native.Mathlib.Omega.{arith}
@@ -7,11 +7,6 @@ use Rattle.table.specs.Bytes.{splice}
 use Rattle.bytes_bits.specs.Bits.{marked}
 use Rattle.closing_laws.specs.SlidLaws.{ones-upto}
 use Rattle.closing_laws.specs.SlideLaws.{slid-zeroed, slid_to}
-use Rattle.table.proofs.Rules.{picks}
-use borrow.Author.Rules.{rules}
-use Rattle.closer_slide.proofs.close_up.Reads as reads
-use Rattle.bytes_writer.proofs.stores.fill_zero.Reads as fill-zero-reads
-use Rattle.closer_slide.proofs.slide.Reads as slide-reads
 use Rattle.closer_slide.proofs.close_up.Goals as goal
 
 pub overflow_sub-freed : goal.overflow_sub-freed
@@ -27,7 +22,10 @@ returns c =
     let xs = c.args.heap.now in
     let f = marked c.args.map.now in
     let k = c.requires.1 in
-    let e = c.slide-moved.ensures in record { heap_after = c.fill_zero.ensures
+    let e = c.slide-moved.ensures in record {
+      heap_after = c.fill_zero.ensures
           ∙ ap (λ (ys : List ℕ). splice ys c.args.kept (replicate (length c.slide-moved.new.heap - c.args.kept) 0)) e.heap_after
           ∙ ap₂ (λ (m n : ℕ). splice (slid_to f (length xs) xs) n (replicate (m - n) 0)) e.value.2 k
-          ∙ slid-zeroed f xs; value = (e.value.0, e.value.1); }
+          ∙ slid-zeroed f xs;
+      value = (e.value.0, e.value.1);
+    }

@@ -1,5 +1,5 @@
 use mathlib.Core.Path.{◌≡◌, refl, sym, ap, ◌∙◌}
-use Prim.Native.Nat.{ℕ, ◌-◌, ◌≤◌, ◌<◌}
+use Prim.Native.Nat.{ℕ, ◌-◌, ◌<◌}
 use native.Mathlib.Omega.{arith}
 use mathlib.Core.Bool.{not, ◌&&◌}
 use mathlib.Core.List.{List}
@@ -11,9 +11,6 @@ use Rattle.bytes_bits.specs.Bits.{bit_at, marked}
 use Rattle.closing_laws.specs.SlideLaws.{slid_to, slid-start}
 use Rattle.closer_slide.proofs.Laws.{bit-one, length-kept, moved-next, ones-next, slid-turn}
 use Rattle.table.proofs.Rules.{picks}
-use Rattle.closer_slide.proofs.slide.Reads as reads
-use Rattle.bytes_bits.proofs.bit.Reads as bit-reads
-use Rattle.closer_slide.proofs.keep.Reads as keep-reads
 use Rattle.closer_slide.proofs.slide.Goals as goal
 
 pub loop-n-init : goal.loop-n-init
@@ -47,4 +44,4 @@ returns c =
     let xs : List ℕ = a.heap.now in
     let inv = c.loop-n.invariant in
     let e : c.loop-n.n ≡ length xs = omega (arith, inv.0, inv.2, c.loop-n-test.false) in
-    record { heap_after = inv.1 ∙ ap (λ (k : ℕ). slid_to (marked m) k xs) e; value = (inv.5 ∙ ap (moved_of (marked m)) e, omega (arith, inv.6, e), inv.2); }
+    record { heap_after = inv.1 ∙ ap (λ (k : ℕ). slid_to (marked m) k xs) e; value = (inv.5 ∙ ap (moved_of (marked m)) e, omega (arith, inv.6, e), inv.2) }

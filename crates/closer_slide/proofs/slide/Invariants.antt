@@ -1,19 +1,9 @@
-use mathlib.Core.Path.{◌≡◌, refl, sym, ap, ◌∙◌}
-use Prim.Native.Nat.{ℕ, ◌-◌, ◌≤◌, ◌<◌}
-use native.Mathlib.Omega.{arith}
-use mathlib.Core.Bool.{not, ◌&&◌}
-use mathlib.Core.List.{List}
-use lib.ListN.{length, get_or, set}
-use lib.Dec.{eqb}
-use Rattle.table.specs.Bytes.{pick}
-use Rattle.table.specs.Closing.{moved_of, one, ones}
-use Rattle.bytes_bits.specs.Bits.{bit_at, marked}
-use Rattle.closing_laws.specs.SlideLaws.{slid_to, slid-start}
-use Rattle.closer_slide.proofs.Laws.{bit-one, length-kept, moved-next, ones-next, slid-turn}
-use Rattle.table.proofs.Rules.{picks}
-use Rattle.closer_slide.proofs.slide.Reads as reads
-use Rattle.bytes_bits.proofs.bit.Reads as bit-reads
-use Rattle.closer_slide.proofs.keep.Reads as keep-reads
+use mathlib.Core.Path.{◌≡◌}
+use Prim.Native.Nat.{◌-◌, ◌≤◌}
+use lib.ListN.{length}
+use Rattle.table.specs.Closing.{moved_of, ones}
+use Rattle.bytes_bits.specs.Bits.{marked}
+use Rattle.closing_laws.specs.SlideLaws.{slid_to}
 use Rattle.closer_slide.proofs.slide.Given as goal
 
 abbrev pub invariant-loop-n : goal.invariant-loop-n

@@ -13,7 +13,6 @@ use Rattle.table.specs.Bytes.{num}
 use Rattle.table.specs.Numbers.{heap_in}
 use Rattle.reader_frame.specs.Bounds.{LaidOut}
 use Rattle.closer_stores.proofs.TurnLaws.{Turn, put, turn_end, turn-first, turn-found, turn-length, turn-less, turn-next, turn-open, turn_step}
-use Rattle.table.proofs.Rules.{picks}
 use Rattle.closer_stores.proofs.store_sites.Goals.{After-slice_known-1, In-loop-w}
 use Rattle.closer_stores.proofs.store_sites.Goals as goal
 

@@ -1,5 +1,4 @@
 use Prim.Native.Nat.{◌≤◌, ◌-◌}
-use Rattle.table.proofs.Rules.{picks}
 use Rattle.description.proofs.too_many.Given as goal
 
 abbrev pub invariant-loop-kind : goal.invariant-loop-kind

@@ -2,7 +2,6 @@ use native.Mathlib.Omega.{arith}
 use mathlib.Core.Path.{ap, ◌∙◌}
 use Rattle.laws.specs.Positions.{check-placed}
 use Rattle.c_answers.specs.Packed.{packed}
-use borrow.Author.Rules.{rules}
 use Rattle.nbft.proofs.nbft_check.Goals as goal
 
 pub pack-requires : goal.pack-requires

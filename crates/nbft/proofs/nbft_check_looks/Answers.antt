@@ -4,7 +4,6 @@ use Rattle.laws.specs.Fields.{Bytes}
 use Rattle.laws.specs.LookLaws.{looks-few}
 use Rattle.laws.specs.Positions.{check-placed}
 use Rattle.c_answers.specs.Packed.{packed_counted}
-use borrow.Author.Rules.{rules}
 use Rattle.nbft.proofs.nbft_check_looks.Goals as goal
 
 pub pack_counted-requires : goal.pack_counted-requires

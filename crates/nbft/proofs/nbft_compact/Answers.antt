@@ -3,7 +3,6 @@ use Rattle.c_answers.specs.Packed.{packed_counted}
 use lib.ListN.{length}
 use native.Mathlib.Omega.{arith}
 use mathlib.Core.Path.{ap₂, ◌∙◌}
-use borrow.Author.Rules.{rules}
 use Rattle.nbft.proofs.nbft_compact.Goals as goal
 
 pub pack_counted-requires : goal.pack_counted-requires
@@ -15,4 +14,4 @@ pack_counted-requires c =
 pub returns : goal.returns
 returns c =
     let e = c.compact-done.ensures in
-    record { value = c.pack_counted.ensures ∙ ap₂ packed_counted e.answer_value.0 e.answer_value.1; t_after = e.t_after; }
+    record { value = c.pack_counted.ensures ∙ ap₂ packed_counted e.answer_value.0 e.answer_value.1; t_after = e.t_after }

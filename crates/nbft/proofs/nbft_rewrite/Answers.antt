@@ -3,7 +3,6 @@ use Rattle.c_answers.specs.Packed.{packed_rewritten}
 use lib.ListN.{length}
 use native.Mathlib.Omega.{arith}
 use mathlib.Core.Path.{ap, ◌∙◌}
-use borrow.Author.Rules.{rules}
 use Rattle.nbft.proofs.nbft_rewrite.Goals as goal
 
 pub pack_rewritten-requires : goal.pack_rewritten-requires

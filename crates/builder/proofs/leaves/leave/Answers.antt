@@ -5,7 +5,6 @@ use Rattle.table.specs.declared.State.{State}
 use Rattle.table.specs.declared.Answer.{Answer}
 use mathlib.Core.Path.{sym, ap, ap₂, ◌∙◌}
 use native.Mathlib.Omega.{arith}
-use borrow.Author.Rules.{rules}
 use Rattle.builder.proofs.leaves.leave.Goals as goal
 
 pub returns-then-not-waits : goal.returns-then-not-waits

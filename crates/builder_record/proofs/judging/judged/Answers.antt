@@ -9,7 +9,6 @@ use Rattle.table.specs.Builder.{waits}
 use Rattle.laws.specs.Fields.{image_in}
 use Rattle.laws.specs.RecordKinds.{kind-of}
 use Rattle.builder_record.proofs.JudgeLaws.{out-of-turn, wrong-pair, own-fault, wrong-object, no-fault}
-use borrow.Author.Rules.{rules}
 use Rattle.builder_record.proofs.judging.judged.Goals.{After-pairs_right, After-waits, Else-not-pairs_right}
 use Rattle.builder_record.proofs.judging.judged.Goals as goal
 

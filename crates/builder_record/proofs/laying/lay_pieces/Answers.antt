@@ -5,7 +5,6 @@ use Prim.Native.Nat.{◌+◌}
 use mathlib.Core.List.{[], ◌∷◌}
 use mathlib.Core.Path.{refl}
 use native.Mathlib.Omega.{arith}
-use borrow.Author.Rules.{rules}
 use Rattle.builder_record.proofs.laying.lay_pieces.Goals as goal
 
 pub copy_into-requires : goal.copy_into-requires

@@ -6,7 +6,6 @@ use lib.ListN.{length}
 use Rattle.table.specs.Bytes.{splice}
 use Rattle.bytes_writer.proofs.StoreLaws.{splice-join}
 use Rattle.builder_record.proofs.LayLaws.{text-none, text-some, text-long}
-use borrow.Author.Rules.{rules}
 use Rattle.builder_record.proofs.laying.lay_text.Goals as goal
 
 pub returns-then-len-eq0 : goal.returns-then-len-eq0

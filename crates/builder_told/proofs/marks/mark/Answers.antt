@@ -1,7 +1,6 @@
 use Rattle.builder_told.proofs.Laws.{flags-inside, valid-of}
 use native.Mathlib.Omega.{arith}
 use Rattle.builder_told.specs.Marks.{marked}
-use borrow.Author.Rules.{rules}
 use Rattle.builder_told.proofs.marks.mark.Goals as goal
 
 pub set_valid-requires : goal.set_valid-requires

@@ -1,5 +1,4 @@
 use native.Mathlib.Omega.{arith}
-use borrow.Author.Rules.{rules}
 use Rattle.builder_told.proofs.marks.set_valid.Goals as goal
 
 pub overflow_mul-flags : goal.overflow_mul-flags

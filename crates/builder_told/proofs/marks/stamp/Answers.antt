@@ -7,7 +7,6 @@ use Rattle.table.specs.FixedLayouts.{layout_of, host, hfi, ssns, security, disco
 use mathlib.Core.List.{[], ◌∷◌}
 use mathlib.Core.Path.{sym, ap, ◌∙◌}
 use native.Mathlib.Omega.{arith}
-use borrow.Author.Rules.{rules}
 use Rattle.builder_told.proofs.marks.stamp.Goals as goal
 
 pub put_u8-requires : goal.put_u8-requires

@@ -1,5 +1,4 @@
 use Rattle.builder_told.proofs.Laws.{ended-none, ended_some}
-use borrow.Author.Rules.{rules}
 use Rattle.builder_told.proofs.objects.ended_len.Goals as goal
 
 pub returns-then-len-eq0 : goal.returns-then-len-eq0

@@ -1,6 +1,5 @@
 use mathlib.Core.Path.{refl}
 use borrow.Author.Tests.{eq-eqb, ne_eqb}
-use borrow.Author.Rules.{rules}
 use Rattle.builder_told.proofs.objects.fault_under.Goals as goal
 
 pub returns-then-len-eq0 : goal.returns-then-len-eq0

@@ -3,7 +3,6 @@ use lib.ListN.{length}
 use Rattle.table.specs.Layout.{text}
 use Rattle.builder_told.specs.Faults.{fault_under}
 use Rattle.builder_told.proofs.Laws.{fault-told}
-use borrow.Author.Rules.{rules}
 use Rattle.builder_told.proofs.objects.fits_text.Goals as goal
 
 pub returns : goal.returns

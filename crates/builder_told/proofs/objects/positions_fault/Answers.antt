@@ -2,7 +2,6 @@ use mathlib.Core.Path.{sym, ap, ◌∙◌}
 use mathlib.Core.Bool.{Bool}
 use Prim.Native.Nat.{ℕ}
 use Rattle.table.specs.Bytes.{pick}
-use borrow.Author.Rules.{rules}
 use Rattle.builder_told.proofs.objects.positions_fault.Goals as goal
 
 pub returns-then-not-are_positions : goal.returns-then-not-are_positions

@@ -1,7 +1,6 @@
 use mathlib.Core.Path.{sym, ◌∙◌}
 use mathlib.Core.Bool.{true, false}
 use Rattle.builder_told.proofs.Laws.{zero-fault}
-use borrow.Author.Rules.{rules}
 use Rattle.builder_told.proofs.objects.zero_fault.Goals as goal
 
 pub returns-then-has_zero : goal.returns-then-has_zero

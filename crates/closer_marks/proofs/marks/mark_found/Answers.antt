@@ -1,7 +1,6 @@
 use mathlib.Core.Path.{refl}
 use native.Mathlib.Omega.{arith}
 use borrow.Author.Tests.{eq-eqb, ne_eqb}
-use borrow.Author.Rules.{rules}
 use Rattle.closer_marks.proofs.marks.mark_found.Goals as goal
 
 pub returns-then-found-eq0 : goal.returns-then-found-eq0

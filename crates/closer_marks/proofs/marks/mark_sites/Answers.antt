@@ -11,10 +11,8 @@ use Rattle.bytes_bits.specs.Bits.{with_bits}
 use Rattle.closer_sites.specs.declared.Named.{Named}
 use Rattle.closer_sites.specs.declared.Walk.{Walk}
 use Rattle.closer_sites.specs.Walk.{step_of}
-use Rattle.closer_sites.specs.Going.{left}
 use Rattle.closer_sites.proofs.WalkLaws.{going-walkable, left_less}
 use Rattle.closer_marks.proofs.MarkLaws.{Marked, found-fits, marked-end, marked-first, marked_step}
-use Rattle.table.proofs.Rules.{picks}
 use Rattle.closer_marks.proofs.marks.mark_sites.Goals as goal
 
 pub u32_at-start-requires : goal.u32_at-start-requires

@@ -1,9 +1,6 @@
 use mathlib.Core.Path.{sym}
 use native.Mathlib.Omega.{arith}
 use Rattle.closer_marks.proofs.OverlapLaws.{met-behind, met-else, met-none}
-use Rattle.table.proofs.Rules.{picks}
-use borrow.Author.Rules.{rules}
-use Rattle.closer_marks.proofs.overlaps.is_met.Reads as reads
 use Rattle.closer_marks.proofs.overlaps.is_met.Goals as goal
 
 pub returns-then-found-eq0 : goal.returns-then-found-eq0

@@ -1,8 +1,8 @@
 use mathlib.Core.Path.{◌≡◌, sym, ap, ◌∙◌}
 use mathlib.Core.List.{List, ◌++◌}
-use Prim.Native.Nat.{ℕ, ◌+◌, ◌≤◌, ◌<◌}
+use Prim.Native.Nat.{◌+◌, ◌<◌}
 use native.Mathlib.Omega.{arith}
-use Rattle.table.specs.Closing.{Site, overlapped}
+use Rattle.table.specs.Closing.{Site}
 use Rattle.laws.specs.Fields.{Bytes}
 use Rattle.reader.proofs.AcceptedLaws.{laid}
 use Rattle.closing_laws.specs.Whole.{whole_hits}
@@ -10,12 +10,7 @@ use Rattle.closer_sites.specs.declared.Stepped.{Stepped}
 use Rattle.closer_sites.specs.Walk.{begun, rest_of, site_of, sites_within}
 use Rattle.closer_sites.specs.Going.{Going, left}
 use Rattle.closer_sites.proofs.WalkLaws.{going-first, going_on, going-walkable, left-few, left_less, rest_end, rest-step}
-use Rattle.closer_marks.proofs.OverlapLaws.{Reached, none_found, reached-first, reached-found, reached-on, shared-no, shared-yes}
-use Rattle.table.proofs.Rules.{picks}
-use Rattle.closer_marks.proofs.overlaps.is_overlapped.Reads as reads
-use Rattle.closer_marks.proofs.overlaps.is_shared.Reads as is-shared-reads
-use Rattle.closer_sites.proofs.first.Reads as first_reads
-use Rattle.closer_sites.proofs.step.Reads as step-reads
+use Rattle.closer_marks.proofs.OverlapLaws.{none_found, reached-first, reached-found, reached-on, shared-no, shared-yes}
 use Rattle.closer_marks.proofs.overlaps.is_overlapped.Goals as goal
 
 pub loop-w-init : goal.loop-w-init

@@ -10,11 +10,6 @@ use Rattle.closer_sites.proofs.WalkLaws.{left-few}
 use Rattle.closer_marks.proofs.OverlapLaws.{within_all}
 use mathlib.Core.Path.{◌≡◌, sym, ap, ◌∙◌}
 use Rattle.closer_sites.proofs.WalkLaws.{going-first}
-use Rattle.table.proofs.Rules.{picks}
-use borrow.Author.Rules.{rules}
-use Rattle.closer_marks.proofs.overlaps.is_shared.Reads as reads
-use Rattle.closer_marks.proofs.overlaps.is_hit.Reads as is-hit-reads
-use Rattle.closer_sites.proofs.first.Reads as first_reads
 use Rattle.closer_marks.proofs.overlaps.is_shared.Goals as goal
 
 pub is_hit-requires : goal.is_hit-requires

@@ -1,5 +1,4 @@
 use Prim.Native.Nat.{◌≤◌, ◌-◌}
-use Rattle.table.proofs.Rules.{picks}
 use Rattle.description_sections.proofs.telling.dropped_line.Given as goal
 
 abbrev pub invariant-loop-at : goal.invariant-loop-at

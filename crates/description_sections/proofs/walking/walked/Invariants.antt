@@ -1,8 +1,6 @@
-use mathlib.Core.Path.{◌∙◌, ◌≡◌}
-use native.Mathlib.Omega.{arith}
+use mathlib.Core.Path.{◌≡◌}
 use Prim.Native.Nat.{◌≤◌, ◌-◌}
 use lib.ListN.{length}
-use Rattle.table.proofs.Rules.{picks}
 use Rattle.description_sections.proofs.walking.walked.Given as goal
 
 abbrev pub invariant-loop-from : goal.invariant-loop-from

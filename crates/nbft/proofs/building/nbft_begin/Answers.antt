@@ -5,7 +5,6 @@ use Rattle.builder_begin.specs.Begins.{begin_with}
 use mathlib.Core.List.{List, [], ◌∷◌}
 use mathlib.Core.Path.{ap, ◌∙◌}
 use Prim.Native.Nat.{ℕ}
-use borrow.Author.Rules.{rules}
 use Rattle.nbft.proofs.building.nbft_begin.Goals as goal
 
 pub show-requires : goal.show-requires

@@ -2,7 +2,6 @@ use Rattle.builder_record.specs.Calls.{tell_discovery}
 use Rattle.nbft.proofs.BuildLaws.{discovery-placed}
 use Rattle.c_states.proofs.StateLaws.{shown}
 use Rattle.table.specs.declared.State.{State}
-use borrow.Author.Rules.{rules}
 use Rattle.nbft.proofs.building.nbft_discovery.Goals as goal
 
 pub show-requires : goal.show-requires

@@ -3,7 +3,6 @@ use Rattle.nbft.proofs.BuildLaws.{finish-placed}
 use Rattle.c_states.proofs.StateLaws.{shown}
 use Rattle.table.specs.declared.State.{State}
 use native.Mathlib.Omega.{arith}
-use borrow.Author.Rules.{rules}
 use Rattle.nbft.proofs.building.nbft_finish.Goals as goal
 
 pub show-requires : goal.show-requires

@@ -4,7 +4,6 @@ use Rattle.builder_record.specs.Calls.{tell_hfi}
 use Rattle.nbft.proofs.BuildLaws.{hfi-placed}
 use Rattle.c_states.proofs.StateLaws.{shown}
 use Rattle.table.specs.declared.State.{State}
-use borrow.Author.Rules.{rules}
 use Rattle.nbft.proofs.building.nbft_hfi.Goals as goal
 
 pub show-requires : goal.show-requires

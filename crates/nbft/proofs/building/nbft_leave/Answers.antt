@@ -2,7 +2,6 @@ use Rattle.table.specs.Builder.{leave}
 use Rattle.nbft.proofs.BuildLaws.{leave-placed}
 use Rattle.c_states.proofs.StateLaws.{shown}
 use Rattle.table.specs.declared.State.{State}
-use borrow.Author.Rules.{rules}
 use Rattle.nbft.proofs.building.nbft_leave.Goals as goal
 
 pub show-requires : goal.show-requires

@@ -2,7 +2,6 @@ use Rattle.builder_record.specs.Calls.{tell_security}
 use Rattle.nbft.proofs.BuildLaws.{security-placed}
 use Rattle.c_states.proofs.StateLaws.{shown}
 use Rattle.table.specs.declared.State.{State}
-use borrow.Author.Rules.{rules}
 use Rattle.nbft.proofs.building.nbft_security.Goals as goal
 
 pub show-requires : goal.show-requires

@@ -2,7 +2,6 @@ use Rattle.builder_record.specs.Calls.{tell_ssns}
 use Rattle.nbft.proofs.BuildLaws.{ssns-placed}
 use Rattle.c_states.proofs.StateLaws.{shown}
 use Rattle.table.specs.declared.State.{State}
-use borrow.Author.Rules.{rules}
 use Rattle.nbft.proofs.building.nbft_ssns.Goals as goal
 
 pub show-requires : goal.show-requires
