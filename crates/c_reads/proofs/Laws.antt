@@ -26,7 +26,7 @@ use Rattle.reads_seats.proofs.SeatLaws.{seats-good}
 use Rattle.reads_seats.proofs.ReadLaws.{width_fits}
 use Rattle.reads_seats.proofs.ObjectLaws.{accepted, PlaceFits, one-fits, seat-place, seat-heap, absent-start}
 use Rattle.reads_seats.specs.Objects.{handed_place}
-use Rattle.reads.proofs.HandedLaws.{handed-place}
+use Rattle.reads.proofs.HandedLaws.{handed-told}
 use Rattle.reads_whole.specs.Whole.{first_of, left_of, number_of, kinds_to, least, records_answer, refused_records, records_in, read_records}
 
 -- ---- fields
@@ -125,7 +125,7 @@ place-told t k n q = go (eqb (check t).number 0) refl where
   go : (c : Bool) → eqb (check t).number 0 ≡ c → Told (pick c (place_at t q (seat_of t k n)) (no_place (check t)))
   go true e =
       let ok = accepted t (eqb-true (check t).number 0 e) in
-      rw (handed-place t ok k n q) (whole-told t ok k q (seat_of t k n) (seats-good t ok n k))
+      rw (handed-told t ok k n q) (whole-told t ok k q (seat_of t k n) (seats-good t ok n k))
   go false e = (lit< tt, refl)
 
 -- ---- records

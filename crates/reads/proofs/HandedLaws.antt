@@ -39,8 +39,8 @@ module _ (t : List ℕ) (ok : Accepted t) (k n q : ℕ) where
   abbrev whole : Place
   whole = whole_at t q (seat_of t k n)
 
-  pub handed-place : place_at t q (seat_of t k n) ≡ handed_place k q whole
-  unfolding handed_len handed_place
+  pub handed-place : place_at t q (seat_of t k n) ≡ shortened whole (handed_len k q whole.len)
+  unfolding handed_len
   handed-place = go (seat_of t k n) (seats-good t ok n k)
     where
       none : (c : Bool) → ◌≡◌ {A = ℕ} 0 (pick c (0 - 1) 0)
@@ -53,9 +53,14 @@ module _ (t : List ℕ) (ok : Accepted t) (k n q : ℕ) where
           by-content (content_at q l.refs) (whole_at t q (seat l a on))
           ∙ ap (λ (m : Layout). shortened (whole_at t q (seat l a on)) (pick (is_of_text (content_at q m.refs)) ((whole_at t q (seat l a on)).len - 1) (whole_at t q (seat l a on)).len)) g.0
 
+  -- the same, by the word for that
+  pub handed-told : place_at t q (seat_of t k n) ≡ handed_place k q whole
+  unfolding handed_place
+  handed-told = handed-place
+
   -- the first m bytes of the whole object are those that are handed back
   pub handed-bytes : (ys xs : List ℕ) (m : ℕ) → ys ≡ object_in t k n q → m ≡ handed_len k q (length ys) → m ≤ length ys → xs ≡ part ys 0 m → xs ≡ handed_in t k n q
-  unfolding object_in handed_in handed_place
+  unfolding object_in handed_in
   handed-bytes ys xs m ey em l ex =
       let r = seat-room t ok q k (seat_of t k n) (seats-good t ok n k) in
       let e : length ys ≡ whole.len = ap length ey ∙ part-long t whole.at whole.len r in
@@ -67,5 +72,4 @@ module _ (t : List ℕ) (ok : Accepted t) (k n q : ℕ) where
       ∙ sym (ap (λ (p : Place). part t p.at p.len) handed-place)
 
   pub handed-at : (place_at t q (seat_of t k n)).at ≡ whole.at
-  unfolding handed_place
   handed-at = ap (λ (p : Place). p.at) handed-place
