@@ -38,8 +38,8 @@ pub fn object_start(t: &[u8], kind: u8, position: u16, offset: u32) -> u32
 pub fn object_place(t: &[u8], kind: u8, position: u16, offset: u32) -> u64
     ensures { result ≡ packed_span (read_place t.now kind position offset) }
 {
-    let p = reads::objects::object_place(t, kind, position as usize, offset as usize);
-    pack_pair(p.answer, p.len, p.at)
+    let place = reads::objects::object_place(t, kind, position as usize, offset as usize);
+    pack_pair(place.answer, place.len, place.at)
 }
 
 // One record; a refused read leaves `entry` as it was.
