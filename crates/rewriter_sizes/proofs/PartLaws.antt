@@ -6,7 +6,7 @@ use Prim.Native.Nat.{ℕ, zero, suc, ◌+◌, ◌-◌, ◌*◌, ◌≤◌, ◌<�
 use native.Mathlib.Nat.{add-zero, zero-add, sub-zero, le_trans, mul-le-mul_left, mul-le-mul_right}
 use native.Mathlib.Numerals.{add-one}
 use native.Mathlib.Omega.{arith}
-use lib.ListN.{length, get_or, drop}
+use lib.ListN.{length, get_or, drop, take}
 use lib.Seq.{drop-cons, drop-length}
 use lib.Dec.{eqb, lit<}
 use Rattle.table.specs.declared.Need.{Need}
@@ -27,7 +27,7 @@ use Rattle.reads_seats.specs.declared.seats.Seat.{Seat}
 use Rattle.reads_seats.specs.declared.seats.Seat.TheVariants.{Nowhere, At}
 use Rattle.reads_seats.specs.Seats.{Seated, heap_record}
 use Rattle.reads_seats.specs.Told.{inner_kind, image_of, told_entry, told_list, count_of, told}
-use Rattle.reads_seats.proofs.ReferenceLaws.{refs-split}
+use Rattle.reads_seats.proofs.ReferenceLaws as references
 use Rattle.reads_seats.proofs.ObjectLaws.{seat-room}
 use Rattle.reads_seats.proofs.MeaningLaws.{told-all}
 use Rattle.reads_seats.proofs.SlotLaws.{object_at, held_slot, slots_at, slots_at_lem}
@@ -161,6 +161,16 @@ module _ (t : List ℕ) (ok : Accepted t) (k a : ℕ) (s : Seated t (layout_of k
   heaped-all h = ap (heap_of h) (slots_at_lem t k a) ∙ slots-heaped t ok k a s (layout_of k).refs (all_fit t ok a k s) h
 
 -- ---- references to objects come first, behind them that to a heap record
+
+pub refs-split : (k : ℕ) → refs_of k ≡ objects_of k ++ held_of k
+refs-split = references.refs-split
+
+pub plain-each : (k i : ℕ) → i < length (objects_of k) → has_plain (get_or (objects_of k) i 0) (layout_of k).refs ≡ true
+plain-each = references.plain-each
+
+-- a reference to an object, of the table of offsets
+pub offset-is : (k : ℕ) (ps : List ℕ) (n i : ℕ) → take n ps ≡ refs_of k → i < length (objects_of k) → n ≡ length (refs_of k) → get_or ps i 0 ≡ get_or (objects_of k) i 0
+offset-is = references.offset-is
 
 -- a kind that names objects alone
 pub refs-objects : (k : ℕ) → held_of k ≡ [] → refs_of k ≡ objects_of k
