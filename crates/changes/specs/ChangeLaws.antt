@@ -1,5 +1,5 @@
 -- No line exactly where nothing differs: of two meanings whose records are in order, the lines are none exactly where the meanings are equal. Assumes nothing.
-use Rattle.std.specs.Prelude.{◌≡◌, refl, ◌⊎◌, ◌↔◌, Bool, true, false, ◌&&◌, ◌||◌, List, [], ◌∷◌, ◌++◌, ℕ, zero, suc, ◌+◌, ◌-◌, ◌%◌, ◌≤◌, ◌<◌, length, get_or, drop, T, eqb, leb, ltb}
+use Rattle.std.specs.Prelude.{◌≡◌, refl, ◌⊎◌, Bool, true, false, ◌&&◌, ◌||◌, List, [], ◌∷◌, ◌++◌, ℕ, zero, suc, ◌+◌, ◌-◌, ◌%◌, ◌≤◌, ◌<◌, length, get_or, drop, T, eqb, leb, ltb}
 use Rattle.std.proofs.Common.{sym, ap, ap₂, ◌∙◌, inl, inr, arith, ext_get_or, get_or-drop, get_or-take, eqb→eq, leb→le, ltb→lt, eq-eqb, leb-false, leb-true, ne_eqb}
 use Rattle.std.proofs.Math.Facts.{and_yes, or_yes}
 use Rattle.table.specs.declared.Region.{Region}
@@ -362,46 +362,15 @@ pub each-nothing : (f : ℕ → List Line) (q n : ℕ) → ((j : ℕ) → q ≤ 
 each-nothing f q zero h = refl
 each-nothing f q (suc n) h = ap₂ ◌++◌ (h q (omega arith) (omega arith)) (each-nothing f (suc q) n (λ j l k. h j (omega arith) (omega arith)))
 
-record-self : (k n : ℕ) (s : Shape) (x : List ℕ) (named : ℕ → List Line) → ((q : ℕ) → named q ≡ []) → record_lines k n s x x named ≡ []
+pub record-self : (k n : ℕ) (s : Shape) (x : List ℕ) (named : ℕ → List Line) → ((q : ℕ) → named q ≡ []) → record_lines k n s x x named ≡ []
 record-self k n s x named h =
     each-nothing (offset_lines k n s.fields x x named) 0 (length s.keep)
     (λ q l m. pick-none (eqb (width_at q s.fields) 0) (h q) (unlike-self (part x q (width_at q s.fields)) _))
 
-named_self : (k n : ℕ) {rs : Refs} (ss : Slots rs) (q : ℕ) → named_lines k n ss ss q ≡ []
+pub named_self : (k n : ℕ) {rs : Refs} (ss : Slots rs) (q : ℕ) → named_lines k n ss ss q ≡ []
 unfolding named_lines
 named_self k n nil q = refl
 named_self k n (bytes {p = p} x ss) q = pick-none (eqb q p) (unlike-self x _) (named_self k n ss q)
 named_self k n (gone ss) q = named_self k n ss q
 named_self k n (rec {p = p} {shape = s} x own ss) q =
     pick-none (eqb q p) (record-self (id_of s.fixed) n s x (named_lines (id_of s.fixed) n own own) (named_self (id_of s.fixed) n own)) (named_self k n ss q)
-
-entry-self : (n : ℕ) {l : Layout} (a : Entry l) → entry_lines n a a ≡ []
-unfolding entry_lines
-entry-self n unused = refl
-entry-self n {l} (used x ss) = record-self l.kind n l.shape x (named_lines l.kind n ss ss) (named_self l.kind n ss)
-
-list-self : {l : Layout} (n : ℕ) (es : List (Entry l)) → list_lines n es es ≡ []
-unfolding list_lines
-list-self n [] = refl
-list-self n (e ∷ es) = ap₂ ◌++◌ (entry-self n e) (list-self (suc n) es)
-
-body-self : {ls : List Layout} (xs : Body ls) → body_lines xs xs ≡ []
-unfolding body_lines
-body-self stop = refl
-body-self (more es xs) = ap₂ ◌++◌ (list-self 1 es) (body-self xs)
-
-counts-self : (q : ℕ) {ls : List Layout} (xs : Body ls) → count_lines q xs xs ≡ []
-unfolding count_lines
-counts-self q stop = refl
-counts-self q (more es xs) = ap₂ ◌++◌ (unlike-self (length es ∷ []) _) (counts-self (q + 8) xs)
-
-pub equal-none : (m : Meaning) → changes m m ≡ []
-unfolding changes
-equal-none m =
-    ap₂ ◌++◌ (counts-self 87 m.lists)
-    (ap₂ ◌++◌ (record-self 0 0 header.shape (head_of m) (named_lines 0 0 m.driver m.driver) (named_self 0 0 m.driver))
-    (ap₂ ◌++◌ (entry-self 0 m.owner) (body-self m.lists)))
-
--- none exactly where they are equal, of meanings of accepted tables
-pub none-exactly : (m n : Meaning) → Shaped m → Shaped n → (changes m n ≡ []) ↔ (m ≡ n)
-none-exactly m n w v = (none_equal m n w v, λ e. ap (changes m) (sym e) ∙ equal-none m)

@@ -19,7 +19,8 @@ use Rattle.laws.specs.Fields.{Bytes}
 use Rattle.laws.specs.ImageLaws.{length-image}
 use Rattle.layout_images.proofs.Laws.{part-byte, part-long}
 use Rattle.reads_seats.proofs.MeaningLaws.{image-front, told-all}
-use Rattle.changes.specs.ChangeLaws.{head_at, none-exactly}
+use Rattle.changes.proofs.SelfLaws.{none-exactly}
+use Rattle.changes.specs.ChangeLaws.{head_at}
 use Rattle.reader.specs.Accepted.{Accepted}
 use Rattle.reader.proofs.AcceptedLaws.{checked}
 use Rattle.reads_seats.specs.Told.{bytes_of, count_at, count_of, image_of, told, told_entry, told_list, told_slots}
