@@ -1,4 +1,5 @@
--- No line exactly where nothing differs: of two meanings whose records are in order, the lines are none exactly where the meanings are equal. Assumes nothing.
+-- No line only where nothing differs: of two meanings whose records are in order, where there is no line the meanings are equal. The other way round
+-- is in proofs/SelfLaws.antt. Assumes nothing.
 use Rattle.std.specs.Prelude.{◌≡◌, refl, ◌⊎◌, Bool, true, false, ◌&&◌, ◌||◌, List, [], ◌∷◌, ◌++◌, ℕ, zero, suc, ◌+◌, ◌-◌, ◌%◌, ◌≤◌, ◌<◌, length, get_or, drop, T, eqb, leb, ltb}
 use Rattle.std.proofs.Common.{sym, ap, ap₂, ◌∙◌, inl, inr, arith, ext_get_or, get_or-drop, get_or-take, eqb→eq, leb→le, ltb→lt, eq-eqb, leb-false, leb-true, ne_eqb}
 use Rattle.std.proofs.Math.Facts.{and_yes, or_yes}

@@ -14,7 +14,7 @@ const LONGEST: usize = 300000;
 // As compilers say it: the file, the line, and what is wrong there.
 fn print_wrong<R: Env>(rt: &R, argument: usize, wrong: u8, line: usize) {
     let mut path = io::buffer();
-    let n = tool::argument(rt, argument, &mut path);
+    let n = tool::argument_bytes(rt, argument, &mut path);
     complain(&path[..n], b":");
     io::print_decimal(STDERR_FILENO, line as u64);
     io::write_all(STDERR_FILENO, b": ");
@@ -54,7 +54,7 @@ fn write_table<R: Env + Files>(rt: &R, to: usize, out: &[u8], len: usize) {
 // Whether OUT has the description's name: it would be replaced by the table.
 fn is_one_name<R: Env>(rt: &R) -> bool {
     let mut name = io::buffer();
-    let n = tool::argument(rt, 2, &mut name);
+    let n = tool::argument_bytes(rt, 2, &mut name);
     tool::argument_is(rt, 1, &name[..n])
 }
 

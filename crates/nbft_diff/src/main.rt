@@ -13,7 +13,7 @@ use tool::MOST;
 // The name of the file that an argument names, and why it is refused.
 fn complain_of<R: Env>(rt: &R, argument: usize, a: Answer) {
     let mut path = io::buffer();
-    let n = tool::argument(rt, argument, &mut path);
+    let n = tool::argument_bytes(rt, argument, &mut path);
     let words = tool::answer_words(a);
     let len = words.len;
     let bytes = words.bytes;

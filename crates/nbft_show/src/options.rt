@@ -36,7 +36,7 @@ fn word_at<R: Env>(rt: &R, argument: usize) -> Word {
         return Word::All;
     }
     let mut word = io::buffer();
-    let n = tool::argument(rt, argument, &mut word);
+    let n = tool::argument_bytes(rt, argument, &mut word);
     if is_option(&word[..n]) {
         return Word::Unknown;
     }

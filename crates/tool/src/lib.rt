@@ -152,29 +152,34 @@ pub fn is_there<R: Files>(rt: &R, path: &[u8]) -> bool {
     }
 }
 
+// The system's numbers for what is no argument, and for a name that is too long.
+const EINVAL: i32 = 22;
+
+const ENAMETOOLONG: i32 = 36;
+
 // Why an argument is not had, as the system's error.
 fn error_of(e: FillError) -> Error {
     match e {
-        FillError::NotPresent => Error::from_raw_os_error(22),
-        FillError::TooLong => Error::from_raw_os_error(36),
+        FillError::NotPresent => Error::from_raw_os_error(EINVAL),
+        FillError::TooLong => Error::from_raw_os_error(ENAMETOOLONG),
     }
 }
 
 // An argument of the program; nothing where there is none, or where it is longer than what is lent.
-pub fn argument<R: Env>(rt: &R, i: usize, into: &mut [u8]) -> usize
+pub fn argument_bytes<R: Env>(rt: &R, argument: usize, into: &mut [u8]) -> usize
     ensures { IsPrefixLen result into.new }
 {
-    match rt.arg(i, into) {
+    match rt.arg(argument, into) {
         Ok(n) => n,
         Err(_) => 0,
     }
 }
 
 // The name of a file that an argument of the program is; where it is not had, a line on standard error says why.
-pub fn file_name<R: Env>(rt: &R, i: usize, into: &mut [u8]) -> Got
+pub fn file_name<R: Env>(rt: &R, argument: usize, into: &mut [u8]) -> Got
     ensures { IsPrefixLen result.len into.new }
 {
-    match rt.arg(i, into) {
+    match rt.arg(argument, into) {
         Ok(n) => Got {
             whole: true,
             len: n,
@@ -200,24 +205,23 @@ pub fn argument_count<R: Env>(rt: &R) -> usize {
 }
 
 // The file that an argument of the program names.
-pub fn read_file<R: Env + Files>(rt: &R, i: usize, into: &mut [u8]) -> Got
+pub fn read_file<R: Env + Files>(rt: &R, argument: usize, into: &mut [u8]) -> Got
     ensures { IsPrefixLen result.len into.new }
 {
     let mut path = io::buffer();
-    let name = file_name(rt, i, &mut path);
-    let length = name.len;
+    let name = file_name(rt, argument, &mut path);
     if !name.whole {
         return Got {
             whole: false,
             len: 0,
         };
     }
-    read_named(rt, &path[..length], into)
+    read_named(rt, &path[..name.len], into)
 }
 
-pub fn argument_is<R: Env>(rt: &R, i: usize, word: &[u8]) -> bool {
+pub fn argument_is<R: Env>(rt: &R, argument: usize, word: &[u8]) -> bool {
     let mut given = io::buffer();
-    let n = argument(rt, i, &mut given);
+    let n = argument_bytes(rt, argument, &mut given);
     check::same(&given[..n], word)
 }
 

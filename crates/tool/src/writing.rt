@@ -38,8 +38,8 @@ fn remove<R: Files>(rt: &R, name: &str) {
     }
 }
 
-// Errors may come as late as when the bytes reach the device.
-fn fill_open<F: Write + OpenFile>(file: &mut F, path: &[u8], content: &[u8]) -> bool {
+// Errors may come as late as when the bytes reach the device. The file is closed behind them, so that it may be removed.
+fn fill_open<F: Write + OpenFile + Drop>(mut file: F, path: &[u8], content: &[u8]) -> bool {
     if let Err(e) = file.write_all(content) {
         fail(path, e);
         return false;
@@ -57,14 +57,14 @@ fn write_new<R: Files>(rt: &R, name: &str, content: &[u8]) -> bool {
         .write(true)
         .create_new(true)
         .open(rt, name);
-    let mut file = match opened {
+    let file = match opened {
         Ok(file) => file,
         Err(e) => {
             fail(name.as_bytes(), e);
             return false;
         }
     };
-    if fill_open(&mut file, name.as_bytes(), content) {
+    if fill_open(file, name.as_bytes(), content) {
         return true;
     }
     remove(rt, name);
@@ -132,11 +132,10 @@ fn may_take<R: Files>(rt: &R, name: &str) -> bool {
 pub fn write_file<R: Env + Files>(rt: &R, argument: usize, content: &[u8]) -> bool {
     let mut path = io::buffer();
     let got = file_name(rt, argument, &mut path);
-    let length = got.len;
     if !got.whole {
         return false;
     }
-    let Some(name) = name_text(&path[..length]) else {
+    let Some(name) = name_text(&path[..got.len]) else {
         return false;
     };
     if !may_take(rt, name) {
