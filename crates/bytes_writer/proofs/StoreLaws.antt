@@ -5,7 +5,7 @@ use mathlib.Core.List.{List, [], ◌∷◌, ◌++◌, append_assoc}
 use Prim.Native.Nat.{ℕ, zero, suc, ◌+◌, ◌-◌, ◌≤◌, ◌<◌}
 use native.Mathlib.Numerals.{add-one}
 use native.Mathlib.Omega.{arith}
-use lib.ListN.{length, get_or, take, drop, set, replicate, length-append}
+use lib.ListN.{length, get_or, take, drop, set, length-append}
 use lib.Seq.{ext_get_or, set_split, sets-eq, paste, paste-zero, paste-suc, take-length, length-take-le, drop-drop, take_at}
 use lib.Dec.{ltb}
 use borrow.Author.Tests.{ltb-true, ltb-false}
@@ -43,11 +43,6 @@ paste_more d at s i h k = rw (add-one i) (paste-suc d at s i 0 (omega arith) k)
 -- a middle part that was lent comes back at ys
 pub lent : (t : List ℕ) (a k : ℕ) (ys : List ℕ) → length ys ≡ k → take a t ++ (ys ++ drop k (drop a t)) ≡ splice t a ys
 lent t a k ys e = ap (λ (p : List ℕ). take a t ++ (ys ++ p)) (drop-drop k a t ∙ ap (λ (m : ℕ). drop (a + m) t) (sym e))
-
-pub zero-at : (n i : ℕ) → get_or {A = ℕ} (replicate n 0) i 0 ≡ 0
-zero-at zero i = refl
-zero-at (suc n) zero = refl
-zero-at (suc n) (suc i) = zero-at n i
 
 -- a run of appends, one turn: what stood so far, and one more right behind it
 pub splice-next : (t t₁ t₂ : List ℕ) (a b : ℕ) (xs ys : List ℕ) → a + length xs ≤ length t → b ≡ a + length xs → t₁ ≡ splice t a xs → t₂ ≡ splice t₁ b ys → t₂ ≡ splice t a (xs ++ ys)

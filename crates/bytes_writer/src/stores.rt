@@ -42,24 +42,18 @@ pub fn put_ref(part: &mut [u8], at: usize, target: usize, len: usize)
     put_u16(part, at + 4, len);
 }
 
+// Compiles to one copy of memory.
 pub fn copy_into(out: &mut [u8], at: usize, src: &[u8])
     requires { at + length src.now ≤ length out.old }
     ensures { out.new ≡ splice out.old at src.now }
 {
-    let mut i: usize = 0;
-    while i < src.len() {
-        out[at + i] = src[i];
-        i += 1;
-    }
+    out[at..at + src.len()].copy_from_slice(src);
 }
 
+// Compiles to one fill of memory.
 pub fn fill_zero(out: &mut [u8], at: usize, count: usize)
     requires { at + count ≤ length out.old }
     ensures { out.new ≡ splice out.old at (replicate count 0) }
 {
-    let mut i: usize = 0;
-    while i < count {
-        out[at + i] = 0;
-        i += 1;
-    }
+    out[at..at + count].fill(0);
 }
