@@ -1,16 +1,16 @@
 -- Zero bytes: from the front, by blocks, in text. Assumes nothing.
 use mathlib.Core.Path.{◌≡◌, refl, sym, ap, ap₂, ◌∙◌, subst}
 use mathlib.Core.Bool.{Bool, true, false, not, ◌&&◌}
-use mathlib.Core.List.{List, [], ◌∷◌}
+use mathlib.Core.List.{List, [], ◌∷◌, ◌++◌}
 use Prim.Native.Nat.{ℕ, zero, suc, ◌+◌, ◌-◌, ◌≤◌, ◌<◌}
 use native.Mathlib.Omega.{arith}
 use native.Mathlib.Numerals.{add-one}
-use lib.ListN.{length, get_or, take, drop, length-drop}
-use lib.Seq.{take_all, drop-cons, drop-length}
+use lib.ListN.{length, get_or, take, drop, length-drop, length-append}
+use lib.Seq.{take_all, take_at}
 use lib.Dec.{T, eqb}
 use borrow.Author.Tests.{eq-eqb, ne_eqb}
 use Rattle.table.specs.Layout.{is_text}
-use Rattle.laws.specs.TextLaws.{no_zero, text-split}
+use Rattle.laws.specs.TextLaws.{no_zero}
 
 and_assoc : (x y z : Bool) → (x && (y && z)) ≡ ((x && y) && z)
 and_assoc true y z = refl
@@ -91,12 +91,28 @@ prefix (suc m) (suc i) (x ∷ b) h p =
     ap₂ (λ (u v : Bool). u && v) q.0 (prefix m i b (omega arith) q.1)
 
 -- what is left is looked at in the last block, which begins no later than it
-pub last_block : (b : List ℕ) (i n : ℕ) → no_zero (take i b) ≡ true → n ≤ length b → length b - n ≤ i → no_zero (take n (drop (length b - n) b)) ≡ no_zero b
-last_block b i n p k h =
+pub last_block : (b : List ℕ) (i n : ℕ) → no_zero (take i b) ≡ true → length b - n ≤ i
+    → no_zero (take (length b - (length b - n)) (drop (length b - n) b)) ≡ no_zero b
+last_block b i n p h =
     let m : ℕ = length b - n in
     let before : no_zero (take m b) ≡ true = prefix m i b h p in
-    let l : length (drop m b) ≤ n = rw (length-drop m b) (omega arith) in
-    ap no_zero (take_all n (drop m b) l) ∙ sym (split m b ∙ ap (λ (c : Bool). c && no_zero (drop m b)) before)
+    let l : length (drop m b) ≤ length b - m = rw (length-drop m b) (omega arith) in
+    ap no_zero (take_all (length b - m) (drop m b) l) ∙ sym (split m b ∙ ap (λ (c : Bool). c && no_zero (drop m b)) before)
+
+-- the same where what was looked at, a block and the rest stand one behind the other
+apart : (a b : List ℕ) → no_zero (a ++ b) ≡ (no_zero a && no_zero b)
+apart [] b = refl
+apart (x ∷ a) b = ap (λ (c : Bool). not (eqb x 0) && c) (apart a b) ∙ and_assoc (not (eqb x 0)) (no_zero a) (no_zero b)
+
+pub past-seen : (a x : List ℕ) → no_zero a ≡ true → false ≡ not (no_zero x) → no_zero (a ++ x) ≡ true
+past-seen a x p e = apart a x ∙ ap₂ (λ (u v : Bool). u && v) p (not-false (no_zero x) e)
+
+pub last-seen : (b a r : List ℕ) (n : ℕ) → b ≡ a ++ r → no_zero a ≡ true → length r < n
+    → no_zero (take (length b - (length b - n)) (drop (length b - n) b)) ≡ no_zero b
+last-seen b a r n d p h =
+    let l : length b ≡ length a + length r = ap length d ∙ length-append a r in
+    let front : no_zero (take (length a) b) ≡ true = ap (λ (x : List ℕ). no_zero (take (length a) x)) d ∙ ap no_zero (take_at a r (length a) refl) ∙ p in
+    last_block b (length a) n front (omega (arith, l, h))
 
 -- ---- text
 
@@ -104,24 +120,16 @@ pub twice : (x : Bool) → not (not x) ≡ x
 twice true = refl
 twice false = refl
 
-module _ (b : List ℕ) (h : 0 < length b) where
-  last : ℕ
-  last = length b - 1
+-- a byte behind others
+text-by-last : (front : List ℕ) (last : ℕ) → is_text (front ++ (last ∷ [])) ≡ (no_zero front && eqb last 0)
+text-by-last [] last = refl
+text-by-last (x ∷ []) last = sym (ap (λ (c : Bool). c && eqb last 0) (and-true (not (eqb x 0))))
+text-by-last (x ∷ y ∷ front) last =
+    ap (λ (c : Bool). not (eqb x 0) && c) (text-by-last (y ∷ front) last) ∙ and_assoc (not (eqb x 0)) (no_zero (y ∷ front)) (eqb last 0)
 
-  pub text-by-last : is_text b ≡ (no_zero (take (length b - 1) b) && eqb (get_or b (length b - 1) 0) 0)
-  unfolding last
-  text-by-last =
-      let all : suc last ≡ length b = omega arith in
-      let end : drop last b ≡ get_or b last 0 ∷ [] =
-      drop-cons b last 0 (omega arith) ∙ ap (λ (j : ℕ). get_or b last 0 ∷ drop j b) all ∙ ap (λ (xs : List ℕ). get_or b last 0 ∷ xs) (drop-length b) in
-      text-split last b (omega arith) ∙ ap (λ (xs : List ℕ). no_zero (take last b) && is_text xs) end
+pub unended : (b front : List ℕ) (last : ℕ) → b ≡ front ++ (last ∷ []) → (last ≡ 0 → ⊥) → eqb last 0 ≡ is_text b
+unended b front last e n =
+    ne_eqb last 0 n ∙ sym (ap is_text e ∙ text-by-last front last ∙ ap (λ (c : Bool). no_zero front && c) (ne_eqb last 0 n) ∙ and-false (no_zero front))
 
-  pub unended : (get_or b (length b - 1) 0 ≡ 0 → ⊥) → false ≡ is_text b
-  unended n = sym (text-by-last ∙ ap (λ (c : Bool). no_zero (take (length b - 1) b) && c) (ne_eqb (get_or b (length b - 1) 0) 0 n) ∙ and-false (no_zero (take (length b - 1) b)))
-
-  pub well-ended : get_or b (length b - 1) 0 ≡ 0 → no_zero (take (length b - 1) b) ≡ is_text b
-  well-ended z = sym (text-by-last ∙ ap (λ (c : Bool). no_zero (take (length b - 1) b) && c) (eq-eqb (get_or b (length b - 1) 0) 0 z) ∙ and-true (no_zero (take (length b - 1) b)))
-
-pub no_text : (b : List ℕ) → length b ≡ 0 → false ≡ is_text b
-no_text [] e = refl
-no_text (x ∷ b) e = absurd (omega (arith, e))
+pub well-ended : (b front : List ℕ) (last : ℕ) → b ≡ front ++ (last ∷ []) → last ≡ 0 → no_zero front ≡ is_text b
+well-ended b front last e z = sym (ap is_text e ∙ text-by-last front last ∙ ap (λ (c : Bool). no_zero front && c) (eq-eqb last 0 z) ∙ and-true (no_zero front))

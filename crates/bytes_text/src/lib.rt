@@ -10,17 +10,14 @@ const FEW: usize = 16;
 
 const BLOCK: usize = 32;
 
-// Whether one of the bytes is zero. The loop has no way out before its end: so a block of known length is compared at once.
+// Whether one of the bytes is zero. The loop has no way out before its end, as `contains` and `any` have: so a block of known length is compared
+// at once.
 pub fn has_zero(bytes: &[u8]) -> bool
     ensures { result ≡ not (no_zero bytes.now) }
 {
     let mut seen = false;
-    let mut i: usize = 0;
-    while i < bytes.len() {
-        if bytes[i] == 0 {
-            seen = true;
-        }
-        i += 1;
+    for byte in bytes {
+        seen |= *byte == 0;
     }
     seen
 }
@@ -31,10 +28,7 @@ fn zero_at_ends(bytes: &[u8], count: usize) -> bool
     ensures { result ≡ not (no_zero bytes.now) }
 {
     let len = bytes.len();
-    if has_zero(&bytes[0..count]) {
-        return true;
-    }
-    has_zero(&bytes[len - count..len])
+    has_zero(&bytes[..count]) || has_zero(&bytes[len - count..])
 }
 
 // Whether one of the bytes is zero, a block at a time.
@@ -48,27 +42,21 @@ fn zero_by_blocks(bytes: &[u8]) -> bool
     if len < BLOCK {
         return zero_at_ends(bytes, FEW);
     }
-    let mut end: usize = BLOCK;
-    while end <= len {
-        if has_zero(&bytes[end - BLOCK..end]) {
+    for block in bytes.chunks_exact(BLOCK) {
+        if has_zero(block) {
             return true;
         }
-        end += BLOCK;
     }
     // Less than a block is left: the last one shares bytes with the one before it.
-    has_zero(&bytes[len - BLOCK..len])
+    has_zero(&bytes[len - BLOCK..])
 }
 
+// The last byte is looked at first: most bytes that are no text are known by it.
 pub fn is_text(bytes: &[u8]) -> bool
     ensures { result ≡ is_text bytes.now }
 {
-    let len = bytes.len();
-    if len == 0 {
-        return false;
+    match bytes.split_last() {
+        Some((last, front)) => *last == 0 && !zero_by_blocks(front),
+        None => false,
     }
-    let last = len - 1;
-    if bytes[last] != 0 {
-        return false;
-    }
-    !zero_by_blocks(&bytes[0..last])
 }

@@ -1,23 +1,12 @@
-use mathlib.Core.Path.{◌≡◌, ap, ◌∙◌}
-use mathlib.Core.Bool.{not}
-use Prim.Native.Nat.{ℕ, ◌-◌}
-use native.Mathlib.Omega.{arith}
-use lib.ListN.{length, take}
+use Rattle.std.proofs.Common.{ap, ◌∙◌, not}
 use Rattle.laws.specs.TextLaws.{no_zero}
-use Rattle.bytes_text.proofs.Laws.{twice, no_text, unended, well-ended}
+use Rattle.bytes_text.proofs.Laws.{twice, unended, well-ended}
 use Rattle.bytes_text.proofs.is_text.Goals as goal
 
-pub returns-then-len-eq0 : goal.returns-then-len-eq0
-returns-then-len-eq0 c = no_text c.args.bytes.now c.if-len-eq0.true
+pub returns-then-last-eq0 : goal.returns-then-last-eq0
+returns-then-last-eq0 c =
+    let front = c.in-Some.front.now in
+    ap not c.zero_by_blocks.ensures ∙ twice (no_zero front) ∙ well-ended c.args.bytes.now front c.in-Some.last.now c.in-Some.ensures.cases.0 c.if-last-eq0.true
 
-pub returns-then-bytes-last-ne0 : goal.returns-then-bytes-last-ne0
-returns-then-bytes-last-ne0 c =
-    let bytes = c.args.bytes.now in
-    unended bytes (omega (arith, c.if-len-eq0.false)) c.if-bytes-last-ne0.true
-
-pub returns : goal.returns
-returns c =
-    let bytes = c.args.bytes.now in
-    let whole : length bytes - 1 - 0 ≡ length bytes - 1 = omega arith in
-    ap not (c.zero_by_blocks.ensures ∙ ap (λ (n : ℕ). not (no_zero (take n bytes))) whole) ∙ twice (no_zero (take (length bytes - 1) bytes))
-    ∙ well-ended bytes (omega (arith, c.if-len-eq0.false)) c.if-bytes-last-ne0.false
+pub returns-else-last-eq0 : goal.returns-else-last-eq0
+returns-else-last-eq0 c = unended c.args.bytes.now c.in-Some.front.now c.in-Some.last.now c.in-Some.ensures.cases.0 c.if-last-eq0.false
