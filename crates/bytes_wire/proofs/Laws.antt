@@ -1,5 +1,6 @@
 -- Numbers byte by byte, and sums of stretches. Assumes nothing.
-use Rattle.std.proofs.Common.{◌≡◌, ℕ, ◌+◌, ◌*◌, ◌%◌, ◌<◌, ◌≤◌, List, [], ◌∷◌, length, get_or, drop, ap, add-one, arith, drop_of_length-le, drop-cons}
+use Rattle.std.proofs.Common.{◌≡◌, ℕ, ◌+◌, ◌-◌, ◌*◌, ◌%◌, ◌<◌, ◌≤◌, List, [], ◌∷◌, length, get_or, take, drop, ap, add-one, arith, drop_of_length-le, drop-cons, length-drop}
+use lib.Seq.{take_all}
 use Rattle.table.specs.Bytes.{num, total}
 use Rattle.laws.specs.ByteLaws.{num-suc}
 use Rattle.laws.specs.Fields.{two_bytes}
@@ -15,6 +16,10 @@ sum_same t i j e = ap (λ (n : ℕ). total (drop n t)) e
 
 pub sum_done : (t : List ℕ) (i : ℕ) → length t ≤ i → total (drop i t) ≡ 0
 sum_done t i h = ap total (drop_of_length-le t h)
+
+-- the part of a slice from a place on is all that stands behind it
+pub sum_rest : (t : List ℕ) (i : ℕ) → total (take (length t - i) (drop i t)) ≡ total (drop i t)
+sum_rest t i = ap total (take_all (length t - i) (drop i t) (omega (arith, length-drop i t)))
 
 -- modulo 256, `s` is the sum of the bytes from place `from` up to place `to`
 abbrev pub Summed : List ℕ → ℕ → ℕ → ℕ → Type 0

@@ -1,7 +1,7 @@
 // Little-endian numbers and references in a table, and the sum of a table's bytes.
 #![tactic(auto)]
 
-ghost use Rattle.std.specs.Prelude.{◌≡◌, ◌+◌, ◌%◌, ◌<◌, ◌≤◌, length, drop};
+ghost use Rattle.std.specs.Prelude.{◌≡◌, ◌+◌, ◌%◌, ◌<◌, ◌≤◌, length};
 ghost use Rattle.table.specs.Bytes.{num, total};
 ghost use Rattle.table.specs.Layout.{reference_at};
 
@@ -11,7 +11,7 @@ use table::Region;
 pub fn wide(x: u8) -> usize
     ensures { (result ≡ x) × (result < 256) }
 {
-    x as usize
+    usize::from(x)
 }
 
 // The bounds let a caller add offset and length without a wrap.
@@ -40,15 +40,13 @@ pub fn reference_at(t: &[u8], at: usize) -> Region
     }
 }
 
-// The sum of the bytes from a place on modulo 256, one byte after the other.
-fn sum_from(t: &[u8], start: usize) -> u8
-    ensures { result ≡ total (drop start t.now) % 256 }
+// The sum of the bytes modulo 256, one byte after the other.
+fn sum_of(bytes: &[u8]) -> u8
+    ensures { result ≡ total bytes.now % 256 }
 {
     let mut sum: u8 = 0;
-    let mut added: usize = 0;
-    while start + added < t.len() {
-        sum = std::num::wrapping_add_u8(sum, t[start + added]);
-        added += 1;
+    for byte in bytes {
+        sum = sum.wrapping_add(*byte);
     }
     sum
 }
@@ -62,25 +60,21 @@ pub fn sum8(t: &[u8]) -> u8
     ensures { result ≡ total t.now % 256 }
 {
     if t.len() < SHORT {
-        return sum_from(t, 0);
+        return sum_of(t);
     }
     let quarter = t.len() / 4;
     let mut first: u8 = 0;
     let mut second: u8 = 0;
     let mut third: u8 = 0;
     let mut fourth: u8 = 0;
-    let mut i: usize = 0;
-    while i < quarter {
-        first = std::num::wrapping_add_u8(first, t[i]);
-        second = std::num::wrapping_add_u8(second, t[quarter + i]);
-        third = std::num::wrapping_add_u8(third, t[2 * quarter + i]);
-        fourth = std::num::wrapping_add_u8(fourth, t[3 * quarter + i]);
-        i += 1;
+    for i in 0..quarter {
+        first = first.wrapping_add(t[i]);
+        second = second.wrapping_add(t[quarter + i]);
+        third = third.wrapping_add(t[2 * quarter + i]);
+        fourth = fourth.wrapping_add(t[3 * quarter + i]);
     }
-    let front = std::num::wrapping_add_u8(first, second);
-    let back = std::num::wrapping_add_u8(third, fourth);
-    std::num::wrapping_add_u8(
-        std::num::wrapping_add_u8(front, back),
-        sum_from(t, 4 * quarter),
-    )
+    let front = first.wrapping_add(second);
+    let back = third.wrapping_add(fourth);
+    let rest = sum_of(&t[4 * quarter..]);
+    front.wrapping_add(back).wrapping_add(rest)
 }

@@ -1,14 +1,10 @@
-use Rattle.std.proofs.Common.{◌+◌, ◌-◌, ◌*◌, ◌<◌, ◌≤◌}
+use Rattle.std.proofs.Common.{◌+◌, ◌*◌, ◌<◌}
 use Rattle.bytes_wire.proofs.Laws.{Summed}
 use Rattle.bytes_wire.proofs.sum8.Given as goal
 
 abbrev pub invariant-loop-i : goal.invariant-loop-i
 invariant-loop-i l =
-    (l.i ≤ l.quarter) ×
     ((l.first < 256) × Summed l.t 0 l.i l.first) ×
     ((l.second < 256) × Summed l.t l.quarter (l.quarter + l.i) l.second) ×
     ((l.third < 256) × Summed l.t (2 * l.quarter) (2 * l.quarter + l.i) l.third) ×
     ((l.fourth < 256) × Summed l.t (3 * l.quarter) (3 * l.quarter + l.i) l.fourth)
-
-abbrev pub decreases-loop-i : goal.decreases-loop-i
-decreases-loop-i l = l.quarter - l.i
