@@ -10,10 +10,8 @@ fn is_once(bytes: &[u8]) -> bool
     ensures { result ≡ once bytes.now }
 {
     let mut met = [false; 256];
-    let mut left = bytes.len();
-    while left > 0 {
-        left -= 1;
-        let value = bytes_wire::wide(bytes[left]);
+    for byte in bytes.iter().rev() {
+        let value = usize::from(*byte);
         if met[value] {
             return false;
         }
@@ -26,8 +24,5 @@ fn is_once(bytes: &[u8]) -> bool
 pub fn are_positions(bytes: &[u8], most: usize) -> bool
     ensures { result ≡ are_positions most bytes.now }
 {
-    if most < bytes.len() {
-        return false;
-    }
-    is_once(bytes)
+    bytes.len() <= most && is_once(bytes)
 }

@@ -1,13 +1,12 @@
-use mathlib.Core.Path.{◌≡◌}
-use mathlib.Core.Bool.{true}
-use Prim.Native.Nat.{◌≤◌}
-use lib.ListN.{length, drop}
+use Rattle.std.proofs.Common.{◌≡◌, true, List, ℕ, ◌++◌, length}
+use Rattle.core.specs.Slice.Iter.{iter_rest}
+use Rattle.core.specs.Iterator.Adapters.{rev_source}
 use Rattle.table.specs.Bytes.{once}
 use Rattle.bytes_positions.proofs.Laws.{Marks}
 use Rattle.bytes_positions.proofs.is_once.Given as goal
 
-abbrev pub invariant-loop-left : goal.invariant-loop-left
-invariant-loop-left l = (l.left ≤ length l.bytes) × (length l.met ≡ 256) × Marks l.met (drop l.left l.bytes) × (once (drop l.left l.bytes) ≡ true)
-
-abbrev pub decreases-loop-left : goal.decreases-loop-left
-decreases-loop-left l = l.left
+-- those that were met are marked, and stand behind those that are left
+abbrev pub invariant-loop-byte : goal.invariant-loop-byte
+invariant-loop-byte l =
+    (length l.met ≡ 256)
+    × ((behind : List ℕ) × (l.bytes ≡ iter_rest (rev_source l.byte-iterator) ++ behind) × Marks l.met behind × (once behind ≡ true))
