@@ -1,17 +1,20 @@
 -- Bits of a byte, bits below a place, and bits that are set, eight at a time. Assumes nothing.
 use mathlib.Core.Path.{◌≡◌, refl, sym, ap, ap₂, ◌∙◌}
 use mathlib.Core.Bool.{Bool, true, false}
-use mathlib.Core.List.{List, [], ◌∷◌}
+use mathlib.Core.List.{List, [], ◌∷◌, append_assoc}
 use Prim.Native.Nat.{ℕ, zero, suc, ◌+◌, ◌*◌, ◌/◌, ◌%◌, ◌^◌, ◌≤◌, ◌<◌}
 use native.Mathlib.Nat.{add-suc, add-zero, mod-eq_of_lt, mod-lt}
+use native.Mathlib.Numerals.{add-one}
 use native.Mathlib.Omega.{arith}
-use lib.ListN.{length, get_or, set}
-use lib.Seq.{get_or-set_other, get_or-set_same, set-get_or, set-set}
+use lib.ListN.{length, get_or, take, drop, set, replicate, length-set, length-replicate}
+use lib.Seq.{paste, paste-zero, get_or-set_other, get_or-set_same, set-get_or, set-set}
 use lib.Dec.{eqb, eqb→eq, lit<}
 use lib.Count.{ones, ones_cat}
 use lib.Pow.{mod-pow-add, pow_pos}
 use mir.Facts.{eqb_no}
-use Rattle.table.specs.Bytes.{pick}
+use Rattle.std.proofs.lemmas.List.{take-replicate}
+use Rattle.std.proofs.lemmas.List.Edits.{fill_from_more}
+use Rattle.table.specs.Bytes.{pick, splice}
 use Rattle.bytes_bits.specs.Bits.{bit_at, bits_below, with_bit, with_bits}
 use Rattle.bytes_bits.specs.MapLaws.{by-eight}
 
@@ -116,10 +119,41 @@ module _ (m : List ℕ) (i : ℕ) (l : i < length m) where
       let e : 255 ≡ v = omega arith in
       ap (set m i) e ∙ sym laid
 
--- a map stays one of bytes
-pub still-bytes : (m : List ℕ) (i : ℕ) → i < length m → ((j : ℕ) → get_or m j 0 < 256) → (j : ℕ) → get_or (set m i 255) j 0 < 256
-still-bytes m i l b j = go (eqb j i) refl
-  where
-    go : (c : Bool) → eqb j i ≡ c → get_or (set m i 255) j 0 < 256
-    go true d = let z : j ≡ i = eqb→eq j i (rw d tt) in rw (z, get_or-set_same m i 255 0 l) (lit< tt)
-    go false d = rw (get_or-set_other m i j 255 0 (eqb_no {a = j} {b = i} (rw d tt))) (b j)
+  -- a map stays one of bytes
+  still-bytes : ((j : ℕ) → get_or m j 0 < 256) → (j : ℕ) → get_or (set m i 255) j 0 < 256
+  still-bytes b j = go (eqb j i) refl
+    where
+      go : (c : Bool) → eqb j i ≡ c → get_or (set m i 255) j 0 < 256
+      go true d = let z : j ≡ i = eqb→eq j i (rw d tt) in rw (z, get_or-set_same m i 255 0 l) (lit< tt)
+      go false d = rw (get_or-set_other m i j 255 0 (eqb_no {a = j} {b = i} (rw d tt))) (b j)
+
+-- whole bytes, each of which is set
+module _ (m : List ℕ) (bytes : (j : ℕ) → get_or m j 0 < 256) (first : ℕ) where
+  abbrev pub full : ℕ → List ℕ
+  full n = paste m first (replicate n 255) n
+
+  pub record Full (n : ℕ) : Type 0 where
+    pub laid : full n ≡ with_bits m (8 * first) (8 * n)
+    pub small : (j : ℕ) → get_or (full n) j 0 < 256
+    pub long : length (full n) ≡ length m
+
+  each-full : (n : ℕ) → first + n ≤ length m → Full n
+  each-full zero h =
+      let e : m ≡ paste m first [] 0 = paste-zero m first [] in
+      record { laid = sym e; small = λ j. rw (← e) (bytes j); long = ap length (sym e) }
+  each-full (suc n) h =
+      let f = each-full n (omega arith) in
+      let l : first + n < length (full n) = omega (arith, f.long) in
+      let e : set (full n) (first + n) 255 ≡ full (suc n) = fill_from_more m first n 255 (omega arith) ∙ ap full (add-one n) in
+      record {
+        laid = bits-then m (8 * first) (8 * n) (8 * (first + n)) 8 (8 * suc n) (omega arith) (omega arith) f.laid
+            (sym e ∙ byte-set (full n) (first + n) l (f.small (first + n)));
+        small = λ j. rw (← e) (still-bytes (full n) (first + n) l f.small j);
+        long = sym (ap length e) ∙ length-set (full n) (first + n) 255 ∙ f.long;
+      }
+
+  pub whole-bytes : (n : ℕ) → first + n ≤ length m → splice m first (replicate n 255) ≡ with_bits m (8 * first) (8 * n)
+  whole-bytes n h =
+      let e : take {A = ℕ} n (replicate n 255) ≡ replicate n 255 = take-replicate n n 255 (omega arith) in
+      let d : splice m first (replicate n 255) ≡ full n = rw (e, length-replicate {A = ℕ} n 255) (sym (append_assoc (take first m) (replicate n 255) (drop (first + n) m))) in
+      d ∙ (each-full n h).laid

@@ -1,7 +1,7 @@
 // A map of bits in lent bytes: bit n is bit n mod 8, the lowest first, of byte n / 8.
 #![tactic(auto)]
 
-ghost use Rattle.std.specs.Prelude.{◌≡◌, ℕ, ◌+◌, ◌*◌, ◌/◌, ◌^◌, ◌≤◌, ◌<◌, length, get_or};
+ghost use Rattle.std.specs.Prelude.{◌≡◌, ◌+◌, ◌*◌, ◌/◌, ◌^◌, ◌≤◌, ◌<◌, length};
 ghost use Rattle.std.specs.Int.Count.{ones};
 ghost use Rattle.bytes_bits.specs.Bits.{bit_at, bits_below, with_bit, with_bits};
 
@@ -40,24 +40,17 @@ fn mark_each(map: &mut [u8], a: usize, n: usize)
     requires { (a + n ≤ 8 * length map.old) × (a + n ≤ 4294967295) }
     ensures { map.new ≡ with_bits map.old a n }
 {
-    let mut i: usize = 0;
-    while i < n {
+    for i in 0..n {
         mark(map, a + i);
-        i += 1;
     }
 }
 
-// Sets all bits of count bytes, by plain stores that compile to one fill of memory.
-// It asks for a map of bytes, which each map is, since a loop that only stores is not told so.
+// Sets all bits of count bytes. Compiles to one fill of memory.
 fn mark_bytes(map: &mut [u8], first: usize, count: usize)
-    requires { (first + count ≤ length map.old) × ((i : ℕ) → get_or map.old i 0 < 256) }
+    requires { first + count ≤ length map.old }
     ensures { map.new ≡ with_bits map.old (8 * first) (8 * count) }
 {
-    let mut i: usize = 0;
-    while i < count {
-        map[first + i] = 255;
-        i += 1;
-    }
+    map[first..first + count].fill(255);
 }
 
 // Sets the n bits from a on: those before the first whole byte, the whole bytes, and those behind the last.
@@ -83,7 +76,7 @@ pub fn mark_all(map: &mut [u8], a: usize, n: usize)
 fn ones_in(x: u8) -> u32
     ensures { (result ≡ ones x) × (result ≤ 8) }
 {
-    u32::count_ones(x as u32)
+    u32::from(x).count_ones()
 }
 
 // How many of the first n bits are set. The bound on n keeps the sum from wrapping.
@@ -93,10 +86,8 @@ pub fn ones_below(map: &[u8], n: usize) -> usize
 {
     let k = n / 8;
     let mut sum: u32 = 0;
-    let mut i: usize = 0;
-    while i < k {
-        sum += ones_in(map[i]);
-        i += 1;
+    for byte in &map[..k] {
+        sum += ones_in(*byte);
     }
     let whole = sum as usize;
     if n % 8 == 0 {

@@ -2,11 +2,7 @@ use mathlib.Core.List.{List}
 use Prim.Native.Nat.{ℕ, ◌+◌, ◌-◌, ◌*◌, ◌/◌, ◌%◌, ◌≤◌}
 use native.Mathlib.Omega.{arith}
 use Rattle.bytes_bits.proofs.Laws.{bits-then}
-use borrow.Author.Rules.{rules}
 use Rattle.bytes_bits.proofs.mark_all.Goals as goal
-
-pub mark_bytes-requires : goal.mark_bytes-requires
-mark_bytes-requires c = (search rules, λ i. omega (arith, c.slice_known-2-1.given i))
 
 pub returns : goal.returns
 returns c =

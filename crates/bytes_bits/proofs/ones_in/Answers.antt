@@ -4,4 +4,4 @@ use Rattle.table.proofs.Rules.{picks}
 use Rattle.bytes_bits.proofs.ones_in.Goals as goal
 
 pub returns : goal.returns
-returns c = (search picks, ones-le 8 c.args.x (omega arith))
+returns c = (search picks, ones-le 8 c.from.result (omega (arith, c.from.ensures)))
