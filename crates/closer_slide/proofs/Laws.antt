@@ -5,7 +5,7 @@ use mathlib.Core.List.{List}
 use Prim.Native.Nat.{ℕ, zero, suc, ◌+◌, ◌<◌}
 use native.Mathlib.Numerals.{add-one}
 use native.Mathlib.Omega.{arith}
-use lib.ListN.{length, get_or, set, length-set}
+use lib.ListN.{length, get_or, set}
 use lib.Dec.{eqb}
 use Rattle.table.specs.Bytes.{pick}
 use Rattle.table.specs.Closing.{moved_of, one, ones}
@@ -34,7 +34,3 @@ slid-turn f xs n h = go (f n) refl ∙ ap (λ (k : ℕ). slid_to f k xs) (sym (a
     go : (c : Bool) → f n ≡ c → pick c (set (slid_to f n xs) (ones f n) (get_or (slid_to f n xs) n 0)) (slid_to f n xs) ≡ slid_to f (suc n) xs
     go true e = ap (λ (x : ℕ). set (slid_to f n xs) (ones f n) x) (slid-read f xs n h) ∙ sym (slid-store f xs n h e)
     go false e = sym (slid-pass f xs n h e)
-
-pub length-kept : (c : Bool) (xs : List ℕ) (k v : ℕ) → length (pick c (set xs k v) xs) ≡ length xs
-length-kept true xs k v = length-set xs k v
-length-kept false xs k v = refl

@@ -32,12 +32,10 @@ fn slide(heap: &mut [u8], map: &[u8]) -> usize
 {
     let mut moved: usize = 0;
     let mut kept: usize = 0;
-    let mut n: usize = 0;
-    while n < heap.len() {
+    for n in 0..heap.len() {
         let b = bytes_bits::bit(map, n);
         moved += keep(heap, n, kept, b);
-        kept += b as usize;
-        n += 1;
+        kept += usize::from(b);
     }
     moved
 }

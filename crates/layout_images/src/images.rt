@@ -15,10 +15,9 @@ pub fn put_image(out: &mut [u8], d: usize, x: &[u8], kind: u8)
 {
     let masks = masks_of(kind, counts_more(x, kind), counts_newer(x, kind));
     let n = layout_kinds::base_size(kind);
-    let mut i: usize = 0;
-    while i < n {
+    // An index for three rows, since a zip of them would have to cut each to its part first.
+    for i in 0..n {
         out[d + i] = x[i] & masks[i];
-        i += 1;
     }
 }
 
@@ -39,11 +38,8 @@ pub fn field_at(x: &[u8], kind: u8, off: usize, width: usize) -> [u8; 16]
 {
     let mut out = [0u8; 16];
     let masks = masks_of(kind, counts_more(x, kind), counts_newer(x, kind));
-    let mut i: usize = 0;
-    while i < width {
-        let j = off + i;
-        out[i] = x[j] & masks[j];
-        i += 1;
+    for i in 0..width {
+        out[i] = x[off + i] & masks[off + i];
     }
     out
 }

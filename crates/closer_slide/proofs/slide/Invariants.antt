@@ -1,5 +1,5 @@
 use mathlib.Core.Path.{◌≡◌}
-use Prim.Native.Nat.{◌-◌, ◌≤◌}
+use Prim.Native.Nat.{◌≤◌}
 use lib.ListN.{length}
 use Rattle.table.specs.Closing.{moved_of, ones}
 use Rattle.bytes_bits.specs.Bits.{marked}
@@ -8,13 +8,9 @@ use Rattle.closer_slide.proofs.slide.Given as goal
 
 abbrev pub invariant-loop-n : goal.invariant-loop-n
 invariant-loop-n l =
-    (l.n ≤ length l.initial.heap)
-    × (l.heap ≡ slid_to (marked l.map) l.n l.initial.heap)
+    (l.heap ≡ slid_to (marked l.map) l.n l.initial.heap)
     × (length l.heap ≡ length l.initial.heap)
     × (l.kept ≡ ones (marked l.map) l.n)
     × (l.kept ≤ l.n)
     × (l.moved ≡ moved_of (marked l.map) l.n)
     × (l.moved ≤ l.n)
-
-abbrev pub decreases-loop-n : goal.decreases-loop-n
-decreases-loop-n l = length l.initial.heap - l.n

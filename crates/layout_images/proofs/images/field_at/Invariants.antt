@@ -1,5 +1,4 @@
 use mathlib.Core.Path.{◌≡◌}
-use Prim.Native.Nat.{◌-◌, ◌≤◌}
 use lib.ListN.{replicate}
 use Rattle.table.specs.Bytes.{part}
 use Rattle.table.specs.FixedLayouts.{layout_of}
@@ -8,7 +7,4 @@ use Rattle.layout_images.specs.Masks.{over}
 use Rattle.layout_images.proofs.images.field_at.Given as goal
 
 abbrev pub invariant-loop-i : goal.invariant-loop-i
-invariant-loop-i l = (l.i ≤ l.width) × (l.out ≡ over (replicate 16 0) (part (image_in (layout_of l.kind) l.x 0) l.off l.width) l.i)
-
-abbrev pub decreases-loop-i : goal.decreases-loop-i
-decreases-loop-i l = l.width - l.i
+invariant-loop-i l = l.out ≡ over (replicate 16 0) (part (image_in (layout_of l.kind) l.x 0) l.off l.width) l.i

@@ -15,7 +15,7 @@ use Rattle.table.proofs.Rules.{picks}
 use Rattle.layout_images.proofs.images.put_image.Goals as goal
 
 pub loop-i-init : goal.loop-i-init
-loop-i-init c = let a = c.args in (search picks, paste-zero a.out.now a.d (image_in (layout_of a.kind) a.x.now 0), refl)
+loop-i-init c = let a = c.args in (paste-zero a.out.now a.d (image_in (layout_of a.kind) a.x.now 0), refl)
 
 pub bounds-masks-i : goal.bounds-masks-i
 bounds-masks-i c =
@@ -37,12 +37,11 @@ loop-i-preserved c =
     ap (λ (m : List ℕ). bit_and (get_or a.x.now i 0) (get_or m i 0))
     (c.masks_of-masks.ensures ∙ ap₂ (masks_for a.kind) c.counts_more.ensures c.counts_newer.ensures) ∙ masked-byte a.kind
     a.x.now i (omega (arith, n, h)) in (
-      search picks,
-      rw (c.loop-i.invariant.1, v) (paste_more a.out.now a.d s i (omega (arith, n, c.requires)) h),
+      rw (c.loop-i.invariant.0, v) (paste_more a.out.now a.d s i (omega (arith, n, c.requires)) h),
       simp length-set (search picks),
     )
 
 pub returns : goal.returns
 returns c = let a = c.args in let s = image_in (layout_of a.kind) a.x.now 0 in
     let n = length-image_in (layout_of a.kind) a.x.now 0 in
-    c.loop-i.invariant.1 ∙ paste-done a.out.now a.d s c.loop-i.i (omega (arith, n, c.base_size-n.ensures))
+    c.loop-i.invariant.0 ∙ paste-done a.out.now a.d s c.loop-i.i (omega (arith, n, c.base_size-n.ensures))
