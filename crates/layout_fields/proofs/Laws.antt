@@ -14,9 +14,9 @@ yes_or_no true = refl
 yes_or_no false = refl
 
 -- text or any bytes, by a test
-pub text-or-not : (c : Bool) → c ≡ is_of_text (pick c text anything)
-text-or-not true = refl
-text-or-not false = refl
+pub text_or_not : (c : Bool) → c ≡ is_of_text (pick c text anything)
+text_or_not true = refl
+text_or_not false = refl
 
 -- all objects are any bytes
 abbrev pub all_bytes : Refs → Bool

@@ -41,22 +41,14 @@ fn pair_right(shifted: usize) -> bool
     shifted % 4 != 3
 }
 
+#[tactic(auto, unfolding(crate::specs::Flags::security_pairs))]
 fn security_pairs(flags: usize) -> bool
     ensures { result ≡ security_pairs flags }
 {
-    if flags / 2 % 4 == 3 {
-        return false;
-    }
-    if flags / 8 % 4 == 3 {
-        return false;
-    }
-    if flags / 32 % 4 == 3 {
-        return false;
-    }
-    if flags / 128 % 4 == 3 {
-        return false;
-    }
-    true
+    pair_right(flags / 2)
+        && pair_right(flags / 8)
+        && pair_right(flags / 32)
+        && pair_right(flags / 128)
 }
 
 // No two-bit field of the record at `a` is 3. Kinds without such fields have none that is wrong.

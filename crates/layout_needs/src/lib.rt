@@ -10,28 +10,30 @@ ghost use Rattle.layout_needs.specs.Needs.{when_set, ssns_need, security_need, i
 use layout_flags::security_flags;
 use table::{Discovery, Extended, Header, Host, Info, Need};
 
+#[tactic(auto, unfolding(crate::specs::Needs::when_set))]
 fn when_set(n: usize) -> Need
     ensures { result ≡ when_set n }
 {
     if n == 0 {
-        return Need::Ignored;
+        Need::Ignored
+    } else {
+        Need::Required
     }
-    Need::Required
 }
 
+#[tactic(auto, unfolding(crate::specs::Needs::ssns_need))]
 pub fn ssns_need(flags: usize, off: usize) -> Need
     ensures { result ≡ ssns_need flags off }
 {
     match off {
-        10 => Need::Required,
-        16 => Need::Required,
+        10 | 16 | 54 => Need::Required,
         48 => Need::Optional,
-        54 => Need::Required,
         60 => when_set(flags / 16 % 2),
         _ => Need::Ignored,
     }
 }
 
+#[tactic(auto, unfolding(crate::specs::Needs::security_need))]
 fn security_judge(flags: usize, secret: usize, off: usize) -> Need
     ensures { result ≡ security_need flags secret off }
 {
@@ -53,12 +55,12 @@ pub fn security_need(t: &[u8], a: usize, off: usize) -> Need
     security_judge(security_flags(t, a), bytes_wire::wide(t[a + 4] % 2), off)
 }
 
+#[tactic(auto, unfolding(crate::specs::Needs::identity_need))]
 fn identity_judge(flags: usize, off: usize) -> Need
     ensures { result ≡ identity_need flags off }
 {
     match off {
-        8 => when_set(flags / 2 % 2),
-        14 => when_set(flags / 2 % 2),
+        8 | 14 => when_set(flags / 2 % 2),
         _ => Need::Ignored,
     }
 }
@@ -71,64 +73,16 @@ pub fn identity_need(bytes: &[u8], off: usize) -> Need
     identity_judge(layout_flags::identity_flags(bytes), off)
 }
 
-fn host_need(off: usize) -> Need
-    ensures { result ≡ plain_need 2 off }
-{
-    if off == 18 {
-        return Need::Required;
-    }
-    Need::Ignored
-}
-
-fn discovery_need(off: usize) -> Need
-    ensures { result ≡ plain_need 6 off }
-{
-    if off == 6 {
-        return Need::Optional;
-    }
-    if off == 12 {
-        return Need::Optional;
-    }
-    Need::Ignored
-}
-
-fn header_need(off: usize) -> Need
-    ensures { result ≡ plain_need 0 off }
-{
-    if off == 44 {
-        return Need::Optional;
-    }
-    Need::Ignored
-}
-
-fn info_need(off: usize) -> Need
-    ensures { result ≡ plain_need 7 off }
-{
-    if off == 104 {
-        return Need::Optional;
-    }
-    Need::Ignored
-}
-
-fn extended_need(off: usize) -> Need
-    ensures { result ≡ plain_need 9 off }
-{
-    if off == 12 {
-        return Need::Optional;
-    }
-    Need::Ignored
-}
-
 // Header, host, discovery, transport info and extended info: their fields have no say in which objects they name.
+#[tactic(auto, using(table::proofs::Rules::picks), unfolding(crate::specs::Needs::plain_need))]
 pub fn plain_need(kind: u8, off: usize) -> Need
     ensures { result ≡ plain_need kind off }
 {
-    match kind {
-        Header::ID => header_need(off),
-        Host::ID => host_need(off),
-        Discovery::ID => discovery_need(off),
-        Info::ID => info_need(off),
-        Extended::ID => extended_need(off),
+    match (kind, off) {
+        (Host::ID, 18) => Need::Required,
+        (Header::ID, 44) | (Discovery::ID, 6 | 12) | (Info::ID, 104) | (Extended::ID, 12) => {
+            Need::Optional
+        }
         _ => Need::Ignored,
     }
 }
