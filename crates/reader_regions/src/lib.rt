@@ -1,8 +1,8 @@
 // The regions of a table: host, lists and heap as spans, which lie in the table and apart from each other.
 #![tactic(auto)]
 
-ghost use Rattle.std.specs.Prelude.{◌≡◌, ◌∷◌, [], ◌≤◌};
-ghost use Rattle.reader_regions.specs.Regions.{list_span, host_span, heap_span, outsides, overlaps, misplaced};
+ghost use Rattle.std.specs.Prelude.{◌≡◌, ◌≤◌, length, All};
+ghost use Rattle.reader_regions.specs.Regions.{list_span, host_span, heap_span, outsides, overlaps_of, overlaps, misplaced};
 ghost use Rattle.reader_head.specs.Head.{Narrow, NarrowRegion, NarrowEntry};
 ghost use Rattle.reader_spans.specs.Spans.{Ends};
 
@@ -45,39 +45,40 @@ fn heap_span(r: Region) -> Span
     }
 }
 
-// How many of the six regions start before lo or end behind hi.
-fn all_outside(lo: usize, hi: usize, a: Span, b: Span, c: Span, d: Span, e: Span, f: Span) -> usize
-    requires { Ends a × Ends b × Ends c × Ends d × Ends e × Ends f }
-    ensures { (result ≡ outsides lo hi (a ∷ b ∷ c ∷ d ∷ e ∷ f ∷ [])) × (result ≤ 6) }
+// How many of the regions start before lo or end behind hi.
+fn all_outside(lo: usize, hi: usize, spans: &[Span]) -> usize
+    requires { All Ends spans.now }
+    ensures { (result ≡ outsides lo hi spans.now) × (result ≤ length spans.now) }
 {
-    one_outside(lo, hi, a)
-        + one_outside(lo, hi, b)
-        + one_outside(lo, hi, c)
-        + one_outside(lo, hi, d)
-        + one_outside(lo, hi, e)
-        + one_outside(lo, hi, f)
+    let mut count = 0;
+    for span in spans {
+        count += one_outside(lo, hi, *span);
+    }
+    count
 }
 
-// How many of their fifteen pairs share a byte.
-fn all_overlaps(a: Span, b: Span, c: Span, d: Span, e: Span, f: Span) -> usize
-    requires { Ends a × Ends b × Ends c × Ends d × Ends e × Ends f }
-    ensures { (result ≡ overlaps (a ∷ b ∷ c ∷ d ∷ e ∷ f ∷ [])) × (result ≤ 15) }
+// How many of the others share a byte with one of them.
+fn overlaps_of(one: Span, others: &[Span]) -> usize
+    requires { Ends one × All Ends others.now }
+    ensures { (result ≡ overlaps_of one others.now) × (result ≤ length others.now) }
 {
-    one_overlap(a, b)
-        + one_overlap(a, c)
-        + one_overlap(a, d)
-        + one_overlap(a, e)
-        + one_overlap(a, f)
-        + one_overlap(b, c)
-        + one_overlap(b, d)
-        + one_overlap(b, e)
-        + one_overlap(b, f)
-        + one_overlap(c, d)
-        + one_overlap(c, e)
-        + one_overlap(c, f)
-        + one_overlap(d, e)
-        + one_overlap(d, f)
-        + one_overlap(e, f)
+    let mut count = 0;
+    for other in others {
+        count += one_overlap(one, *other);
+    }
+    count
+}
+
+// How many of their pairs share a byte.
+fn all_overlaps(spans: &[Span]) -> usize
+    requires { All Ends spans.now × (length spans.now ≤ 6) }
+    ensures { (result ≡ overlaps spans.now) × (result ≤ 36) }
+{
+    let mut count = 0;
+    for (i, span) in spans.iter().enumerate() {
+        count += overlaps_of(*span, &spans[i + 1..]);
+    }
+    count
 }
 
 // Regions lie between the end of the control record and Length, and apart from each other.
@@ -85,18 +86,14 @@ pub fn misplaced_regions(h: Head) -> usize
     requires { Narrow h }
     ensures { result ≡ misplaced h }
 {
-    let host = h.host;
-    let heap = h.heap;
-    let hfi = h.hfi;
-    let ssns = h.ssns;
-    let security = h.security;
-    let discovery = h.discovery;
-    let a = host_span(host);
-    let b = list_span(hfi);
-    let c = list_span(ssns);
-    let d = list_span(security);
-    let e = list_span(discovery);
-    let f = heap_span(heap);
+    let spans = [
+        host_span(h.host),
+        list_span(h.hfi),
+        list_span(h.ssns),
+        list_span(h.security),
+        list_span(h.discovery),
+        heap_span(h.heap),
+    ];
     let lo = table::Header::SIZE + h.csl;
-    all_outside(lo, h.size, a, b, c, d, e, f) + all_overlaps(a, b, c, d, e, f)
+    all_outside(lo, h.size, &spans) + all_overlaps(&spans)
 }
