@@ -13,37 +13,19 @@ pub struct Span {
 }
 
 // The end is summed in a usize: at 32 bits it would wrap, and a region far outside would seem to end inside.
+#[tactic(auto, using(table::proofs::Rules::picks), unfolding(crate::specs::Spans::outside))]
 pub fn one_outside(lo: usize, hi: usize, s: Span) -> usize
     requires { Ends s }
     ensures { (result ≡ outside lo hi s) × (result ≤ 1) }
 {
-    if s.present == 0 {
-        return 0;
-    }
-    if s.at < lo {
-        return 1;
-    }
-    if hi < s.at + s.len {
-        return 1;
-    }
-    0
+    usize::from(s.present != 0 && (s.at < lo || hi < s.at + s.len))
 }
 
+#[tactic(auto, using(table::proofs::Rules::picks), unfolding(crate::specs::Spans::overlap))]
 pub fn one_overlap(a: Span, b: Span) -> usize
     requires { Ends a × Ends b }
     ensures { (result ≡ overlap a b) × (result ≤ 1) }
 {
-    if a.present == 0 {
-        return 0;
-    }
-    if b.present == 0 {
-        return 0;
-    }
-    if a.at + a.len <= b.at {
-        return 0;
-    }
-    if b.at + b.len <= a.at {
-        return 0;
-    }
-    1
+    let apart = a.at + a.len <= b.at || b.at + b.len <= a.at;
+    usize::from(a.present != 0 && b.present != 0 && !apart)
 }
