@@ -89,9 +89,9 @@ fn put_entry(part: &mut [u8], at: usize, place: usize, size: usize, count: u8)
 {
     if count == 0 {
         put_place(part, at, 0, 0, 0);
-        return;
+    } else {
+        put_place(part, at, place, size, count);
     }
-    put_place(part, at, place, size, count);
 }
 
 // The control record: the host stands behind it, and the lists behind the host, each right behind the one before.

@@ -8,6 +8,7 @@ ghost use Rattle.table.specs.Meaning.{limit};
 use table::Answer;
 
 // `n` bytes are to be written, of which there are `room`.
+#[tactic(auto, using(table::proofs::Rules::picks), unfolding(table::specs::Meaning::limit))]
 pub fn room_fault(n: usize, room: usize) -> Answer
     ensures { result ≡ first_fail (test (leb n limit) 17 0 0 ∷ test (leb n room) 14 0 0 ∷ []) }
 {

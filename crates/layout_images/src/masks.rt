@@ -121,13 +121,16 @@ pub fn counts_newer(x: &[u8], kind: u8) -> bool
 }
 
 // Those of an info.
+#[tactic(auto, unfolding(crate::specs::Masks::masks_for, table::specs::FixedLayouts::layout_of, table::specs::FixedLayouts::info))]
 fn info_masks(more: bool, newer: bool) -> [u8; 128]
     ensures { result ≡ masks_for 7 more newer }
 {
-    if newer {
-        return if more { NEWER_INFO_MORE } else { NEWER_INFO };
+    match (newer, more) {
+        (true, true) => NEWER_INFO_MORE,
+        (true, false) => NEWER_INFO,
+        (false, true) => INFO_MORE,
+        (false, false) => INFO,
     }
-    if more { INFO_MORE } else { INFO }
 }
 
 // The masks of a kind's bytes.

@@ -2,10 +2,6 @@ use Rattle.reader_head.specs.Head.{head_of}
 use native.Mathlib.Omega.{arith}
 use Rattle.reader_head.proofs.head_of.Goals as goal
 
-pub entry_at-requires-4 : goal.entry_at-requires-4
-entry_at-requires-4 c =
-    omega (arith, c.requires)
-
 pub returns : goal.returns
 unfolding head_of
 returns c = (
