@@ -98,6 +98,7 @@ const HFI_EXTENDED: [u8; 128] = *b"\
     \x00\x00\x00\x00\x00\x00\x00\x00\x00\x00\x00\x00\x00\x00\x00\x00\x00\x00\x00\x00\x00\x00\x00\x00\x00\x00\x00\x00\x00\x00\x00\x00";
 
 // Whether the flag is set under which a further field counts: SSNS 45, transport info 88.
+#[tactic(auto, using(table::proofs::Rules::picks), unfolding(crate::specs::Masks::on_in, table::specs::FixedLayouts::layout_of, table::specs::FixedLayouts::ssns, table::specs::FixedLayouts::info))]
 pub fn counts_more(x: &[u8], kind: u8) -> bool
     requires { base_of (layout_of kind) ≤ length x.now }
     ensures { result ≡ on_in kind x.now }
@@ -110,6 +111,7 @@ pub fn counts_more(x: &[u8], kind: u8) -> bool
 }
 
 // Whether the bit of the version is set under which one more flag counts: transport info 6.
+#[tactic(auto, using(table::proofs::Rules::picks), unfolding(crate::specs::Masks::newer_in, table::specs::FixedLayouts::layout_of, table::specs::FixedLayouts::info))]
 pub fn counts_newer(x: &[u8], kind: u8) -> bool
     requires { base_of (layout_of kind) ≤ length x.now }
     ensures { result ≡ newer_in kind x.now }
