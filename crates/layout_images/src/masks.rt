@@ -136,6 +136,7 @@ fn info_masks(more: bool, newer: bool) -> [u8; 128]
 }
 
 // The masks of a kind's bytes.
+#[tactic(auto, using(table::proofs::Rules::picks), unfolding(crate::specs::Masks::masks_for, table::specs::FixedLayouts::layout_of, table::specs::FixedLayouts::header, table::specs::FixedLayouts::control, table::specs::FixedLayouts::host, table::specs::FixedLayouts::hfi, table::specs::FixedLayouts::ssns, table::specs::FixedLayouts::security, table::specs::FixedLayouts::discovery, table::specs::FixedLayouts::extended, table::specs::FixedLayouts::hfi_extended, table::specs::FixedLayouts::no_kind))]
 pub fn masks_of(kind: u8, more: bool, newer: bool) -> [u8; 128]
     ensures { result ≡ masks_for kind more newer }
 {
