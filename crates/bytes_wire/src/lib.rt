@@ -67,6 +67,7 @@ pub fn sum8(t: &[u8]) -> u8
     let mut second: u8 = 0;
     let mut third: u8 = 0;
     let mut fourth: u8 = 0;
+    // By an index, since each turn reads a byte of all four.
     for i in 0..quarter {
         first = first.wrapping_add(t[i]);
         second = second.wrapping_add(t[quarter + i]);

@@ -32,6 +32,7 @@ fn slide(heap: &mut [u8], map: &[u8]) -> usize
 {
     let mut moved: usize = 0;
     let mut kept: usize = 0;
+    // By an index, since the heap is written while it is walked.
     for n in 0..heap.len() {
         let b = bytes_bits::bit(map, n);
         moved += keep(heap, n, kept, b);

@@ -38,6 +38,7 @@ pub fn field_at(x: &[u8], kind: u8, off: usize, width: usize) -> [u8; 16]
 {
     let mut out = [0u8; 16];
     let masks = masks_of(kind, counts_more(x, kind), counts_newer(x, kind));
+    // An index for three rows, as in put_image.
     for i in 0..width {
         out[i] = x[off + i] & masks[off + i];
     }

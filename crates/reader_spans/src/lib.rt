@@ -4,7 +4,8 @@
 ghost use Rattle.std.specs.Prelude.{◌≡◌, ◌≤◌};
 ghost use Rattle.reader_spans.specs.Spans.{outside, overlap, Ends};
 
-// A region that is none where `present` is 0: an empty list and a heap of length 0 have no place.
+// A region that is none where `present` is 0: an empty list and a heap of length 0 have no place. It is no Option of a Region, since the
+// definitions `outside` and `overlap` of specs/ are over these three numbers.
 #[derive(Clone, Copy)]
 pub struct Span {
     pub present: usize,
