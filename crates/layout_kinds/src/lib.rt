@@ -1,14 +1,12 @@
 // What differs from kind to kind, looked up by its number. A number that is no kind has size 0 and no references, as in the definitions.
-#![tactic(auto)]
+#![tactic(auto, unfolding(table::specs::FixedLayouts::layout_of, table::specs::FixedLayouts::header, table::specs::FixedLayouts::control, table::specs::FixedLayouts::host, table::specs::FixedLayouts::hfi, table::specs::FixedLayouts::ssns, table::specs::FixedLayouts::security, table::specs::FixedLayouts::discovery, table::specs::FixedLayouts::info, table::specs::FixedLayouts::extended, table::specs::FixedLayouts::hfi_extended, table::specs::FixedLayouts::no_kind,))]
 
 ghost use Rattle.std.specs.Prelude.{◌≡◌, ◌≤◌, length};
 ghost use Rattle.table.specs.Layout.{offsets, base_of};
 ghost use Rattle.table.specs.FixedLayouts.{layout_of};
 ghost use Rattle.layout_kinds.specs.References.{object_refs};
 
-use table::{
-    Control, Discovery, Extended, Header, Hfi, HfiExtended, Host, Info, Security, Ssns,
-};
+use table::{Control, Discovery, Extended, Header, Hfi, HfiExtended, Host, Info, Security, Ssns};
 
 // The one transport type: that of every HFI, SSNS and transport info record.
 pub const TCP: u8 = 3;
