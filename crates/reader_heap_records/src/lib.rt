@@ -116,20 +116,16 @@ fn own_ref(x: &[u8], kind: u8, off: usize, heap: &[u8], from: usize) -> u8
 }
 
 // The first fault of its references, by ascending field offset.
+#[tactic(auto, unfolding(crate::specs::HeapRecords::own_faults))]
 fn own_fault(x: &[u8], kind: u8, heap: &[u8], from: usize) -> u8
     requires { (base_of (layout_of kind) ≤ length x.now) × (from + length heap.now < 8589934592) }
     ensures { result ≡ own_faults kind heap.now from x.now }
 {
-    let rs = layout_kinds::reference_offsets(kind);
-    let count = rs.count;
-    let mut i: usize = 0;
-    while i < count {
-        let off = rs.at[i];
+    for &off in layout_kinds::reference_offsets(kind) {
         let fault = own_ref(x, kind, off, heap, from);
         if fault != 0 {
             return fault;
         }
-        i += 1;
     }
     0
 }
@@ -194,19 +190,16 @@ fn info_ref(x: &[u8], position: usize, off: usize, heap: &[u8], from: usize) -> 
 }
 
 // The first fault of them, by ascending field offset.
+#[tactic(auto, unfolding(crate::specs::HeapRecords::info_faults, table::specs::FixedLayouts::layout_of))]
 fn info_refs(x: &[u8], position: usize, heap: &[u8], from: usize) -> u8
     requires { (128 ≤ length x.now) × (from + length heap.now < 8589934592) }
     ensures { result ≡ info_faults heap.now from position x.now }
 {
-    let rs = layout_kinds::reference_offsets(Info::ID);
-    let count = rs.count;
-    let mut i: usize = 0;
-    while i < count {
-        let fault = info_ref(x, position, rs.at[i], heap, from);
+    for &off in layout_kinds::reference_offsets(Info::ID) {
+        let fault = info_ref(x, position, off, heap, from);
         if fault != 0 {
             return fault;
         }
-        i += 1;
     }
     0
 }

@@ -18,16 +18,11 @@ pub fn refs_fault(t: &[u8], kind: u8, a: usize, position: usize, heap: &[u8], fr
     requires { (kind ≤ 6) × (a + base_of (layout_of kind) ≤ length t.now) × IsHeap t.now heap.now from }
     ensures { result ≡ refs_fault kind (region from (length heap.now)) t.now a position }
 {
-    let rs = layout_kinds::reference_offsets(kind);
-    let n = rs.count;
-    let mut i: usize = 0;
-    while i < n {
-        let off = rs.at[i];
+    for &off in layout_kinds::reference_offsets(kind) {
         let fault = reader_rules::ref_fault(t, kind, a, position, off, heap, from);
         if fault != 0 {
             return fault;
         }
-        i += 1;
     }
     0
 }
