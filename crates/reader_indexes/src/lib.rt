@@ -50,23 +50,14 @@ pub fn valid_at(t: &[u8], kind: u8, n: usize) -> bool
     requires { LaidOut t.now }
     ensures { result ≡ valid_in t.now kind n }
 {
-    match kind {
-        Hfi::ID => valid_in(t, Control::HFI_LIST, layout_kinds::flags_at(Hfi::ID), n),
-        Ssns::ID => valid_in(t, Control::SSNS_LIST, layout_kinds::flags_at(Ssns::ID), n),
-        Security::ID => valid_in(
-            t,
-            Control::SECURITY_LIST,
-            layout_kinds::flags_at(Security::ID),
-            n,
-        ),
-        Discovery::ID => valid_in(
-            t,
-            Control::DISCOVERY_LIST,
-            layout_kinds::flags_at(Discovery::ID),
-            n,
-        ),
-        _ => false,
-    }
+    let entry = match kind {
+        Hfi::ID => Control::HFI_LIST,
+        Ssns::ID => Control::SSNS_LIST,
+        Security::ID => Control::SECURITY_LIST,
+        Discovery::ID => Control::DISCOVERY_LIST,
+        _ => return false,
+    };
+    valid_in(t, entry, layout_kinds::flags_at(kind), n)
 }
 
 // What is found behind `looks` others. Where contracts of the reader bound looks, they do it coarsely, by the heap's length, so that no sum of looks wraps; what
@@ -117,17 +108,15 @@ fn secondaries_fault(x: &[u8], t: &[u8]) -> Found
     requires { LaidOut t.now × (length x.now ≤ 8589934592) }
     ensures { (result ≡ found_by (valid_in t.now) (each 3 x.now)) × (result.looks ≤ length x.now) }
 {
-    let mut i: usize = 0;
-    while i < x.len() {
-        let named = index_fault(t, Hfi::ID, bytes_wire::wide(x[i]));
+    for (i, &position) in x.iter().enumerate() {
+        let named = index_fault(t, Hfi::ID, usize::from(position));
         if named.number != 0 {
             return behind(i, named);
         }
-        i += 1;
     }
     Found {
         number: 0,
-        looks: i,
+        looks: x.len(),
     }
 }
 

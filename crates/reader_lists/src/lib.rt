@@ -87,22 +87,20 @@ fn list_from(
 {
     let mut base = at;
     let mut looks: usize = 0;
-    let mut i: usize = 0;
-    while i < count {
+    for i in 0..count {
         let found = record_fault(t, kind, base, i + 1, heap, from);
         looks += found.looks;
         if found.number != 0 {
             return Looked {
                 answer: table::refuse(found.number, kind, i + 1),
-                looks: looks,
+                looks,
             };
         }
         base += step;
-        i += 1;
     }
     Looked {
         answer: table::done(),
-        looks: looks,
+        looks,
     }
 }
 
