@@ -15,19 +15,12 @@ ghost use Rattle.reader_indexes.specs.Indexes.{RefsPass};
 use table::{Control, Discovery, Found, Hfi, Security, Ssns};
 
 // Position n of a list is one of it, and its valid bit is set.
+#[tactic(auto, using(table::proofs::Rules::picks, crate::proofs::Laws::stride), unfolding(laws::specs::ListWalk::flagged))]
 fn listed(t: &[u8], at: usize, step: usize, count: usize, flag: usize, n: usize) -> bool
     requires { (0 < count → at + count * step ≤ length t.now) × (0 < count → flag < step) }
     ensures { result ≡ flagged t.now at step count flag n }
 {
-    if n == 0 {
-        return false;
-    }
-    if count < n {
-        return false;
-    }
-    let i = n - 1;
-    let d = i * step;
-    t[at + d + flag] % 2 == 1
+    n != 0 && n <= count && t[at + (n - 1) * step + flag] % 2 == 1
 }
 
 // Position n of the list whose entry in the control record stands at c.
@@ -67,24 +60,24 @@ pub fn behind(looks: usize, rest: Found) -> Found
     ensures { result ≡ after looks rest }
 {
     Found {
-        number: rest.number,
         looks: looks + rest.looks,
+        ..rest
     }
 }
+
+// What is found where no index is to be looked at.
+pub const NOTHING: Found = Found {
+    number: 0,
+    looks: 0,
+};
 
 // An index takes a look at the record that it names, whether it is valid or not.
 pub fn index_fault(t: &[u8], kind: u8, n: usize) -> Found
     requires { LaidOut t.now }
     ensures { (result ≡ found_by (valid_in t.now) (index kind n ∷ [])) × (result.looks ≤ 1) }
 {
-    if valid_at(t, kind, n) {
-        return Found {
-            number: 0,
-            looks: 1,
-        };
-    }
     Found {
-        number: 13,
+        number: if valid_at(t, kind, n) { 0 } else { 13 },
         looks: 1,
     }
 }
@@ -95,10 +88,7 @@ pub fn optional_index(t: &[u8], kind: u8, n: usize) -> Found
     ensures { (result ≡ found_by (valid_in t.now) (unless (eqb n 0) (index kind n) [])) × (result.looks ≤ 1) }
 {
     if n == 0 {
-        return Found {
-            number: 0,
-            looks: 0,
-        };
+        return NOTHING;
     }
     index_fault(t, kind, n)
 }
