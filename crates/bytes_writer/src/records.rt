@@ -4,7 +4,6 @@ ghost use Rattle.table.specs.Bytes.{splice, apply};
 ghost use Rattle.bytes_writer.specs.Stores.{ref_num, stores_from, Room};
 
 use crate::stores::put_ref;
-use table::Offsets;
 
 // What each reference's object takes: its length, and its bytes in the heap.
 #[derive(Clone, Copy)]
@@ -26,20 +25,14 @@ pub fn put_slot(part: &mut [u8], at: usize, target: usize, len: usize)
 }
 
 // The references of a record, in order; the objects stand one behind the other from `heap` on.
-pub fn put_refs(part: &mut [u8], offsets: Offsets, sizes: Sizes, heap: usize)
-    requires room { Room offsets.count offsets.at sizes.span (length part.old) }
+pub fn put_refs(part: &mut [u8], offsets: &[usize], sizes: Sizes, heap: usize)
+    requires room { Room (length offsets.now) offsets.now sizes.span (length part.old) }
     requires heap_bound { heap ≤ 131072 }
-    ensures { part.new ≡ apply part.old (stores_from offsets.at sizes.len sizes.span heap 0 offsets.count) }
+    ensures { part.new ≡ apply part.old (stores_from offsets.now sizes.len sizes.span heap 0 (length offsets.now)) }
 {
-    let count = offsets.count;
     let mut next = heap;
-    let mut i: usize = 0;
-    while i < count {
-        let offset = offsets.at[i];
-        let len = sizes.len[i];
-        let span = sizes.span[i] as usize;
-        put_slot(part, offset, next, len);
-        next = next + span;
-        i += 1;
+    for (i, &offset) in offsets.iter().enumerate() {
+        put_slot(part, offset, next, sizes.len[i]);
+        next += sizes.span[i] as usize;
     }
 }

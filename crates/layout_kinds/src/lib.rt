@@ -1,14 +1,12 @@
 // What differs from kind to kind, looked up by its number. A number that is no kind has size 0 and no references, as in the definitions.
-#![tactic(auto)]
+#![tactic(auto, unfolding(table::specs::FixedLayouts::layout_of, table::specs::FixedLayouts::header, table::specs::FixedLayouts::control, table::specs::FixedLayouts::host, table::specs::FixedLayouts::hfi, table::specs::FixedLayouts::ssns, table::specs::FixedLayouts::security, table::specs::FixedLayouts::discovery, table::specs::FixedLayouts::info, table::specs::FixedLayouts::extended, table::specs::FixedLayouts::hfi_extended, table::specs::FixedLayouts::no_kind,))]
 
-ghost use Rattle.std.specs.Prelude.{◌≡◌, ◌≤◌, length, take};
+ghost use Rattle.std.specs.Prelude.{◌≡◌, ◌≤◌, length};
 ghost use Rattle.table.specs.Layout.{offsets, base_of};
 ghost use Rattle.table.specs.FixedLayouts.{layout_of};
 ghost use Rattle.layout_kinds.specs.References.{object_refs};
 
-use table::{
-    Control, Discovery, Extended, Header, Hfi, HfiExtended, Host, Info, Offsets, Security, Ssns,
-};
+use table::{Control, Discovery, Extended, Header, Hfi, HfiExtended, Host, Info, Security, Ssns};
 
 // The one transport type: that of every HFI, SSNS and transport info record.
 pub const TCP: u8 = 3;
@@ -51,32 +49,22 @@ pub fn flags_at(kind: u8) -> usize
     }
 }
 
-// A function, so that each kind takes one line of the table below.
-fn offsets_of(at: [usize; 6], count: usize) -> Offsets
-    ensures { (result.at ≡ at) × (result.count ≡ count) }
-{
-    Offsets {
-        at: at,
-        count: count,
-    }
-}
-
 // The references of each kind, in the order in which they are checked and written.
-pub fn reference_offsets(kind: u8) -> Offsets
-    ensures { (take result.count result.at ≡ offsets (layout_of kind).refs) × (result.count ≡ length (offsets (layout_of kind).refs)) × (result.count ≤ 6) }
+pub fn reference_offsets(kind: u8) -> &'static [usize]
+    ensures { (result.now ≡ offsets (layout_of kind).refs) × (length result.now ≤ 6) }
 {
     match kind {
-        Header::ID => offsets_of([44, 0, 0, 0, 0, 0], 1),
-        Control::ID => offsets_of([0, 0, 0, 0, 0, 0], 0),
-        Host::ID => offsets_of([18, 0, 0, 0, 0, 0], 1),
-        Hfi::ID => offsets_of([16, 0, 0, 0, 0, 0], 1),
-        Ssns::ID => offsets_of([10, 16, 48, 54, 60, 0], 5),
-        Security::ID => offsets_of([6, 12, 18, 24, 30, 36], 6),
-        Discovery::ID => offsets_of([6, 12, 0, 0, 0, 0], 2),
-        Info::ID => offsets_of([104, 110, 0, 0, 0, 0], 2),
-        Extended::ID => offsets_of([12, 0, 0, 0, 0, 0], 1),
-        HfiExtended::ID => offsets_of([8, 14, 0, 0, 0, 0], 2),
-        _ => offsets_of([0, 0, 0, 0, 0, 0], 0),
+        Header::ID => &[44],
+        Control::ID => &[],
+        Host::ID => &[18],
+        Hfi::ID => &[16],
+        Ssns::ID => &[10, 16, 48, 54, 60],
+        Security::ID => &[6, 12, 18, 24, 30, 36],
+        Discovery::ID => &[6, 12],
+        Info::ID => &[104, 110],
+        Extended::ID => &[12],
+        HfiExtended::ID => &[8, 14],
+        _ => &[],
     }
 }
 
@@ -97,4 +85,12 @@ pub fn object_count(kind: u8) -> usize
         HfiExtended::ID => 2,
         _ => 0,
     }
+}
+
+// Where those to objects stand in a record of this kind.
+pub fn object_offsets(kind: u8) -> &'static [usize]
+    ensures { (result.now ≡ object_refs (layout_of kind).refs) × (length result.now ≤ 6) }
+{
+    let offsets = reference_offsets(kind);
+    &offsets[..object_count(kind)]
 }

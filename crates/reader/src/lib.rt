@@ -30,9 +30,10 @@ fn answer_of(number: u8, kind: u8) -> Answer
     ensures { result ≡ numbered number kind }
 {
     if number == 0 {
-        return table::done();
+        table::done()
+    } else {
+        table::refuse(number, kind, 0)
     }
-    table::refuse(number, kind, 0)
 }
 
 // What is found behind `looks` others. As in `reader_indexes` the bounds are there so that the sum does not wrap.
@@ -40,10 +41,9 @@ fn behind(looks: usize, rest: Looked) -> Looked
     requires { (looks ≤ 8796093022208) × (rest.looks ≤ 8796093022208) }
     ensures { (result.answer ≡ rest.answer) × (result.looks ≡ looks + rest.looks) }
 {
-    let answer = rest.answer;
     Looked {
-        answer: answer,
         looks: looks + rest.looks,
+        ..rest
     }
 }
 
@@ -93,12 +93,9 @@ fn parts_fault(t: &[u8], heap: &[u8], from: usize) -> Looked
     requires { LaidOut t.now × IsHeap t.now heap.now from × (from ≡ num t.now 36 4) × (length heap.now ≡ num t.now 40 4) }
     ensures { (result.answer ≡ records t.now (meaning t.now)) × (result.looks ≡ looks_records t.now (meaning t.now)) }
 {
-    let driver = answer_of(refs_fault(t, Header::ID, 0, 0, heap, from), Header::ID);
-    if driver.number != 0 {
-        return Looked {
-            answer: driver,
-            looks: 0,
-        };
+    let answer = answer_of(refs_fault(t, Header::ID, 0, 0, heap, from), Header::ID);
+    if answer.number != 0 {
+        return Looked { answer, looks: 0 };
     }
     let host = host_fault(t, heap, from);
     if host.answer.number != 0 {
@@ -121,12 +118,9 @@ fn records_fault(t: &[u8]) -> Looked
 pub fn check_looks(t: &[u8]) -> Looked
     ensures { (result.answer ≡ check t.now) × (result.looks ≡ looks t.now) }
 {
-    let fault = reader_frame::frame_fault(t);
-    if fault.number != 0 {
-        return Looked {
-            answer: fault,
-            looks: 0,
-        };
+    let answer = reader_frame::frame_fault(t);
+    if answer.number != 0 {
+        return Looked { answer, looks: 0 };
     }
     records_fault(t)
 }
@@ -135,7 +129,5 @@ pub fn check_looks(t: &[u8]) -> Looked
 pub fn check(t: &[u8]) -> Answer
     ensures { result ≡ check t.now }
 {
-    let looked = check_looks(t);
-    let answer = looked.answer;
-    answer
+    check_looks(t).answer
 }

@@ -13,86 +13,57 @@ use reader_regions::misplaced_regions;
 use table::{Answer, SHORTEST};
 
 // 1 where a list that is not empty has records shorter than their kind, else 0. Faults are counted, so that a sum of calls says that there is none.
+#[tactic(auto, using(table::proofs::Rules::picks), unfolding(crate::specs::Tests::too_short))]
 fn one_short(e: Entry, base: usize) -> usize
     ensures { (result ≡ too_short e base) × (result ≤ 1) }
 {
-    if e.count == 0 {
-        return 0;
-    }
-    if e.step < base {
-        return 1;
-    }
-    0
+    if e.count != 0 && e.step < base { 1 } else { 0 }
 }
 
 fn short_lists(h: Head) -> usize
     ensures { (result ≡ short_lists h) × (result ≤ 4) }
 {
-    let hfi = h.hfi;
-    let ssns = h.ssns;
-    let security = h.security;
-    let discovery = h.discovery;
-    one_short(hfi, table::Hfi::SIZE)
-        + one_short(ssns, table::Ssns::SIZE)
-        + one_short(security, table::Security::SIZE)
-        + one_short(discovery, table::Discovery::SIZE)
+    one_short(h.hfi, table::Hfi::SIZE)
+        + one_short(h.ssns, table::Ssns::SIZE)
+        + one_short(h.security, table::Security::SIZE)
+        + one_short(h.discovery, table::Discovery::SIZE)
 }
 
 // The version of an empty list is not looked at.
+#[tactic(auto, using(table::proofs::Rules::picks), unfolding(crate::specs::Tests::wrong_version))]
 fn one_wrong_version(e: Entry) -> usize
     ensures { (result ≡ wrong_version e) × (result ≤ 1) }
 {
-    if e.count == 0 {
-        return 0;
-    }
-    if e.version != 1 {
-        return 1;
-    }
-    0
+    if e.count != 0 && e.version != 1 { 1 } else { 0 }
 }
 
 fn wrong_versions(h: Head) -> usize
     ensures { (result ≡ wrong_versions h) × (result ≤ 4) }
 {
-    let hfi = h.hfi;
-    let ssns = h.ssns;
-    let security = h.security;
-    let discovery = h.discovery;
-    one_wrong_version(hfi)
-        + one_wrong_version(ssns)
-        + one_wrong_version(security)
-        + one_wrong_version(discovery)
+    one_wrong_version(h.hfi)
+        + one_wrong_version(h.ssns)
+        + one_wrong_version(h.security)
+        + one_wrong_version(h.discovery)
 }
 
 // 1 where test 7 finds the control record wrong. It follows the header and is CSL bytes long; regions are held against its end.
+#[tactic(auto, using(table::proofs::Rules::picks), unfolding(crate::specs::Tests::control_wrong))]
 fn control_wrong(h: Head) -> usize
     requires { Narrow h }
     ensures { (result ≡ control_wrong h) × (result ≤ 1) }
 {
-    let csl = h.csl;
-    if h.controlid != table::Control::ID {
-        return 1;
-    }
-    if h.controlmajor != 1 {
-        return 1;
-    }
-    if csl < table::Control::SIZE {
-        return 1;
-    }
-    if h.size < table::Header::SIZE + csl {
-        return 1;
-    }
-    if h.flags % 2 != 1 {
-        return 1;
-    }
-    0
+    let right = h.controlid == table::Control::ID
+        && h.controlmajor == 1
+        && table::Control::SIZE <= h.csl
+        && table::Header::SIZE + h.csl <= h.size
+        && h.flags % 2 == 1;
+    if right { 0 } else { 1 }
 }
 
 fn head_fault(h: Head) -> Answer
     requires { Narrow h }
     ensures { result ≡ first_fail (head_tests h) }
 {
-    let host = h.host;
     let control = control_wrong(h);
     let short = short_lists(h);
     let misplaced = misplaced_regions(h);
@@ -100,7 +71,7 @@ fn head_fault(h: Head) -> Answer
     judge(
         h.major,
         control,
-        host.len,
+        h.host.len,
         short,
         misplaced,
         h.hostversion,

@@ -16,6 +16,7 @@ use table::{Extended, HfiExtended, Info, Need};
 
 // Valid, with the right ID, version, type and index, by what was read, and what else its kind asks for. For a kind without type the right one is
 // handed over.
+#[tactic(auto, using(table::proofs::Rules::picks), unfolding(crate::specs::HeapRecords::sound_by))]
 fn sound(
     kind: u8,
     flags: u8,
@@ -28,47 +29,25 @@ fn sound(
 ) -> u8
     ensures { result ≡ pick (sound_by kind flags id version transport index position further) 0 12 }
 {
-    if flags % 2 != 1 {
-        return 12;
+    if flags % 2 == 1
+        && id == kind
+        && version == 1
+        && transport == TCP
+        && index == position
+        && further
+    {
+        0
+    } else {
+        12
     }
-    if id != kind {
-        return 12;
-    }
-    if version != 1 {
-        return 12;
-    }
-    if transport != TCP {
-        return 12;
-    }
-    if index != position {
-        return 12;
-    }
-    if further { 0 } else { 12 }
-}
-
-fn is_version(version: u8) -> bool
-    ensures { result ≡ (eqb version 1 || eqb version 2) }
-{
-    if version == 1 {
-        return true;
-    }
-    version == 2
 }
 
 // An autoconfigured interface (flag 3) has neither DHCP (flag 2) nor an IP origin.
+#[tactic(auto, using(table::proofs::Rules::picks), unfolding(crate::specs::HeapRecords::info_right))]
 fn info_right(version: u8, flags: u8, origin: u8) -> bool
     ensures { result ≡ info_right version flags origin }
 {
-    if !is_version(version) {
-        return false;
-    }
-    if flags / 8 % 2 == 0 {
-        return true;
-    }
-    if flags / 4 % 2 != 0 {
-        return false;
-    }
-    origin == 0
+    (version == 1 || version == 2) && (flags / 8 % 2 == 0 || flags / 4 % 2 == 0 && origin == 0)
 }
 
 // The flags of an info that count: one more under version 2.
@@ -77,19 +56,18 @@ fn info_flags(x: &[u8]) -> u8
     ensures { result ≡ get_or (image_in info x.now 0) 6 0 }
 {
     if x[3] % 4 / 2 == 0 {
-        return x[6] % 8;
+        x[6] % 8
+    } else {
+        x[6] % 16
     }
-    x[6] % 16
 }
 
 // A client identifier (flag 1) asks for IP origin 3.
+#[tactic(auto, using(table::proofs::Rules::picks), unfolding(crate::specs::HeapRecords::identity_right))]
 fn identity_right(flags: u8, origin: u8) -> bool
     ensures { result ≡ identity_right flags origin }
 {
-    if flags / 2 % 2 == 0 {
-        return true;
-    }
-    origin == 3
+    flags / 2 % 2 == 0 || origin == 3
 }
 
 // Whether a reference of a heap record that names objects alone counts.
@@ -116,20 +94,16 @@ fn own_ref(x: &[u8], kind: u8, off: usize, heap: &[u8], from: usize) -> u8
 }
 
 // The first fault of its references, by ascending field offset.
+#[tactic(auto, unfolding(crate::specs::HeapRecords::own_faults))]
 fn own_fault(x: &[u8], kind: u8, heap: &[u8], from: usize) -> u8
     requires { (base_of (layout_of kind) ≤ length x.now) × (from + length heap.now < 8589934592) }
     ensures { result ≡ own_faults kind heap.now from x.now }
 {
-    let rs = layout_kinds::reference_offsets(kind);
-    let count = rs.count;
-    let mut i: usize = 0;
-    while i < count {
-        let off = rs.at[i];
+    for &off in layout_kinds::reference_offsets(kind) {
         let fault = own_ref(x, kind, off, heap, from);
         if fault != 0 {
             return fault;
         }
-        i += 1;
     }
     0
 }
@@ -172,7 +146,7 @@ fn identity_ref(x: &[u8], position: usize, heap: &[u8], from: usize) -> u8
         return fault;
     }
     let named = part_at(x, 110, heap, from);
-    if named.len() == 0 {
+    if named.is_empty() {
         return 0;
     }
     identity_fault(x, named, position, heap, from)
@@ -194,19 +168,16 @@ fn info_ref(x: &[u8], position: usize, off: usize, heap: &[u8], from: usize) -> 
 }
 
 // The first fault of them, by ascending field offset.
+#[tactic(auto, unfolding(crate::specs::HeapRecords::info_faults, table::specs::FixedLayouts::layout_of))]
 fn info_refs(x: &[u8], position: usize, heap: &[u8], from: usize) -> u8
     requires { (128 ≤ length x.now) × (from + length heap.now < 8589934592) }
     ensures { result ≡ info_faults heap.now from position x.now }
 {
-    let rs = layout_kinds::reference_offsets(Info::ID);
-    let count = rs.count;
-    let mut i: usize = 0;
-    while i < count {
-        let fault = info_ref(x, position, rs.at[i], heap, from);
+    for &off in layout_kinds::reference_offsets(Info::ID) {
+        let fault = info_ref(x, position, off, heap, from);
         if fault != 0 {
             return fault;
         }
-        i += 1;
     }
     0
 }

@@ -39,6 +39,10 @@ stride i n s h = rw (← suc-mul i s) (mul-le-mul_right s h)
 pub list-less : (t : List ℕ) (c b d : ℕ) → ListIn t c b → d ≤ b → ListIn t c d
 list-less t c b d p h = record { long = λ z. le_trans h (p.long z); within = λ z. p.within z }
 
+-- the entry x of a list at c, whose records have their flags at byte f
+pub entry-in : (t : List ℕ) (x c b f d : ℕ) → x ≡ c → f ≡ d → d + 1 ≤ b → c + 8 ≤ length t → ListIn t c b → (x + 8 ≤ length t) × ListIn t x (f + 1)
+entry-in t x c b f d e g h l i = rw (e, g) (l, list-less t c b (d + 1) i h)
+
 -- ---- which positions are used
 
 module _ (t : List ℕ) (n : ℕ) where

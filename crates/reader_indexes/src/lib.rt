@@ -15,19 +15,12 @@ ghost use Rattle.reader_indexes.specs.Indexes.{RefsPass};
 use table::{Control, Discovery, Found, Hfi, Security, Ssns};
 
 // Position n of a list is one of it, and its valid bit is set.
+#[tactic(auto, using(table::proofs::Rules::picks, crate::proofs::Laws::stride), unfolding(laws::specs::ListWalk::flagged))]
 fn listed(t: &[u8], at: usize, step: usize, count: usize, flag: usize, n: usize) -> bool
     requires { (0 < count → at + count * step ≤ length t.now) × (0 < count → flag < step) }
     ensures { result ≡ flagged t.now at step count flag n }
 {
-    if n == 0 {
-        return false;
-    }
-    if count < n {
-        return false;
-    }
-    let i = n - 1;
-    let d = i * step;
-    t[at + d + flag] % 2 == 1
+    n != 0 && n <= count && t[at + (n - 1) * step + flag] % 2 == 1
 }
 
 // Position n of the list whose entry in the control record stands at c.
@@ -50,23 +43,14 @@ pub fn valid_at(t: &[u8], kind: u8, n: usize) -> bool
     requires { LaidOut t.now }
     ensures { result ≡ valid_in t.now kind n }
 {
-    match kind {
-        Hfi::ID => valid_in(t, Control::HFI_LIST, layout_kinds::flags_at(Hfi::ID), n),
-        Ssns::ID => valid_in(t, Control::SSNS_LIST, layout_kinds::flags_at(Ssns::ID), n),
-        Security::ID => valid_in(
-            t,
-            Control::SECURITY_LIST,
-            layout_kinds::flags_at(Security::ID),
-            n,
-        ),
-        Discovery::ID => valid_in(
-            t,
-            Control::DISCOVERY_LIST,
-            layout_kinds::flags_at(Discovery::ID),
-            n,
-        ),
-        _ => false,
-    }
+    let entry = match kind {
+        Hfi::ID => Control::HFI_LIST,
+        Ssns::ID => Control::SSNS_LIST,
+        Security::ID => Control::SECURITY_LIST,
+        Discovery::ID => Control::DISCOVERY_LIST,
+        _ => return false,
+    };
+    valid_in(t, entry, layout_kinds::flags_at(kind), n)
 }
 
 // What is found behind `looks` others. Where contracts of the reader bound looks, they do it coarsely, by the heap's length, so that no sum of looks wraps; what
@@ -76,24 +60,24 @@ pub fn behind(looks: usize, rest: Found) -> Found
     ensures { result ≡ after looks rest }
 {
     Found {
-        number: rest.number,
         looks: looks + rest.looks,
+        ..rest
     }
 }
+
+// What is found where no index is to be looked at.
+pub const NOTHING: Found = Found {
+    number: 0,
+    looks: 0,
+};
 
 // An index takes a look at the record that it names, whether it is valid or not.
 pub fn index_fault(t: &[u8], kind: u8, n: usize) -> Found
     requires { LaidOut t.now }
     ensures { (result ≡ found_by (valid_in t.now) (index kind n ∷ [])) × (result.looks ≤ 1) }
 {
-    if valid_at(t, kind, n) {
-        return Found {
-            number: 0,
-            looks: 1,
-        };
-    }
     Found {
-        number: 13,
+        number: if valid_at(t, kind, n) { 0 } else { 13 },
         looks: 1,
     }
 }
@@ -104,10 +88,7 @@ pub fn optional_index(t: &[u8], kind: u8, n: usize) -> Found
     ensures { (result ≡ found_by (valid_in t.now) (unless (eqb n 0) (index kind n) [])) × (result.looks ≤ 1) }
 {
     if n == 0 {
-        return Found {
-            number: 0,
-            looks: 0,
-        };
+        return NOTHING;
     }
     index_fault(t, kind, n)
 }
@@ -117,17 +98,15 @@ fn secondaries_fault(x: &[u8], t: &[u8]) -> Found
     requires { LaidOut t.now × (length x.now ≤ 8589934592) }
     ensures { (result ≡ found_by (valid_in t.now) (each 3 x.now)) × (result.looks ≤ length x.now) }
 {
-    let mut i: usize = 0;
-    while i < x.len() {
-        let named = index_fault(t, Hfi::ID, bytes_wire::wide(x[i]));
+    for (i, &position) in x.iter().enumerate() {
+        let named = index_fault(t, Hfi::ID, usize::from(position));
         if named.number != 0 {
             return behind(i, named);
         }
-        i += 1;
     }
     Found {
         number: 0,
-        looks: i,
+        looks: x.len(),
     }
 }
 

@@ -8,7 +8,7 @@ ghost use Rattle.reader_frame.specs.Bounds.{LaidOut};
 ghost use Rattle.reader_rules.specs.Rules.{IsHeap};
 ghost use Rattle.reader_indexes.specs.Indexes.{names_found, security_index, RefsPass};
 
-use crate::{behind, index_fault, optional_index, secondary_names};
+use crate::{NOTHING, behind, index_fault, optional_index, secondary_names};
 use table::{Discovery, Found, Hfi, Security, Ssns};
 
 fn discovery_names(t: &[u8], a: usize) -> Found
@@ -29,10 +29,7 @@ fn security_index(t: &[u8], a: usize) -> Found
     ensures { (result ≡ found_by (valid_in t.now) (security_index t.now a)) × (result.looks ≤ 1) }
 {
     if layout_flags::ssns_flags(t, a) / 4 % 2 == 0 {
-        return Found {
-            number: 0,
-            looks: 0,
-        };
+        return NOTHING;
     }
     index_fault(t, Security::ID, bytes_wire::wide(t[a + 45]))
 }
@@ -65,9 +62,6 @@ pub fn names_fault(t: &[u8], kind: u8, a: usize, position: usize, heap: &[u8], f
     match kind {
         Ssns::ID => ssns_names(t, a, position, heap, from),
         Discovery::ID => discovery_names(t, a),
-        _ => Found {
-            number: 0,
-            looks: 0,
-        },
+        _ => NOTHING,
     }
 }

@@ -18,16 +18,11 @@ pub fn refs_fault(t: &[u8], kind: u8, a: usize, position: usize, heap: &[u8], fr
     requires { (kind ≤ 6) × (a + base_of (layout_of kind) ≤ length t.now) × IsHeap t.now heap.now from }
     ensures { result ≡ refs_fault kind (region from (length heap.now)) t.now a position }
 {
-    let rs = layout_kinds::reference_offsets(kind);
-    let n = rs.count;
-    let mut i: usize = 0;
-    while i < n {
-        let off = rs.at[i];
+    for &off in layout_kinds::reference_offsets(kind) {
         let fault = reader_rules::ref_fault(t, kind, a, position, off, heap, from);
         if fault != 0 {
             return fault;
         }
-        i += 1;
     }
     0
 }
@@ -92,22 +87,20 @@ fn list_from(
 {
     let mut base = at;
     let mut looks: usize = 0;
-    let mut i: usize = 0;
-    while i < count {
+    for i in 0..count {
         let found = record_fault(t, kind, base, i + 1, heap, from);
         looks += found.looks;
         if found.number != 0 {
             return Looked {
                 answer: table::refuse(found.number, kind, i + 1),
-                looks: looks,
+                looks,
             };
         }
         base += step;
-        i += 1;
     }
     Looked {
         answer: table::done(),
-        looks: looks,
+        looks,
     }
 }
 

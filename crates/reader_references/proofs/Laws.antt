@@ -83,6 +83,12 @@ ref-absent heap off len e = go (eqb off 0) (eqb len 0) (leb heap.at off && leb (
     go false false true g = let w : ◌≡◌ {A = ℕ} 0 1 = cc in absurd (omega arith)
     go false false false g = refl
 
+-- one that names no part of the heap
+pub ref-nowhere : (heap : Region) (off len : ℕ) (x : Ref) → x ≡ ref_of heap off len → ((a n : ℕ) → x ≡ Part a n → ⊥) → reaches heap off len ≡ false
+ref-nowhere heap off len Absent e f = ref-absent heap off len (sym e)
+ref-nowhere heap off len Wrong e f = ref-wrong heap off len (sym e)
+ref-nowhere heap off len (Part a n) e f = absurd (f a n refl)
+
 -- ---- an object in the heap
 
 pub record Inside (from n off len : ℕ) : Type 0 where
@@ -176,6 +182,12 @@ module _ (n : Need) (asks : List ℕ → ℕ) (free : asks [] ≡ 0) (heap : Lis
       go Ignored q = absurd (omega (arith, q))
       go Optional q = refl
       go Required q = refl
+
+-- a reference that counts
+pub counted : (n : Need) → (n ≡ Ignored → ⊥) → ◌≡◌ {A = ℕ} (under n 0 1) 1
+counted Ignored f = absurd (f refl)
+counted Optional f = refl
+counted Required f = refl
 
 text-some : (bs : List ℕ) (c : Bool) → (length bs ≡ 0 → ⊥) → is_text bs ≡ c → pick c 0 18 ≡ text_rule bs
 text-some [] c n e = absurd (n refl)

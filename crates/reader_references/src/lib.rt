@@ -20,26 +20,18 @@ pub enum Ref {
 }
 
 // By its two halves: both zero, one zero, or an object that lies wholly in the heap or not. No sum wraps.
+#[tactic(auto, using(table::proofs::Rules::picks), unfolding(crate::specs::References::ref_of))]
 pub fn ref_of(off: usize, len: usize, from: usize, n: usize) -> Ref
     requires { (off < 4294967296) × (len < 65536) × (from + n < 8589934592) }
     ensures { result ≡ ref_of (region from n) off len }
 {
-    if off == 0 {
-        if len == 0 {
-            return Ref::Absent;
-        }
-        return Ref::Wrong;
+    if off == 0 && len == 0 {
+        Ref::Absent
+    } else if off == 0 || len == 0 || off < from || from + n < off + len {
+        Ref::Wrong
+    } else {
+        Ref::Part { at: off, len }
     }
-    if len == 0 {
-        return Ref::Wrong;
-    }
-    if off < from {
-        return Ref::Wrong;
-    }
-    if from + n < off + len {
-        return Ref::Wrong;
-    }
-    Ref::Part { at: off, len: len }
 }
 
 // The reference that stands at `r`.
@@ -56,46 +48,24 @@ pub fn part_at<'a>(t: &[u8], r: usize, heap: &'a [u8], from: usize) -> &'a [u8]
     requires { (r + 6 ≤ length t.now) × (from + length heap.now < 8589934592) }
     ensures { result.now ≡ part_in heap.now from (reference_at t.now r).at (reference_at t.now r).len }
 {
-    let x = ref_at(t, r, from, heap.len());
-    match x {
-        Ref::Absent => &heap[..0],
-        Ref::Wrong => &heap[..0],
+    match ref_at(t, r, from, heap.len()) {
         Ref::Part { at, len } => {
             let start = at - from;
             let end = start + len;
             &heap[start..end]
         }
-    }
-}
-
-fn optional_number(r: Ref) -> u8
-    ensures { result ≡ ref_number Need.Optional r }
-{
-    match r {
-        Ref::Absent => 0,
-        Ref::Wrong => 11,
-        Ref::Part { at: _, len: _ } => 0,
-    }
-}
-
-fn required_number(r: Ref) -> u8
-    ensures { result ≡ ref_number Need.Required r }
-{
-    match r {
-        Ref::Absent => 11,
-        Ref::Wrong => 11,
-        Ref::Part { at: _, len: _ } => 0,
+        _ => &heap[..0],
     }
 }
 
 // 0 or 11.
+#[tactic(auto, unfolding(crate::specs::References::ref_number))]
 pub fn ref_number(need: Need, r: Ref) -> u8
     ensures { result ≡ ref_number need r }
 {
-    match need {
-        Need::Ignored => 0,
-        Need::Optional => optional_number(r),
-        Need::Required => required_number(r),
+    match (need, r) {
+        (Need::Ignored, _) | (Need::Optional, Ref::Absent) | (_, Ref::Part { .. }) => 0,
+        _ => 11,
     }
 }
 
@@ -113,34 +83,7 @@ fn text_number(heap: &[u8], start: usize, len: usize) -> u8
     ensures { result ≡ pick (is_text (part heap.now start len)) 0 18 }
 {
     let end = start + len;
-    if is_text(&heap[start..end]) {
-        return 0;
-    }
-    18
-}
-
-fn optional_text(t: &[u8], r: usize, heap: &[u8], from: usize) -> u8
-    requires { (r + 6 ≤ length t.now) × (from + length heap.now < 8589934592) }
-    ensures { result ≡ object_rule Need.Optional true heap.now from (reference_at t.now r) }
-{
-    let x = ref_at(t, r, from, heap.len());
-    match x {
-        Ref::Absent => 0,
-        Ref::Wrong => 11,
-        Ref::Part { at, len } => text_number(heap, at - from, len),
-    }
-}
-
-fn required_text(t: &[u8], r: usize, heap: &[u8], from: usize) -> u8
-    requires { (r + 6 ≤ length t.now) × (from + length heap.now < 8589934592) }
-    ensures { result ≡ object_rule Need.Required true heap.now from (reference_at t.now r) }
-{
-    let x = ref_at(t, r, from, heap.len());
-    match x {
-        Ref::Absent => 11,
-        Ref::Wrong => 11,
-        Ref::Part { at, len } => text_number(heap, at - from, len),
-    }
+    if is_text(&heap[start..end]) { 0 } else { 18 }
 }
 
 // The reference at `r` to a text, under a need: 11 by the reference, then 18 by the bytes.
@@ -148,10 +91,10 @@ pub fn text_fault(t: &[u8], r: usize, need: Need, heap: &[u8], from: usize) -> u
     requires { (r + 6 ≤ length t.now) × (from + length heap.now < 8589934592) }
     ensures { result ≡ object_rule need true heap.now from (reference_at t.now r) }
 {
-    match need {
-        Need::Ignored => 0,
-        Need::Optional => optional_text(t, r, heap, from),
-        Need::Required => required_text(t, r, heap, from),
+    match (need, ref_at(t, r, from, heap.len())) {
+        (Need::Ignored, _) => 0,
+        (_, Ref::Part { at, len }) => text_number(heap, at - from, len),
+        (_, missing) => ref_number(need, missing),
     }
 }
 
@@ -162,9 +105,10 @@ fn positions_number(heap: &[u8], start: usize, len: usize, most: usize) -> u8
 {
     let end = start + len;
     if are_positions(&heap[start..end], most) {
-        return 0;
+        0
+    } else {
+        20
     }
-    20
 }
 
 // The reference at `r` to a list of positions, which need not be there: 11 by the reference, then 20 by the bytes.
@@ -172,10 +116,8 @@ pub fn positions_fault(t: &[u8], r: usize, most: usize, heap: &[u8], from: usize
     requires { (r + 6 ≤ length t.now) × (from + length heap.now < 8589934592) }
     ensures { result ≡ asked_rule Need.Optional (positions_rule most) heap.now from (reference_at t.now r) }
 {
-    let x = ref_at(t, r, from, heap.len());
-    match x {
-        Ref::Absent => 0,
-        Ref::Wrong => 11,
+    match ref_at(t, r, from, heap.len()) {
         Ref::Part { at, len } => positions_number(heap, at - from, len, most),
+        missing => ref_number(Need::Optional, missing),
     }
 }

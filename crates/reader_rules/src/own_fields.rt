@@ -9,19 +9,15 @@ use layout_kinds::TCP;
 use table::{Discovery, Hfi, Host, Security, Ssns};
 
 // ID, type and index, by what was read. For a kind without type or index the right one is handed over.
+#[tactic(auto, using(table::proofs::Rules::picks), unfolding(crate::specs::Records::is_named))]
 fn named(kind: u8, id: u8, transport: u8, index: usize, position: usize) -> u8
     ensures { result ≡ pick (is_named kind id transport index position) 0 10 }
 {
-    if id != kind {
-        return 10;
+    if id == kind && transport == TCP && index == position {
+        0
+    } else {
+        10
     }
-    if transport != TCP {
-        return 10;
-    }
-    if index != position {
-        return 10;
-    }
-    0
 }
 
 // The host has no index; it stands at position 0.

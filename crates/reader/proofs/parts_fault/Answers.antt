@@ -16,15 +16,15 @@ unfolding layout_of header
 refs_fault-requires c =
     (lit≤ tt, omega (arith, c.requires.0.lent), c.requires.1)
 
-pub returns-then-driver-ne0 : goal.returns-then-driver-ne0
-returns-then-driver-ne0 c =
+pub returns-then-answer-ne0 : goal.returns-then-answer-ne0
+returns-then-answer-ne0 c =
     let a = c.args in
     let t = a.t.now in
     let heap = region a.from (length a.heap.now) in
     let same = heap-at t a.from (length a.heap.now) c.requires.2 c.requires.3 in
-    let driver = c.answer_of-driver.ensures ∙ ap (λ (v : ℕ). numbered v 0) c.refs_fault.ensures in (
-      answer-stop _ driver c.if-driver-ne0.true ∙ parts_are t heap same,
-      sym (behind-stop _ _ (λ z. c.if-driver-ne0.true (ap (λ (x : Answer). x.number) driver ∙ z))) ∙ parts-look t heap same,
+    let driver = c.answer_of-answer.ensures ∙ ap (λ (v : ℕ). numbered v 0) c.refs_fault.ensures in (
+      answer-stop _ driver c.if-answer-ne0.true ∙ parts_are t heap same,
+      sym (behind-stop _ _ (λ z. c.if-answer-ne0.true (ap (λ (x : Answer). x.number) driver ∙ z))) ∙ parts-look t heap same,
     )
 
 pub returns-then-host-ne0 : goal.returns-then-host-ne0
@@ -33,8 +33,8 @@ returns-then-host-ne0 c =
     let t = a.t.now in
     let heap = region a.from (length a.heap.now) in
     let same = heap-at t a.from (length a.heap.now) c.requires.2 c.requires.3 in
-    let driver = c.answer_of-driver.ensures ∙ ap (λ (v : ℕ). numbered v 0) c.refs_fault.ensures in
-    let signed = c.if-driver-ne0.false in
+    let driver = c.answer_of-answer.ensures ∙ ap (λ (v : ℕ). numbered v 0) c.refs_fault.ensures in
+    let signed = c.if-answer-ne0.false in
     let host = c.host_fault-host.ensures in (
       answer-more driver signed (answer-stop _ host.0 c.if-host-ne0.true) ∙ parts_are t heap same,
       look_stop host.0 host.1 _ c.if-host-ne0.true ∙ sym (behind_more _ _ (sym (ap (λ (x : Answer). x.number) driver) ∙ signed)) ∙ parts-look t heap same,
@@ -46,8 +46,8 @@ returns c =
     let t = a.t.now in
     let heap = region a.from (length a.heap.now) in
     let same = heap-at t a.from (length a.heap.now) c.requires.2 c.requires.3 in
-    let driver = c.answer_of-driver.ensures ∙ ap (λ (v : ℕ). numbered v 0) c.refs_fault.ensures in
-    let signed = c.if-driver-ne0.false in
+    let driver = c.answer_of-answer.ensures ∙ ap (λ (v : ℕ). numbered v 0) c.refs_fault.ensures in
+    let signed = c.if-answer-ne0.false in
     let host = c.host_fault-host.ensures in
     let owned = c.if-host-ne0.false in
     let lists = c.lists_fault.ensures in

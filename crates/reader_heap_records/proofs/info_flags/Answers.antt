@@ -9,7 +9,7 @@ returns-then-x-eq0 c =
     let x = c.args.x.now in
     rw (info-flags x 0 (λ i. omega (arith, c.type_inv.x i)), eq-eqb _ 0 c.if-x-eq0.true) refl
 
-pub returns : goal.returns
-returns c =
+pub returns-else-x-eq0 : goal.returns-else-x-eq0
+returns-else-x-eq0 c =
     let x = c.args.x.now in
     rw (info-flags x 0 (λ i. omega (arith, c.type_inv.x i)), ne_eqb _ 0 c.if-x-eq0.false) refl

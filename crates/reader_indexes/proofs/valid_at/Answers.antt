@@ -1,73 +1,41 @@
-use Rattle.table.specs.FixedLayouts.{layout_of, hfi, ssns, security, discovery}
-use Prim.Native.Nat.{◌+◌}
-use Rattle.laws.specs.ListWalk.{valid_in}
-use Rattle.table.specs.Objects.{used_in, read_body}
-use mathlib.Core.Path.{◌≡◌, ◌∙◌}
+use mathlib.Core.Path.{◌∙◌}
 use native.Mathlib.Omega.{arith}
-use Rattle.reader_indexes.proofs.Laws.{valid-3, valid-4, valid-5, valid-6, list-less}
+use lib.Dec.{lit≤}
+use Rattle.table.specs.FixedLayouts.{layout_of, hfi, ssns, security, discovery}
+use Rattle.table.specs.Objects.{used_in, read_body}
+use Rattle.laws.specs.ListWalk.{valid_in}
+use Rattle.reader_indexes.proofs.Laws.{entry-in, valid-3, valid-4, valid-5, valid-6}
 use Rattle.table.proofs.Rules.{picks}
+use Rattle.reader_indexes.proofs.valid_at.Goals.{in-3, in-4, in-5, in-6}
 use Rattle.reader_indexes.proofs.valid_at.Goals as goal
-
-pub valid_in-requires : goal.valid_in-requires
-unfolding layout_of hfi
-valid_in-requires c =
-    let e : c.flags_at.result ≡ 2 = c.flags_at.ensures in (
-      omega (arith, c.requires.lent),
-      list-less c.args.t.now 80 32 (c.flags_at.result + 1) c.requires.hfi (omega (arith, e)),
-    )
-
-pub valid_in-requires-in-4 : goal.valid_in-requires-in-4
-unfolding layout_of ssns
-valid_in-requires-in-4 c =
-    let e : c.flags_at-in-4.result ≡ 3 = c.flags_at-in-4.ensures in (
-      omega (arith, c.requires.lent),
-      list-less c.args.t.now 88 128 (c.flags_at-in-4.result + 1) c.requires.ssns (omega (arith, e)),
-    )
-
-pub valid_in-requires-in-5 : goal.valid_in-requires-in-5
-unfolding layout_of security
-valid_in-requires-in-5 c =
-    let e : c.flags_at-in-5.result ≡ 2 = c.flags_at-in-5.ensures in (
-      omega (arith, c.requires.lent),
-      list-less c.args.t.now 96 64 (c.flags_at-in-5.result + 1) c.requires.security (omega (arith, e)),
-    )
-
-pub valid_in-requires-in-6 : goal.valid_in-requires-in-6
-unfolding layout_of discovery
-valid_in-requires-in-6 c =
-    let e : c.flags_at-in-6.result ≡ 1 = c.flags_at-in-6.ensures in (
-      omega (arith, c.requires.lent),
-      list-less c.args.t.now 104 32 (c.flags_at-in-6.result + 1) c.requires.discovery (omega (arith, e)),
-    )
-
-pub returns-in-3 : goal.returns-in-3
-unfolding layout_of hfi
-returns-in-3 c =
-    let e : c.flags_at.result ≡ 2 = c.flags_at.ensures in
-    rw c.in-3.is
-    ((rw e at c.valid_in.ensures) ∙ valid-3 c.args.t.now c.args.n)
-
-pub returns-in-4 : goal.returns-in-4
-unfolding layout_of ssns
-returns-in-4 c =
-    let e : c.flags_at-in-4.result ≡ 3 = c.flags_at-in-4.ensures in
-    rw c.in-4.is
-    ((rw e at c.valid_in-in-4.ensures) ∙ valid-4 c.args.t.now c.args.n)
-
-pub returns-in-5 : goal.returns-in-5
-unfolding layout_of security
-returns-in-5 c =
-    let e : c.flags_at-in-5.result ≡ 2 = c.flags_at-in-5.ensures in
-    rw c.in-5.is
-    ((rw e at c.valid_in-in-5.ensures) ∙ valid-5 c.args.t.now c.args.n)
-
-pub returns-in-6 : goal.returns-in-6
-unfolding layout_of discovery
-returns-in-6 c =
-    let e : c.flags_at-in-6.result ≡ 1 = c.flags_at-in-6.ensures in
-    rw c.in-6.is
-    ((rw e at c.valid_in-in-6.ensures) ∙ valid-6 c.args.t.now c.args.n)
 
 pub returns-in_default : goal.returns-in_default
 unfolding valid_in used_in read_body hfi ssns security discovery
 returns-in_default c = search picks
+
+pub valid_in-requires : goal.valid_in-requires
+unfolding layout_of hfi ssns security discovery
+valid_in-requires c =
+    let t = c.args.t.now in
+    let f = c.flags_at.ensures in
+    let h = c.requires in
+    elim c.match-kind.branch [
+      | in-3 w ↦ entry-in t _ 80 32 _ 2 w.entry-is (rw w.in-3.is at f) (lit≤ tt) (omega (arith, h.lent)) h.hfi
+      | in-4 w ↦ entry-in t _ 88 128 _ 3 w.entry-is (rw w.in-4.is at f) (lit≤ tt) (omega (arith, h.lent)) h.ssns
+      | in-5 w ↦ entry-in t _ 96 64 _ 2 w.entry-is (rw w.in-5.is at f) (lit≤ tt) (omega (arith, h.lent)) h.security
+      | in-6 w ↦ entry-in t _ 104 32 _ 1 w.entry-is (rw w.in-6.is at f) (lit≤ tt) (omega (arith, h.lent)) h.discovery
+    ]
+
+pub returns : goal.returns
+unfolding layout_of hfi ssns security discovery
+returns c =
+    let t = c.args.t.now in
+    let n = c.args.n in
+    let f = c.flags_at.ensures in
+    let v = c.valid_in.ensures in
+    elim c.match-kind.branch [
+      | in-3 w ↦ rw w.in-3.is ((rw (w.entry-is, rw w.in-3.is at f) at v) ∙ valid-3 t n)
+      | in-4 w ↦ rw w.in-4.is ((rw (w.entry-is, rw w.in-4.is at f) at v) ∙ valid-4 t n)
+      | in-5 w ↦ rw w.in-5.is ((rw (w.entry-is, rw w.in-5.is at f) at v) ∙ valid-5 t n)
+      | in-6 w ↦ rw w.in-6.is ((rw (w.entry-is, rw w.in-6.is at f) at v) ∙ valid-6 t n)
+    ]

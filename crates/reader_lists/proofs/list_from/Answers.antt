@@ -1,18 +1,17 @@
-use mathlib.Core.Path.{◌≡◌, sym, ap, ◌∙◌}
-use Prim.Native.Nat.{ℕ, ◌-◌, ◌+◌}
-use native.Mathlib.Nat.{zero-mul, zero-add, add_comm, add-zero, sub-zero}
+use mathlib.Core.Path.{sym, ap, ◌∙◌}
+use Prim.Native.Nat.{ℕ, ◌+◌}
+use native.Mathlib.Nat.{zero-mul, zero-add, add-zero, sub-zero}
 use native.Mathlib.Omega.{arith}
 use lib.ListN.{length}
 use Rattle.table.specs.Layout.{region}
 use Rattle.reader_indexes.proofs.Laws.{stride}
-use Rattle.reader_lists.specs.Lists.{record_fault, record_looks}
 use Rattle.reader_lists.proofs.Laws.{turn-stop, turn_more, turn-none, took-stop, took_more, took-none, next_start}
 use Rattle.table.proofs.Rules.{picks}
 use Rattle.reader_lists.proofs.list_from.Goals.{After-record_fault-found}
 use Rattle.reader_lists.proofs.list_from.Goals as goal
 
 pub loop-i-init : goal.loop-i-init
-loop-i-init c = (search picks, simp (zero-mul, add-zero), rw sub-zero, rw sub-zero (simp zero-add), search picks)
+loop-i-init c = (simp (zero-mul, add-zero), rw sub-zero, rw sub-zero (simp zero-add), search picks)
 
 pub record_fault-found-requires : goal.record_fault-found-requires
 record_fault-found-requires c =
@@ -24,33 +23,22 @@ record_fault-found-requires c =
     let b = c.requires.step_in_bounds.1 (omega arith) in
     (c.requires.laid_out.0, c.requires.laid_out.1, c.requires.laid_out.2, omega arith, c.requires.laid_out.3)
 
--- what a turn found, at the position however it is written
-turn : (c : After-record_fault-found) →
-    let a = c.args in
-    let heap = region a.from (length a.heap.now) in
-    (c.record_fault-found.result.number ≡ record_fault a.kind heap a.t.now c.loop-i.base (c.loop-i.i + 1))
-    × (c.record_fault-found.result.looks ≡ record_looks a.kind heap a.t.now c.loop-i.base (c.loop-i.i + 1))
-turn c =
-    let same = add_comm 1 c.loop-i.i in
-    let e = c.record_fault-found.ensures in
-    (cc (same, e.0), cc (same, e.1))
-
 pub overflow_add-looks : goal.overflow_add-looks
 overflow_add-looks c =
     let l = c.loop-i in
-    omega (arith, c.record_fault-found.ensures.2, l.invariant.4, c.loop-i-test.true, c.requires.step_in_bounds.2)
+    omega (arith, c.record_fault-found.ensures.2, l.invariant.3, c.loop-i-test.true, c.requires.step_in_bounds.2)
 
 pub returns-then-found-ne0 : goal.returns-then-found-ne0
 returns-then-found-ne0 c =
     let a = c.args in
     let heap = region a.from (length a.heap.now) in
     let h = c.loop-i-test.true in
-    let e = turn (goal.at.returns-then-found-ne0 c).After-record_fault-found in
+    let e = c.record_fault-found.ensures in
     let stopped = turn-stop a.kind heap a.t.now a.step c.loop-i.base c.loop-i.i a.count c.requires.laid_out.1 c.requires.laid_out.2 h e.0 c.if-found-ne0.true in
     let took = took-stop a.kind heap a.t.now a.step c.loop-i.base c.loop-i.i a.count h e.0 c.if-found-ne0.true in (
-      c.refuse.ensures ∙ sym stopped ∙ c.loop-i.invariant.2,
-      ap (λ (n : ℕ). c.loop-i.looks + n) (e.1 ∙ sym took) ∙ c.loop-i.invariant.3,
-      omega (arith, c.record_fault-found.ensures.2, c.loop-i.invariant.4, h, c.requires.step_in_bounds.2),
+      c.refuse.ensures ∙ sym stopped ∙ c.loop-i.invariant.1,
+      ap (λ (n : ℕ). c.loop-i.looks + n) (e.1 ∙ sym took) ∙ c.loop-i.invariant.2,
+      omega (arith, c.record_fault-found.ensures.2, c.loop-i.invariant.3, h, c.requires.step_in_bounds.2),
     )
 
 pub overflow_add-base : goal.overflow_add-base
@@ -67,14 +55,13 @@ loop-i-preserved c =
     let a = c.args in
     let heap = region a.from (length a.heap.now) in
     let h = c.loop-i-test.true in
-    let e = turn (goal.at.loop-i-preserved c).After-record_fault-found in
+    let e = c.record_fault-found.ensures in
     let more = turn_more a.kind heap a.t.now a.step c.loop-i.base c.loop-i.i a.count h e.0 c.if-found-ne0.false in
     let took = took_more a.kind heap a.t.now a.step c.loop-i.base c.loop-i.i a.count h e.0 c.if-found-ne0.false in (
-      search picks,
       omega (arith, next_start a.at c.loop-i.i a.step),
-      more ∙ c.loop-i.invariant.2,
-      omega (arith, e.1, took, c.loop-i.invariant.3),
-      omega (arith, c.record_fault-found.ensures.2, c.loop-i.invariant.4),
+      more ∙ c.loop-i.invariant.1,
+      omega (arith, e.1, took, c.loop-i.invariant.2),
+      omega (arith, c.record_fault-found.ensures.2, c.loop-i.invariant.3),
     )
 
 pub returns : goal.returns
@@ -83,7 +70,7 @@ returns c =
     let l = c.loop-i in
     let heap = region a.from (length a.heap.now) in
     let left = c.loop-i-test.false in (
-      c.done.ensures ∙ sym (sym l.invariant.2 ∙ turn-none a.kind heap a.t.now a.step l.base l.i a.count left),
-      omega (arith, took-none a.kind heap a.t.now a.step l.base l.i a.count left, l.invariant.3),
-      omega (arith, l.invariant.4, l.invariant.0, c.requires.step_in_bounds.2),
+      c.done.ensures ∙ sym (sym l.invariant.1 ∙ turn-none a.kind heap a.t.now a.step l.base l.i a.count left),
+      omega (arith, took-none a.kind heap a.t.now a.step l.base l.i a.count left, l.invariant.2),
+      omega (arith, l.invariant.3, l.auto.i-end, c.requires.step_in_bounds.2),
     )

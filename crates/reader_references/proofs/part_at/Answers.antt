@@ -1,4 +1,4 @@
-use Rattle.reader_references.proofs.Laws.{ref-part, ref-wrong, ref-absent, reached, Inside, part-yes, part_no}
+use Rattle.reader_references.proofs.Laws.{ref-part, ref-nowhere, reached, Inside, part-yes, part_no}
 use Rattle.table.specs.Rules.{reaches}
 use Rattle.table.specs.Layout.{region, reference_at}
 use lib.ListN.{length}
@@ -15,7 +15,7 @@ there : (c : In-Part) → let s = c.args in let x = reference_at s.t.now s.r in
 there c =
     let s = c.args in
     let x = reference_at s.t.now s.r in
-    ref-part (region s.from (length s.heap.now)) x.at x.len _ _ (sym c.ref_at-x.ensures ∙ c.in-Part.is)
+    ref-part (region s.from (length s.heap.now)) x.at x.len _ _ (sym c.ref_at.ensures ∙ c.in-Part.is)
 
 inside : (c : In-Part) → let s = c.args in Inside s.from (length s.heap.now)
     c.in-Part.at c.in-Part.len
@@ -30,22 +30,14 @@ overflow_sub-start c = omega (arith, inside (goal.at.overflow_sub-start c).In-Pa
 pub overflow_add-end : goal.overflow_add-end
 overflow_add-end c = omega (arith, inside (goal.at.overflow_add-end c).In-Part, c.requires.1)
 
-pub slice_bounds-result-end-in-Part : goal.slice_bounds-result-end-in-Part
-slice_bounds-result-end-in-Part c = omega (arith, inside (goal.at.slice_bounds-result-end-in-Part c).In-Part)
+pub slice_bounds-result-end : goal.slice_bounds-result-end
+slice_bounds-result-end c = omega (arith, inside (goal.at.slice_bounds-result-end c).In-Part)
 
-pub returns-in-Absent : goal.returns-in-Absent
-returns-in-Absent c =
+pub returns-in_default : goal.returns-in_default
+returns-in_default c =
     let s = c.args in
     let x = reference_at s.t.now s.r in
-    part_no s.heap.now s.from x.at x.len
-    (ref-absent (region s.from (length s.heap.now)) x.at x.len (sym c.ref_at-x.ensures ∙ c.in-Absent.is))
-
-pub returns-in-Wrong : goal.returns-in-Wrong
-returns-in-Wrong c =
-    let s = c.args in
-    let x = reference_at s.t.now s.r in
-    part_no s.heap.now s.from x.at x.len
-    (ref-wrong (region s.from (length s.heap.now)) x.at x.len (sym c.ref_at-x.ensures ∙ c.in-Wrong.is))
+    part_no s.heap.now s.from x.at x.len (ref-nowhere (region s.from (length s.heap.now)) x.at x.len c.ref_at.result c.ref_at.ensures c.in_default.not-Part)
 
 pub returns-in-Part : goal.returns-in-Part
 returns-in-Part c =

@@ -7,11 +7,7 @@ use Rattle.bytes_writer.proofs.records.put_refs.Given as goal
 
 abbrev pub invariant-loop-i : goal.invariant-loop-i
 invariant-loop-i l =
-    (l.i ≤ l.count)
-    × (l.next ≤ 131072 + 131072 * l.i)
+    (l.next ≤ 131072 + 131072 * l.i)
     × (length l.part ≡ length l.initial.part)
-    × (apply l.part (stores_from l.offsets.at l.sizes.len l.sizes.span l.next l.i (l.count - l.i))
-    ≡ apply l.initial.part (stores_from l.offsets.at l.sizes.len l.sizes.span l.heap 0 l.count))
-
-abbrev pub decreases-loop-i : goal.decreases-loop-i
-decreases-loop-i l = l.count - l.i
+    × (apply l.part (stores_from l.offsets l.sizes.len l.sizes.span l.next l.i (length l.offsets - l.i))
+    ≡ apply l.initial.part (stores_from l.offsets l.sizes.len l.sizes.span l.heap 0 (length l.offsets)))
