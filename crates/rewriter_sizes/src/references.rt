@@ -16,13 +16,9 @@ fn objects_size(t: &[u8], kind: u8, at: usize) -> usize
     requires { Accepted t.now × Seated t.now (layout_of kind) at true }
     ensures { (result ≡ spans_over t.now kind at (objects_of kind)) × (result ≤ 393210) }
 {
-    let refs = layout_kinds::reference_offsets(kind);
-    let count = layout_kinds::object_count(kind);
     let mut total: usize = 0;
-    let mut i: usize = 0;
-    while i < count {
-        total += object_len(t, kind, at, refs.at[i]);
-        i += 1;
+    for &offset in layout_kinds::object_offsets(kind) {
+        total += object_len(t, kind, at, offset);
     }
     total
 }

@@ -32,9 +32,7 @@ pub fn list_size(t: &[u8], kind: u8) -> usize
 {
     let count = count_of(t, kind);
     let mut sum: usize = 0;
-    let mut position: usize = 0;
-    while position < count {
-        position += 1;
+    for position in 1..=count {
         sum += entry_size(t, kind, position);
     }
     sum
