@@ -67,13 +67,9 @@ pub fn lay_objects(
     requires kind_bound { (place + base_of (layout_of kind) ≤ next) × (next + spans_over t.now kind source (objects_of kind) ≤ length out.old) }
     ensures { (result ≡ next + spans_over t.now kind source (objects_of kind)) × (out.new ≡ laid_over out.old place next t.now kind source (objects_of kind)) }
 {
-    let refs = layout_kinds::reference_offsets(kind);
-    let count = layout_kinds::object_count(kind);
     let mut cursor = next;
-    let mut i: usize = 0;
-    while i < count {
-        cursor = lay_object(out, place, cursor, t, kind, source, refs.at[i]);
-        i += 1;
+    for &offset in layout_kinds::object_offsets(kind) {
+        cursor = lay_object(out, place, cursor, t, kind, source, offset);
     }
     cursor
 }
