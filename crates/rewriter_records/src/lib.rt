@@ -95,7 +95,7 @@ fn lay_listed_held(
     requires kind_bound { (place + base_of (layout_of kind) ≤ next) × (next + spans_over t.now kind source (held_of kind) ≤ length out.old) }
     ensures { (result ≡ next + spans_over t.now kind source (held_of kind)) × (out.new ≡ laid_over out.old place next t.now kind source (held_of kind)) }
 {
-    let all = layout_kinds::reference_offsets(kind).count;
+    let all = layout_kinds::reference_offsets(kind).len();
     if all == layout_kinds::object_count(kind) {
         return next;
     }
