@@ -15,11 +15,7 @@ use table::{HfiExtended, Need, Security};
 fn heeds(need: Need) -> bool
     ensures { result ≡ under need false true }
 {
-    match need {
-        Need::Ignored => false,
-        Need::Optional => true,
-        Need::Required => true,
-    }
+    !matches!(need, Need::Ignored)
 }
 
 // Whether a reference to an object of the record with these bytes counts. Only security records and HFI extended infos ignore any.

@@ -42,7 +42,7 @@ fn refused_records(answer: Answer) -> Records
     ensures { result ≡ refused_records answer }
 {
     Records {
-        answer: answer,
+        answer,
         written: 0,
         total: 0,
     }
@@ -77,7 +77,7 @@ fn records_in(t: &[u8], kind: u8, position: usize, last: u8, out: &mut [u8]) -> 
     let told = put_kinds(out, t, kind, position, kinds, room);
     let answer = table::done();
     Records {
-        answer: answer,
+        answer,
         written: told.written,
         total: told.total,
     }

@@ -34,13 +34,8 @@ fn put_places(part: &mut [u8], x: &[u8], kind: u8, used: bool)
     ensures { part.new ≡ places_of x.now kind (seat (layout_of kind) 0 used) }
 {
     fill_zero(part, 0, 48);
-    let refs = layout_kinds::reference_offsets(kind);
-    let count = layout_kinds::object_count(kind);
-    let mut i: usize = 0;
-    while i < count {
-        let offset = refs.at[i];
+    for (i, &offset) in layout_kinds::object_offsets(kind).iter().enumerate() {
         put_place(part, 8 * i, place_of(x, kind, used, offset));
-        i += 1;
     }
 }
 

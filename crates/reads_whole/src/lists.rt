@@ -20,12 +20,10 @@ fn put_run(out: &mut [u8], t: &[u8], kind: u8, position: usize, count: usize)
     requires { Accepted t.now × (184 * count ≤ length out.old) × (position + count ≤ 65536) }
     ensures { out.new ≡ splice out.old 0 (rows (entry_at t.now kind) position count) }
 {
-    let mut i: usize = 0;
-    while i < count {
+    for i in 0..count {
         let start = 184 * i;
         let end = start + 184;
         put_entry(&mut out[start..end], t, kind, position + i);
-        i += 1;
     }
 }
 
@@ -103,8 +101,5 @@ pub fn put_kinds(
         position = first_of(kind);
         rest -= 1;
     }
-    Told {
-        written: written,
-        total: total,
-    }
+    Told { written, total }
 }
