@@ -43,10 +43,10 @@ fn field_of(x: &[u8], kind: u8, used: bool, off: usize) -> Field
     let bytes = field_bytes(x, kind, used, off, len);
     let answer = table::done();
     Field {
-        answer: answer,
-        used: used,
-        len: len,
-        bytes: bytes,
+        answer,
+        used,
+        len,
+        bytes,
     }
 }
 

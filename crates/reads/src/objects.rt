@@ -65,10 +65,10 @@ fn handed(whole: Place, kind: u8, off: usize) -> Place
     let answer = whole.answer;
     let len = handed_len(kind, off, whole.len);
     Place {
-        answer: answer,
+        answer,
         present: whole.present,
         at: whole.at,
-        len: len,
+        len,
     }
 }
 

@@ -40,10 +40,10 @@ fn image_of(x: &[u8], kind: u8, used: bool) -> Image
     let len = layout_kinds::base_size(kind);
     let answer = table::done();
     Image {
-        answer: answer,
-        used: used,
-        len: len,
-        bytes: bytes,
+        answer,
+        used,
+        len,
+        bytes,
     }
 }
 
