@@ -7,7 +7,7 @@ ghost use Rattle.reads_whole.specs.Whole.{entry_after, entries_of, kinds_to, ref
 
 use crate::Records;
 use crate::entries::put_entry;
-use crate::lists::{first_of, least_of, left_of, put_kinds};
+use crate::lists::{first_of, left_of, put_kinds};
 use reads_seats::seats::{Seat, seat_of};
 use table::Answer;
 
@@ -52,12 +52,8 @@ fn kinds_to(kind: u8, last: u8) -> usize
     requires { kind ≤ 10 }
     ensures { (result ≡ kinds_to kind last) × (kind + result ≤ 11) }
 {
-    let from = kind as usize;
-    let end = least_of(last as usize, 10);
-    if end < from {
-        return 1;
-    }
-    end - from + 1
+    let end = usize::from(last).min(10);
+    end.saturating_sub(usize::from(kind)) + 1
 }
 
 // The answer of a good table, and where that is 0 the entries.

@@ -60,16 +60,7 @@ pub fn left_of(t: &[u8], kind: u8, position: usize) -> usize
     ensures { (result ≡ left_of t.now kind position) × (result ≤ 256 - position) }
 {
     let end = first_of(kind) + many_of(t, kind);
-    if end < position {
-        return 0;
-    }
-    end - position
-}
-
-pub fn least_of(a: usize, b: usize) -> usize
-    ensures { (result ≡ least a b) × (result ≤ a) × (result ≤ b) }
-{
-    if a <= b { a } else { b }
+    end.saturating_sub(position)
 }
 
 // Entries of so many kinds, from a kind and position on, as far as there is room.
@@ -92,7 +83,7 @@ pub fn put_kinds(
     let mut total: usize = 0;
     while 0 < rest {
         let left = left_of(t, kind, position);
-        let fits = least_of(left, room - written);
+        let fits = left.min(room - written);
         let start = 184 * written;
         put_run(&mut out[start..], t, kind, position, fits);
         written += fits;

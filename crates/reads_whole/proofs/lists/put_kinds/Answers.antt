@@ -1,8 +1,7 @@
 use Rattle.layout_images.proofs.Laws.{part-long}
-use Rattle.reads_whole.proofs.ListLaws.{least-le, entries-more, number_more, tail-laid, kinds-turn}
-use Rattle.reads_whole.specs.Whole.{rows, entry_at, first_of, left_of, entries_of, number_of, least}
+use Rattle.reads_whole.proofs.ListLaws.{least-le, min-least, entries-more, number_more, tail-laid, kinds-turn}
+use Rattle.reads_whole.specs.Whole.{rows, entry_at, first_of, entries_of, number_of, least}
 use Rattle.bytes_writer.proofs.StoreLaws.{splice-none}
-use Rattle.table.specs.Bytes.{splice}
 use borrow.Author.Tests.{le-leb}
 use lib.ListN.{length, drop}
 use native.Mathlib.Omega.{arith}
@@ -23,7 +22,7 @@ pub put_run-requires : goal.put_run-requires
 put_run-requires c =
     let l = c.loop-rest in
     let start = 184 * l.written in
-    let fits = c.least_of-fits.ensures in (
+    let fits = c.min-fits.ensures in (
       c.requires.0,
       omega (arith, part-long l.out start (length l.out - start) (omega (arith, l.invariant.3, l.invariant.5, c.requires.1)), fits, l.invariant.3, l.invariant.5, c.requires.1),
       omega (arith, l.invariant.1, c.left_of-left.ensures.1, fits),
@@ -36,7 +35,7 @@ loop-rest-preserved c =
     let l = c.loop-rest in
     let taken = c.loop-rest-test.true in
     let left = c.left_of-left in
-    let fits = c.least_of-fits in
+    let fits = c.min-fits in
     let first = c.first_of-position in
     let whole = entries_of t a.first_kind a.first_position a.kinds in
     let later = entries_of t (l.kind + 1) (first_of (l.kind + 1)) (l.rest - 1) in
@@ -46,7 +45,7 @@ loop-rest-preserved c =
     let number = number_more t l.kind l.position l.rest taken in
     let next = ap (λ (p : ℕ). number_of t (l.kind + 1) p (l.rest - 1)) first.ensures.0 in
     let turn = kinds-turn t c.requires.0 l.kind l.position left.result later whole l.total l.written
-    a.room fits.result l.invariant.2 fits.ensures.0 l.invariant.6 ahead in (
+    a.room fits.result l.invariant.2 (fits.ensures ∙ min-least left.result (a.room - l.written)) l.invariant.6 ahead in (
       omega (arith, taken, l.invariant.0),
       omega (arith, first.ensures.1),
       turn.2,
