@@ -104,7 +104,7 @@ fn lay_flat_record(
             put_slot(out, slot, next, 0);
             next
         }
-        Seat::At { at, used } => lay_flat(out, slot, next, t, kind, at),
+        Seat::At { at, .. } => lay_flat(out, slot, next, t, kind, at),
     }
 }
 
@@ -141,7 +141,7 @@ fn lay_info_record(out: &mut [u8], slot: usize, next: usize, t: &[u8], seat: Sea
             put_slot(out, slot, next, 0);
             next
         }
-        Seat::At { at, used } => lay_info(out, slot, next, t, at),
+        Seat::At { at, .. } => lay_info(out, slot, next, t, at),
     }
 }
 

@@ -51,8 +51,7 @@ pub fn lay_entry(
     requires kind_bound { (place + base_of (layout_of kind) ≤ next) × (next + size_entry (told_entry (layout_of kind) t.now kind position) ≤ length out.old) }
     ensures { (result ≡ next + size_entry (told_entry (layout_of kind) t.now kind position)) × (out.new ≡ laid out.old place (rec_entry next (told_entry (layout_of kind) t.now kind position)) next (heap_entry next (told_entry (layout_of kind) t.now kind position))) }
 {
-    let seat = seat_of(t, kind, position);
-    match seat {
+    match seat_of(t, kind, position) {
         Seat::Nowhere => lay_unused(out, place, next, kind),
         Seat::At { at, used } => if used {
             lay_used(out, place, next, t, kind, at)
@@ -125,8 +124,7 @@ pub fn lay_position(
     requires kind_bound { (place + base_of (layout_of kind) ≤ next) × (next + size_entry (told_entry (layout_of kind) t.now kind position) ≤ length out.old) }
     ensures { (result ≡ next + size_entry (told_entry (layout_of kind) t.now kind position)) × (out.new ≡ laid out.old place (rec_entry next (told_entry (layout_of kind) t.now kind position)) next (heap_entry next (told_entry (layout_of kind) t.now kind position))) }
 {
-    let seat = seat_of(t, kind, position);
-    match seat {
+    match seat_of(t, kind, position) {
         Seat::Nowhere => lay_unused(out, place, next, kind),
         Seat::At { at, used } => if used {
             lay_listed(out, place, next, t, kind, at)

@@ -30,7 +30,7 @@ fn flat_span(t: &[u8], kind: u8, seat: Seat) -> usize
 {
     match seat {
         Seat::Nowhere => 0,
-        Seat::At { at, used } => {
+        Seat::At { at, .. } => {
             let size = layout_kinds::base_size(kind);
             let len = objects_size(t, kind, at);
             size + len
@@ -53,7 +53,7 @@ fn info_span(t: &[u8], seat: Seat) -> usize
 {
     match seat {
         Seat::Nowhere => 0,
-        Seat::At { at, used } => {
+        Seat::At { at, .. } => {
             let objects = objects_size(t, Info::ID, at);
             let identity = identity_span(t, at);
             Info::SIZE + objects + identity

@@ -18,8 +18,7 @@ pub fn entry_size(t: &[u8], kind: u8, position: usize) -> usize
     requires { Accepted t.now }
     ensures { (result ≡ size_entry (told_entry (layout_of kind) t.now kind position)) × (result ≤ 1200000) }
 {
-    let seat = seat_of(t, kind, position);
-    match seat {
+    match seat_of(t, kind, position) {
         Seat::Nowhere => 0,
         Seat::At { at, used } => if used { named_size(t, kind, at) } else { 0 },
     }
