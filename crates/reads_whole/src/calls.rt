@@ -16,10 +16,9 @@ fn record_in(t: &[u8], kind: u8, position: usize, out: &mut [u8]) -> Answer
     requires { Accepted t.now × (length out.old ≡ 184) }
     ensures { (result ≡ (image_at t.now (seat_of t.now kind position)).answer) × (out.new ≡ entry_after t.now kind position result out.old) }
 {
-    let s = seat_of(t, kind, position);
-    match s {
+    match seat_of(t, kind, position) {
         Seat::Nowhere => table::refuse(16, 0, 0),
-        Seat::At { at, used } => {
+        Seat::At { .. } => {
             put_entry(out, t, kind, position);
             table::done()
         }
@@ -71,9 +70,8 @@ fn records_in(t: &[u8], kind: u8, position: usize, last: u8, out: &mut [u8]) -> 
     let room = out.len() / 184;
     let kinds = kinds_to(kind, last);
     let told = put_kinds(out, t, kind, position, kinds, room);
-    let answer = table::done();
     Records {
-        answer,
+        answer: table::done(),
         written: told.written,
         total: told.total,
     }

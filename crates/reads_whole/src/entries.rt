@@ -16,7 +16,7 @@ use table::Place;
 fn bit(set: bool) -> u8
     ensures { result ≡ pick set 1 0 }
 {
-    if set { 1 } else { 0 }
+    u8::from(set)
 }
 
 fn put_place(part: &mut [u8], at: usize, place: Place)
@@ -84,8 +84,7 @@ pub fn put_entry(part: &mut [u8], t: &[u8], kind: u8, position: usize)
     requires { Accepted t.now × (length part.old ≡ 184) }
     ensures { part.new ≡ entry_at t.now kind position }
 {
-    let s = seat_of(t, kind, position);
-    match s {
+    match seat_of(t, kind, position) {
         Seat::Nowhere => put_none(part, t, kind, position),
         Seat::At { at, used } => put_found(part, record_at(t, kind, at), kind, position, used),
     }
