@@ -113,13 +113,18 @@ fn onward(w: Walk, named: Named) -> Walk
     requires { w.next < 6 }
     ensures { result ≡ onward_of w named }
 {
-    if named.len == 0 {
-        return walk_of(w.list, w.position, w.kind, w.at, w.next + 1);
+    if named.len == 0 || named.kind == 0 {
+        return Walk {
+            next: w.next + 1,
+            ..w
+        };
     }
-    if named.kind == 0 {
-        return walk_of(w.list, w.position, w.kind, w.at, w.next + 1);
+    Walk {
+        kind: named.kind,
+        at: named.off,
+        next: 0,
+        ..w
     }
-    walk_of(w.list, w.position, named.kind, named.off, 0)
 }
 
 // The first reference to look at: an unused record has none that count.
