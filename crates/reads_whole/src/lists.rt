@@ -78,10 +78,9 @@ pub fn put_kinds(
 {
     let mut kind = first_kind;
     let mut position = first_position;
-    let mut rest = kinds;
     let mut written: usize = 0;
     let mut total: usize = 0;
-    while 0 < rest {
+    for _ in 0..kinds {
         let left = left_of(t, kind, position);
         let fits = left.min(room - written);
         let start = 184 * written;
@@ -90,7 +89,6 @@ pub fn put_kinds(
         total += left;
         kind += 1;
         position = first_of(kind);
-        rest -= 1;
     }
     Told { written, total }
 }
