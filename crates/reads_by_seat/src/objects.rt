@@ -12,6 +12,7 @@ ghost use Rattle.reads_seats.specs.Seats.{Seated};
 use reads_seats::lent::{heap_part, part_of, record_at};
 use table::{HfiExtended, Need, Security};
 
+// Whether a reference that is needed so counts.
 fn heeds(need: Need) -> bool
     ensures { result ≡ under need false true }
 {

@@ -13,6 +13,7 @@ use reads_seats::lent::record_at;
 use reads_seats::seats::{Seat, seat_of};
 use table::Place;
 
+// A flag as the byte that an entry has for it.
 fn bit(set: bool) -> u8
     ensures { result ≡ pick set 1 0 }
 {
