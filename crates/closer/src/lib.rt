@@ -78,10 +78,7 @@ fn close_table(t: &mut [u8], map: &[u8]) -> usize
 fn refused(answer: Answer) -> Compacted
     ensures { (result.answer ≡ answer) × (result.moved ≡ 0) }
 {
-    Compacted {
-        answer: answer,
-        moved: 0,
-    }
+    Compacted { answer, moved: 0 }
 }
 
 // Any bytes may be handed in. Of the map a bit is asked for each byte of the heap; what it held means nothing.

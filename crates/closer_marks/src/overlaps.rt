@@ -32,8 +32,7 @@ fn is_hit(t: &[u8], x: Named, from: Walk, steps: usize) -> bool
     ensures { result ≡ hits x.off x.len (sites_within t.now from steps) }
 {
     let mut w = from;
-    let mut i: usize = 0;
-    while i < steps {
+    for _ in 0..steps {
         if w.list == END {
             return false;
         }
@@ -42,7 +41,6 @@ fn is_hit(t: &[u8], x: Named, from: Walk, steps: usize) -> bool
             return true;
         }
         w = s.walk;
-        i += 1;
     }
     false
 }

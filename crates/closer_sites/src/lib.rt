@@ -49,11 +49,11 @@ fn walk_of(list: u8, position: usize, kind: u8, at: usize, next: usize) -> Walk
     ensures { result ≡ walk list position kind at next }
 {
     Walk {
-        list: list,
-        position: position,
-        kind: kind,
-        at: at,
-        next: next,
+        list,
+        position,
+        kind,
+        at,
+        next,
     }
 }
 
@@ -80,10 +80,9 @@ fn held_len(t: &[u8], kind: u8, at: usize, offset: usize) -> usize
     requires { (at + base_of (layout_of kind) ≤ length t.now) × (offset ≡ nest_at kind) × (offset + 6 ≤ base_of (layout_of kind)) }
     ensures { (result ≡ len_at t.now kind at offset) × (result < 65536) }
 {
-    let seat = heap_record(t, kind, at);
-    match seat {
+    match heap_record(t, kind, at) {
         Seat::Nowhere => 0,
-        Seat::At { at: _, used: _ } => bytes_wire::reference_at(t, at + offset).len,
+        Seat::At { .. } => bytes_wire::reference_at(t, at + offset).len,
     }
 }
 
@@ -96,14 +95,14 @@ fn named_at(t: &[u8], kind: u8, at: usize, next: usize, offset: usize) -> Named
     if next < layout_kinds::object_count(kind) {
         return Named {
             at: at + offset,
-            off: off,
+            off,
             len: object_len(t, kind, at, offset),
             kind: 0,
         };
     }
     Named {
         at: at + offset,
-        off: off,
+        off,
         len: held_len(t, kind, at, offset),
         kind: held_kind(kind),
     }
@@ -114,13 +113,18 @@ fn onward(w: Walk, named: Named) -> Walk
     requires { w.next < 6 }
     ensures { result ≡ onward_of w named }
 {
-    if named.len == 0 {
-        return walk_of(w.list, w.position, w.kind, w.at, w.next + 1);
+    if named.len == 0 || named.kind == 0 {
+        return Walk {
+            next: w.next + 1,
+            ..w
+        };
     }
-    if named.kind == 0 {
-        return walk_of(w.list, w.position, w.kind, w.at, w.next + 1);
+    Walk {
+        kind: named.kind,
+        at: named.off,
+        next: 0,
+        ..w
     }
-    walk_of(w.list, w.position, named.kind, named.off, 0)
 }
 
 // The first reference to look at: an unused record has none that count.
@@ -130,7 +134,7 @@ fn first_of(kind: u8, used: bool) -> usize
     if used {
         return 0;
     }
-    layout_kinds::reference_offsets(kind).count
+    layout_kinds::reference_offsets(kind).len()
 }
 
 fn to_host(t: &[u8]) -> Walk
@@ -189,10 +193,10 @@ pub fn step(t: &[u8], w: Walk) -> Stepped
 {
     let next = w.next;
     let refs = layout_kinds::reference_offsets(w.kind);
-    if next < refs.count {
-        let named = named_at(t, w.kind, w.at, next, refs.at[next]);
+    if next < refs.len() {
+        let named = named_at(t, w.kind, w.at, next, refs[next]);
         return Stepped {
-            named: named,
+            named,
             walk: onward(w, named),
         };
     }

@@ -43,10 +43,10 @@ fn field_of(x: &[u8], kind: u8, used: bool, off: usize) -> Field
     let bytes = field_bytes(x, kind, used, off, len);
     let answer = table::done();
     Field {
-        answer: answer,
-        used: used,
-        len: len,
-        bytes: bytes,
+        answer,
+        used,
+        len,
+        bytes,
     }
 }
 
@@ -55,8 +55,7 @@ pub fn field_in(t: &[u8], kind: u8, position: usize, off: usize) -> Field
     requires { Accepted t.now }
     ensures { result ≡ field_at t.now off (seat_of t.now kind position) }
 {
-    let s = seat_of(t, kind, position);
-    match s {
+    match seat_of(t, kind, position) {
         Seat::Nowhere => refused_field(table::refuse(16, 0, 0)),
         Seat::At { at, used } => field_of(record_at(t, kind, at), kind, used, off),
     }

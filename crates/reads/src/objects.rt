@@ -27,8 +27,7 @@ fn whole_in(t: &[u8], kind: u8, position: usize, off: usize) -> Place
     requires { Accepted t.now }
     ensures { result ≡ whole_at t.now off (seat_of t.now kind position) }
 {
-    let s = seat_of(t, kind, position);
-    match s {
+    match seat_of(t, kind, position) {
         Seat::Nowhere => no_place(table::refuse(16, 0, 0)),
         Seat::At { at, used } => whole_of(record_at(t, kind, at), kind, used, off),
     }
@@ -62,14 +61,8 @@ fn handed_len(kind: u8, off: usize, len: usize) -> usize
 fn handed(whole: Place, kind: u8, off: usize) -> Place
     ensures { result ≡ handed_place kind off whole }
 {
-    let answer = whole.answer;
     let len = handed_len(kind, off, whole.len);
-    Place {
-        answer: answer,
-        present: whole.present,
-        at: whole.at,
-        len: len,
-    }
+    Place { len, ..whole }
 }
 
 // Of the record of a kind whose bytes are `x`.

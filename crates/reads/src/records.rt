@@ -40,10 +40,10 @@ fn image_of(x: &[u8], kind: u8, used: bool) -> Image
     let len = layout_kinds::base_size(kind);
     let answer = table::done();
     Image {
-        answer: answer,
-        used: used,
-        len: len,
-        bytes: bytes,
+        answer,
+        used,
+        len,
+        bytes,
     }
 }
 
@@ -52,8 +52,7 @@ pub fn record_in(t: &[u8], kind: u8, position: usize) -> Image
     requires { Accepted t.now }
     ensures { result ≡ image_at t.now (seat_of t.now kind position) }
 {
-    let s = seat_of(t, kind, position);
-    match s {
+    match seat_of(t, kind, position) {
         Seat::Nowhere => refused_image(table::refuse(16, 0, 0)),
         Seat::At { at, used } => image_of(record_at(t, kind, at), kind, used),
     }

@@ -12,14 +12,11 @@ ghost use Rattle.reads_seats.specs.Seats.{Seated};
 use reads_seats::lent::{heap_part, part_of, record_at};
 use table::{HfiExtended, Need, Security};
 
+// Whether a reference that is needed so counts.
 fn heeds(need: Need) -> bool
     ensures { result ≡ under need false true }
 {
-    match need {
-        Need::Ignored => false,
-        Need::Optional => true,
-        Need::Required => true,
-    }
+    !matches!(need, Need::Ignored)
 }
 
 // Whether a reference to an object of the record with these bytes counts. Only security records and HFI extended infos ignore any.

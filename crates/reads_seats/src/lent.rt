@@ -46,6 +46,7 @@ pub fn record_at(t: &[u8], kind: u8, at: usize) -> &[u8]
 {
     let size = layout_kinds::base_size(kind);
     match kind {
+        // An arm for each: in one arm for the three the proof that the record lies in the heap did not close, by `search` alone.
         Info::ID => heap_part(t, at, size),
         Extended::ID => heap_part(t, at, size),
         HfiExtended::ID => heap_part(t, at, size),

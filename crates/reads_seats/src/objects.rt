@@ -14,7 +14,7 @@ pub fn no_place(answer: Answer) -> Place
     ensures { result ≡ no_place answer }
 {
     Place {
-        answer: answer,
+        answer,
         present: false,
         at: 0,
         len: 0,
@@ -34,10 +34,10 @@ fn ref_place(bytes: &[u8], offset: usize) -> Place
         return no_place(answer);
     }
     Place {
-        answer: answer,
+        answer,
         present: true,
-        at: at,
-        len: len,
+        at,
+        len,
     }
 }
 
@@ -47,8 +47,7 @@ fn named_place(bytes: &[u8], offset: usize, need: Need) -> Place
 {
     match need {
         Need::Ignored => no_place(table::done()),
-        Need::Optional => ref_place(bytes, offset),
-        Need::Required => ref_place(bytes, offset),
+        Need::Optional | Need::Required => ref_place(bytes, offset),
     }
 }
 

@@ -45,7 +45,7 @@ pub fn list_seat(t: &[u8], kind: u8, list: usize, position: usize) -> Seat
     let distance = index * step;
     let at = bytes_wire::u32_at(t, list) + distance;
     let used = is_used(part_of(t, at, base), kind);
-    Seat::At { at: at, used: used }
+    Seat::At { at, used }
 }
 
 // The heap record that a reference of the record with these bytes names, if it names one.
@@ -59,7 +59,7 @@ fn heap_seat(bytes: &[u8], offset: usize) -> Seat
     if len == 0 {
         return Seat::Nowhere;
     }
-    Seat::At { at: at, used: true }
+    Seat::At { at, used: true }
 }
 
 // The extended info of an SSNS: flag 4 says whether there is one.
@@ -126,7 +126,7 @@ fn single_seat(position: usize, at: usize) -> Seat
     if position != 0 {
         return Seat::Nowhere;
     }
-    Seat::At { at: at, used: true }
+    Seat::At { at, used: true }
 }
 
 // The info of the HFI at a position.

@@ -2,7 +2,7 @@
 use mathlib.Core.Path.{◌≡◌, refl, sym, ap, ap₂, ◌∙◌}
 use mathlib.Core.Bool.{Bool, true, false}
 use mathlib.Core.List.{List, [], ◌++◌, append-nil}
-use Prim.Native.Nat.{ℕ, zero, suc, ◌+◌, ◌-◌, ◌*◌, ◌≤◌, ◌<◌}
+use Prim.Native.Nat.{ℕ, min, suc, ◌+◌, ◌-◌, ◌*◌, ◌≤◌, ◌<◌}
 use native.Mathlib.Nat.{zero-add}
 use native.Mathlib.Omega.{arith}
 use lib.ListN.{length, take, drop, length-append, length-drop}
@@ -24,6 +24,9 @@ by-least {P} a b f g = go (leb a b) refl where
   go : (c : Bool) → leb a b ≡ c → P
   go true e = f (leb-true a b e) (rw e refl)
   go false e = g (leb-false a b e) (rw e refl)
+
+pub min-least : (a b : ℕ) → min a b ≡ least a b
+min-least a b = by-least a b (λ h e. omega (arith, e)) (λ h e. omega (arith, h, e))
 
 pub least-le : (a b : ℕ) → least a b ≤ a
 least-le a b = by-least a b (λ h e. omega (arith, e)) (λ h e. omega (arith, h, e))

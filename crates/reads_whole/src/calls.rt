@@ -7,7 +7,7 @@ ghost use Rattle.reads_whole.specs.Whole.{entry_after, entries_of, kinds_to, ref
 
 use crate::Records;
 use crate::entries::put_entry;
-use crate::lists::{first_of, least_of, left_of, put_kinds};
+use crate::lists::{first_of, left_of, put_kinds};
 use reads_seats::seats::{Seat, seat_of};
 use table::Answer;
 
@@ -16,10 +16,9 @@ fn record_in(t: &[u8], kind: u8, position: usize, out: &mut [u8]) -> Answer
     requires { Accepted t.now × (length out.old ≡ 184) }
     ensures { (result ≡ (image_at t.now (seat_of t.now kind position)).answer) × (out.new ≡ entry_after t.now kind position result out.old) }
 {
-    let s = seat_of(t, kind, position);
-    match s {
+    match seat_of(t, kind, position) {
         Seat::Nowhere => table::refuse(16, 0, 0),
-        Seat::At { at, used } => {
+        Seat::At { .. } => {
             put_entry(out, t, kind, position);
             table::done()
         }
@@ -42,7 +41,7 @@ fn refused_records(answer: Answer) -> Records
     ensures { result ≡ refused_records answer }
 {
     Records {
-        answer: answer,
+        answer,
         written: 0,
         total: 0,
     }
@@ -52,12 +51,8 @@ fn kinds_to(kind: u8, last: u8) -> usize
     requires { kind ≤ 10 }
     ensures { (result ≡ kinds_to kind last) × (kind + result ≤ 11) }
 {
-    let from = kind as usize;
-    let end = least_of(last as usize, 10);
-    if end < from {
-        return 1;
-    }
-    end - from + 1
+    let end = usize::from(last).min(10);
+    end.saturating_sub(usize::from(kind)) + 1
 }
 
 // The answer of a good table, and where that is 0 the entries.
@@ -75,9 +70,8 @@ fn records_in(t: &[u8], kind: u8, position: usize, last: u8, out: &mut [u8]) -> 
     let room = out.len() / 184;
     let kinds = kinds_to(kind, last);
     let told = put_kinds(out, t, kind, position, kinds, room);
-    let answer = table::done();
     Records {
-        answer: answer,
+        answer: table::done(),
         written: told.written,
         total: told.total,
     }

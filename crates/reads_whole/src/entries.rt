@@ -13,10 +13,11 @@ use reads_seats::lent::record_at;
 use reads_seats::seats::{Seat, seat_of};
 use table::Place;
 
+// A flag as the byte that an entry has for it.
 fn bit(set: bool) -> u8
     ensures { result ≡ pick set 1 0 }
 {
-    if set { 1 } else { 0 }
+    u8::from(set)
 }
 
 fn put_place(part: &mut [u8], at: usize, place: Place)
@@ -34,13 +35,8 @@ fn put_places(part: &mut [u8], x: &[u8], kind: u8, used: bool)
     ensures { part.new ≡ places_of x.now kind (seat (layout_of kind) 0 used) }
 {
     fill_zero(part, 0, 48);
-    let refs = layout_kinds::reference_offsets(kind);
-    let count = layout_kinds::object_count(kind);
-    let mut i: usize = 0;
-    while i < count {
-        let offset = refs.at[i];
+    for (i, &offset) in layout_kinds::object_offsets(kind).iter().enumerate() {
         put_place(part, 8 * i, place_of(x, kind, used, offset));
-        i += 1;
     }
 }
 
@@ -89,8 +85,7 @@ pub fn put_entry(part: &mut [u8], t: &[u8], kind: u8, position: usize)
     requires { Accepted t.now × (length part.old ≡ 184) }
     ensures { part.new ≡ entry_at t.now kind position }
 {
-    let s = seat_of(t, kind, position);
-    match s {
+    match seat_of(t, kind, position) {
         Seat::Nowhere => put_none(part, t, kind, position),
         Seat::At { at, used } => put_found(part, record_at(t, kind, at), kind, position, used),
     }

@@ -20,12 +20,10 @@ fn put_run(out: &mut [u8], t: &[u8], kind: u8, position: usize, count: usize)
     requires { Accepted t.now × (184 * count ≤ length out.old) × (position + count ≤ 65536) }
     ensures { out.new ≡ splice out.old 0 (rows (entry_at t.now kind) position count) }
 {
-    let mut i: usize = 0;
-    while i < count {
+    for i in 0..count {
         let start = 184 * i;
         let end = start + 184;
         put_entry(&mut out[start..end], t, kind, position + i);
-        i += 1;
     }
 }
 
@@ -62,16 +60,7 @@ pub fn left_of(t: &[u8], kind: u8, position: usize) -> usize
     ensures { (result ≡ left_of t.now kind position) × (result ≤ 256 - position) }
 {
     let end = first_of(kind) + many_of(t, kind);
-    if end < position {
-        return 0;
-    }
-    end - position
-}
-
-pub fn least_of(a: usize, b: usize) -> usize
-    ensures { (result ≡ least a b) × (result ≤ a) × (result ≤ b) }
-{
-    if a <= b { a } else { b }
+    end.saturating_sub(position)
 }
 
 // Entries of so many kinds, from a kind and position on, as far as there is room.
@@ -89,22 +78,17 @@ pub fn put_kinds(
 {
     let mut kind = first_kind;
     let mut position = first_position;
-    let mut rest = kinds;
     let mut written: usize = 0;
     let mut total: usize = 0;
-    while 0 < rest {
+    for _ in 0..kinds {
         let left = left_of(t, kind, position);
-        let fits = least_of(left, room - written);
+        let fits = left.min(room - written);
         let start = 184 * written;
         put_run(&mut out[start..], t, kind, position, fits);
         written += fits;
         total += left;
         kind += 1;
         position = first_of(kind);
-        rest -= 1;
     }
-    Told {
-        written: written,
-        total: total,
-    }
+    Told { written, total }
 }

@@ -59,7 +59,7 @@ fn refused(answer: Answer) -> Rewritten
     ensures { (result.answer ≡ answer) × (result.len ≡ 0) }
 {
     Rewritten {
-        answer: answer,
+        answer,
         len: 0,
     }
 }

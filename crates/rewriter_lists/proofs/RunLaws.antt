@@ -30,9 +30,9 @@ laid-join t a r r' h g g' below room =
     ∙ splice-join w h g g' (omega (arith, l, m))
     ∙ ap (λ (y : List ℕ). splice y h (g ++ g')) (splice-join t a r r' (omega arith))
 
-pub one_less : (n i b : ℕ) → i < n → (n - i) * b ≡ b + (n - (i + 1)) * b
-one_less n i b h =
-    let e : n - i ≡ suc (n - (i + 1)) = omega arith in
+pub one_less : (n p b : ℕ) → 0 < p → p ≤ n → (n - (p - 1)) * b ≡ b + (n - p) * b
+one_less n p b g h =
+    let e : n - (p - 1) ≡ suc (n - p) = omega arith in
     ap (λ (j : ℕ). j * b) e ∙ omega arith
 
 module _ (t : List ℕ) (ok : Accepted t) (k : ℕ) where
@@ -63,23 +63,23 @@ module _ (t : List ℕ) (ok : Accepted t) (k : ℕ) where
   unfolding list_of
   list-heaps h = heaps-long (count_of t k) 1 h
 
-  -- a turn of the walk: y is what the record of position i + 1 left of x
-  pub list-turn : (x y : List ℕ) (n i d h : ℕ) → i < n → d + (n - i) * base_of (layout_of k) ≤ h → h + size_list (list_from t k n i) ≤ length x
-      → y ≡ laid x d (rec_entry h (told_entry (layout_of k) t k (i + 1))) h (heap_entry h (told_entry (layout_of k) t k (i + 1)))
-      → (u : ℕ) → u ≡ h + size_entry (told_entry (layout_of k) t k (i + 1))
-      → laid y (d + base_of (layout_of k)) (recs_list u (list_from t k n (i + 1))) u (heap_list u (list_from t k n (i + 1)))
-      ≡ laid x d (recs_list h (list_from t k n i)) h (heap_list h (list_from t k n i))
+  -- a turn of the walk: y is what the record of position p left of x
+  pub list-turn : (x y : List ℕ) (n p d h : ℕ) → 0 < p → p ≤ n → d + (n - (p - 1)) * base_of (layout_of k) ≤ h → h + size_list (list_from t k n (p - 1)) ≤ length x
+      → y ≡ laid x d (rec_entry h (told_entry (layout_of k) t k p)) h (heap_entry h (told_entry (layout_of k) t k p))
+      → (u : ℕ) → u ≡ h + size_entry (told_entry (layout_of k) t k p)
+      → laid y (d + base_of (layout_of k)) (recs_list u (list_from t k n p)) u (heap_list u (list_from t k n p))
+      ≡ laid x d (recs_list h (list_from t k n (p - 1))) h (heap_list h (list_from t k n (p - 1)))
   unfolding recs_list heap_list size_list
-  list-turn x y n i d h lt below room e u q =
-      let w : Entry (layout_of k) = told_entry (layout_of k) t k (i + 1) in
-      let es : List (Entry (layout_of k)) = list_from t k n (i + 1) in
-      let s : list_from t k n i ≡ w ∷ es = list-more t k i n lt in
-      let z : size_list (list_from t k n i) ≡ size_entry w + size_list es = ap (λ (v : List (Entry (layout_of k))). size_list v) s in
-      let rb = record-bytes t ok k (i + 1) h in
-      let hb = heap-bytes t ok k (i + 1) h in
-      let rl : length (recs_list u es) ≡ (n - (i + 1)) * base_of (layout_of k) = recs-long (n - (i + 1)) (i + 1 + 1) u in
-      let hl : length (heap_list u es) ≡ size_list es = heaps-long (n - (i + 1)) (i + 1 + 1) u in
-      let prod = one_less n i (base_of (layout_of k)) lt in
+  list-turn x y n p d h first last below room e u q =
+      let w : Entry (layout_of k) = told_entry (layout_of k) t k p in
+      let es : List (Entry (layout_of k)) = list_from t k n p in
+      let s : list_from t k n (p - 1) ≡ w ∷ es = list-more t k p n first last in
+      let z : size_list (list_from t k n (p - 1)) ≡ size_entry w + size_list es = ap (λ (v : List (Entry (layout_of k))). size_list v) s in
+      let rb = record-bytes t ok k p h in
+      let hb = heap-bytes t ok k p h in
+      let rl : length (recs_list u es) ≡ (n - p) * base_of (layout_of k) = recs-long (n - p) (p + 1) u in
+      let hl : length (heap_list u es) ≡ size_list es = heaps-long (n - p) (p + 1) u in
+      let prod = one_less n p (base_of (layout_of k)) first last in
       ap₂ (λ (b v : ℕ). laid y (d + b) (recs_list u es) v (heap_list u es)) (sym rb) (q ∙ ap (λ (j : ℕ). h + j) (sym hb))
       ∙ ap (λ (v : List ℕ). laid v (d + length (rec_entry h w)) (recs_list u es) (h + length (heap_entry h w)) (heap_list u es)) e
       ∙ laid-join x d (rec_entry h w) (recs_list u es) h (heap_entry h w) (heap_list u es) (omega (arith, rb, rl, prod)) (omega (arith, hb, hl, z))

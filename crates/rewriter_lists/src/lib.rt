@@ -27,9 +27,7 @@ pub fn lay_list(out: &mut [u8], place: usize, next: usize, t: &[u8], kind: u8) -
     let base = layout_kinds::base_size(kind);
     let mut at = place;
     let mut cursor = next;
-    let mut position: usize = 0;
-    while position < count {
-        position += 1;
+    for position in 1..=count {
         cursor = lay_position(out, at, cursor, t, kind, position);
         at += base;
     }

@@ -67,13 +67,9 @@ pub fn lay_objects(
     requires kind_bound { (place + base_of (layout_of kind) ≤ next) × (next + spans_over t.now kind source (objects_of kind) ≤ length out.old) }
     ensures { (result ≡ next + spans_over t.now kind source (objects_of kind)) × (out.new ≡ laid_over out.old place next t.now kind source (objects_of kind)) }
 {
-    let refs = layout_kinds::reference_offsets(kind);
-    let count = layout_kinds::object_count(kind);
     let mut cursor = next;
-    let mut i: usize = 0;
-    while i < count {
-        cursor = lay_object(out, place, cursor, t, kind, source, refs.at[i]);
-        i += 1;
+    for &offset in layout_kinds::object_offsets(kind) {
+        cursor = lay_object(out, place, cursor, t, kind, source, offset);
     }
     cursor
 }
@@ -108,7 +104,7 @@ fn lay_flat_record(
             put_slot(out, slot, next, 0);
             next
         }
-        Seat::At { at, used } => lay_flat(out, slot, next, t, kind, at),
+        Seat::At { at, .. } => lay_flat(out, slot, next, t, kind, at),
     }
 }
 
@@ -145,7 +141,7 @@ fn lay_info_record(out: &mut [u8], slot: usize, next: usize, t: &[u8], seat: Sea
             put_slot(out, slot, next, 0);
             next
         }
-        Seat::At { at, used } => lay_info(out, slot, next, t, at),
+        Seat::At { at, .. } => lay_info(out, slot, next, t, at),
     }
 }
 

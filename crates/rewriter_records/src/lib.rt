@@ -51,8 +51,7 @@ pub fn lay_entry(
     requires kind_bound { (place + base_of (layout_of kind) ≤ next) × (next + size_entry (told_entry (layout_of kind) t.now kind position) ≤ length out.old) }
     ensures { (result ≡ next + size_entry (told_entry (layout_of kind) t.now kind position)) × (out.new ≡ laid out.old place (rec_entry next (told_entry (layout_of kind) t.now kind position)) next (heap_entry next (told_entry (layout_of kind) t.now kind position))) }
 {
-    let seat = seat_of(t, kind, position);
-    match seat {
+    match seat_of(t, kind, position) {
         Seat::Nowhere => lay_unused(out, place, next, kind),
         Seat::At { at, used } => if used {
             lay_used(out, place, next, t, kind, at)
@@ -95,7 +94,7 @@ fn lay_listed_held(
     requires kind_bound { (place + base_of (layout_of kind) ≤ next) × (next + spans_over t.now kind source (held_of kind) ≤ length out.old) }
     ensures { (result ≡ next + spans_over t.now kind source (held_of kind)) × (out.new ≡ laid_over out.old place next t.now kind source (held_of kind)) }
 {
-    let all = layout_kinds::reference_offsets(kind).count;
+    let all = layout_kinds::reference_offsets(kind).len();
     if all == layout_kinds::object_count(kind) {
         return next;
     }
@@ -125,8 +124,7 @@ pub fn lay_position(
     requires kind_bound { (place + base_of (layout_of kind) ≤ next) × (next + size_entry (told_entry (layout_of kind) t.now kind position) ≤ length out.old) }
     ensures { (result ≡ next + size_entry (told_entry (layout_of kind) t.now kind position)) × (out.new ≡ laid out.old place (rec_entry next (told_entry (layout_of kind) t.now kind position)) next (heap_entry next (told_entry (layout_of kind) t.now kind position))) }
 {
-    let seat = seat_of(t, kind, position);
-    match seat {
+    match seat_of(t, kind, position) {
         Seat::Nowhere => lay_unused(out, place, next, kind),
         Seat::At { at, used } => if used {
             lay_listed(out, place, next, t, kind, at)

@@ -79,14 +79,14 @@ never l f [] = refl
 never l f (unused ∷ es) = never l f es
 never l f (used img ss ∷ es) = ap (λ (c : Bool). c || newer_list es) (f ss) ∙ never l f es
 
-module _ (t : List ℕ) (i n : ℕ) where
-  pub newer-more : i < n → newer_list (list_from t 3 n i) ≡ (newer_entry (told_entry (layout_of 3) t 3 (i + 1)) || newer_list (list_from t 3 n (i + 1)))
+module _ (t : List ℕ) (p n : ℕ) where
+  pub newer-more : 0 < p → p ≤ n → newer_list (list_from t 3 n (p - 1)) ≡ (newer_entry (told_entry (layout_of 3) t 3 p) || newer_list (list_from t 3 n p))
   unfolding newer_list
-  newer-more h = ap newer_list (list-more t 3 i n h)
+  newer-more g h = ap newer_list (list-more t 3 p n g h)
 
-  pub newer-done : n ≤ i → newer_list (list_from t 3 n i) ≡ false
+  pub newer-done : n ≤ p → newer_list (list_from t 3 n p) ≡ false
   unfolding newer_list
-  newer-done h = ap newer_list (list_done t 3 i n h)
+  newer-done h = ap newer_list (list_done t 3 p n h)
 
 or-false : (c x y z : Bool) → x ≡ false → y ≡ false → z ≡ false → ◌≡◌ {A = ℕ} (pick (c || (x || (y || (z || false)))) 1 0) (pick c 1 0)
 or-false c x y z p q r = rw (p, q, r) (go c) where

@@ -246,27 +246,29 @@ sized-split t ok k a s = sized-all t ok k a s ∙ ap (spans_over t k a) (refs-sp
 pub sized-flat : (t : List ℕ) (ok : Accepted t) (k a : ℕ) → Seated t (layout_of k) a true → held_of k ≡ [] → size_of (slots_in (layout_of k) t a) ≡ spans_over t k a (objects_of k)
 sized-flat t ok k a s e = sized-all t ok k a s ∙ ap (spans_over t k a) (refs-objects k e)
 
--- ---- a list, position by position
+-- ---- a list, position by position: position p, which is the first behind p - 1 of them
 
-module _ (t : List ℕ) (k i n : ℕ) where
-  pub list-more : i < n → list_from t k n i ≡ told_entry (layout_of k) t k (i + 1) ∷ list_from t k n (i + 1)
+module _ (t : List ℕ) (k p n : ℕ) where
+  pub list-more : 0 < p → p ≤ n → list_from t k n (p - 1) ≡ told_entry (layout_of k) t k p ∷ list_from t k n p
   unfolding told_list
-  list-more h =
-      let e : n - i ≡ suc (n - (i + 1)) = omega arith in
-      let s : suc (i + 1) ≡ i + 1 + 1 = omega arith in
-      ap (told_list (layout_of k) t k (i + 1)) e ∙ ap (λ (j : ℕ). told_entry (layout_of k) t k (i + 1) ∷ told_list (layout_of k) t k j (n - (i + 1))) s
+  list-more g h =
+      let s : p - 1 + 1 ≡ p = omega arith in
+      let e : n - (p - 1) ≡ suc (n - p) = omega arith in
+      let r : suc p ≡ p + 1 = omega arith in
+      ap₂ (λ (j m : ℕ). told_list (layout_of k) t k j m) s e
+      ∙ ap (λ (j : ℕ). told_entry (layout_of k) t k p ∷ told_list (layout_of k) t k j (n - p)) r
 
-  pub list_done : n ≤ i → list_from t k n i ≡ []
+  pub list_done : n ≤ p → list_from t k n p ≡ []
   unfolding told_list
   list_done h =
-      let e : n - i ≡ 0 = omega arith in
-      ap (told_list (layout_of k) t k (i + 1)) e
+      let e : n - p ≡ 0 = omega arith in
+      ap (told_list (layout_of k) t k (p + 1)) e
 
-  pub size-more : i < n → size_list (list_from t k n i) ≡ size_entry (told_entry (layout_of k) t k (i + 1)) + size_list (list_from t k n (i + 1))
+  pub size-more : 0 < p → p ≤ n → size_list (list_from t k n (p - 1)) ≡ size_entry (told_entry (layout_of k) t k p) + size_list (list_from t k n p)
   unfolding size_list
-  size-more h = ap size_list (list-more h)
+  size-more g h = ap size_list (list-more g h)
 
-  pub size-done : n ≤ i → size_list (list_from t k n i) ≡ 0
+  pub size-done : n ≤ p → size_list (list_from t k n p) ≡ 0
   unfolding size_list
   size-done h = ap size_list (list_done h)
 

@@ -16,10 +16,9 @@ fn is_newer(t: &[u8], position: usize) -> bool
     requires { Accepted t.now }
     ensures { result ≡ newer_entry (told_entry (layout_of 3) t.now 3 position) }
 {
-    let seat = seat_of(t, Info::ID, position);
-    match seat {
+    match seat_of(t, Info::ID, position) {
         Seat::Nowhere => false,
-        Seat::At { at, used } => info_version(t, at) == 2,
+        Seat::At { at, .. } => info_version(t, at) == 2,
     }
 }
 
@@ -28,9 +27,7 @@ pub fn form_minor(t: &[u8]) -> u8
     ensures { result ≡ minor_of (meaning t.now) }
 {
     let count = count_of(t, Hfi::ID);
-    let mut position: usize = 0;
-    while position < count {
-        position += 1;
+    for position in 1..=count {
         if is_newer(t, position) {
             return 1;
         }

@@ -16,13 +16,9 @@ fn objects_size(t: &[u8], kind: u8, at: usize) -> usize
     requires { Accepted t.now × Seated t.now (layout_of kind) at true }
     ensures { (result ≡ spans_over t.now kind at (objects_of kind)) × (result ≤ 393210) }
 {
-    let refs = layout_kinds::reference_offsets(kind);
-    let count = layout_kinds::object_count(kind);
     let mut total: usize = 0;
-    let mut i: usize = 0;
-    while i < count {
-        total += object_len(t, kind, at, refs.at[i]);
-        i += 1;
+    for &offset in layout_kinds::object_offsets(kind) {
+        total += object_len(t, kind, at, offset);
     }
     total
 }
@@ -34,7 +30,7 @@ fn flat_span(t: &[u8], kind: u8, seat: Seat) -> usize
 {
     match seat {
         Seat::Nowhere => 0,
-        Seat::At { at, used } => {
+        Seat::At { at, .. } => {
             let size = layout_kinds::base_size(kind);
             let len = objects_size(t, kind, at);
             size + len
@@ -57,7 +53,7 @@ fn info_span(t: &[u8], seat: Seat) -> usize
 {
     match seat {
         Seat::Nowhere => 0,
-        Seat::At { at, used } => {
+        Seat::At { at, .. } => {
             let objects = objects_size(t, Info::ID, at);
             let identity = identity_span(t, at);
             Info::SIZE + objects + identity

@@ -18,8 +18,7 @@ pub fn entry_size(t: &[u8], kind: u8, position: usize) -> usize
     requires { Accepted t.now }
     ensures { (result ≡ size_entry (told_entry (layout_of kind) t.now kind position)) × (result ≤ 1200000) }
 {
-    let seat = seat_of(t, kind, position);
-    match seat {
+    match seat_of(t, kind, position) {
         Seat::Nowhere => 0,
         Seat::At { at, used } => if used { named_size(t, kind, at) } else { 0 },
     }
@@ -32,9 +31,7 @@ pub fn list_size(t: &[u8], kind: u8) -> usize
 {
     let count = count_of(t, kind);
     let mut sum: usize = 0;
-    let mut position: usize = 0;
-    while position < count {
-        position += 1;
+    for position in 1..=count {
         sum += entry_size(t, kind, position);
     }
     sum

@@ -15,7 +15,7 @@ returns-in-Nowhere c =
     let n = num a.t.now (a.at + nest_at a.kind + 4) 2 in (
       sym (ap (len_at a.t.now a.kind a.at) c.requires.1
           ∙ sym (held-len a.t.now a.kind a.at)
-          ∙ ap (λ (x : Seat). len_of x n) (sym c.heap_record-seat.ensures ∙ c.in-Nowhere.is)),
+          ∙ ap (λ (x : Seat). len_of x n) (sym c.heap_record.ensures ∙ c.in-Nowhere.is)),
       lit< tt,
     )
 
@@ -25,7 +25,7 @@ returns-in-At c =
     let n = num a.t.now (a.at + nest_at a.kind + 4) 2 in (
       ap (λ (r : Region). r.len) c.reference_at.ensures.0
           ∙ ap (λ (q : ℕ). num a.t.now (a.at + q + 4) 2) c.requires.1
-          ∙ ap (λ (x : Seat). len_of x n) (sym c.in-At.is ∙ c.heap_record-seat.ensures)
+          ∙ ap (λ (x : Seat). len_of x n) (sym c.in-At.is ∙ c.heap_record.ensures)
           ∙ held-len a.t.now a.kind a.at
           ∙ ap (len_at a.t.now a.kind a.at) (sym c.requires.1),
       c.reference_at.ensures.2,

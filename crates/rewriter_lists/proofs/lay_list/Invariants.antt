@@ -10,13 +10,9 @@ use Rattle.rewriter_lists.proofs.lay_list.Given as goal
 
 abbrev pub invariant-loop-position : goal.invariant-loop-position
 invariant-loop-position l =
-    (l.position ≤ l.count)
-    × (l.at + (l.count - l.position) * base_of (layout_of l.kind) ≤ l.cursor)
-    × (l.cursor + size_list (list_from l.t l.kind l.count l.position) ≡ l.next + size_list (list_of l.t l.kind))
+    (l.at + (l.count - (l.position - 1)) * base_of (layout_of l.kind) ≤ l.cursor)
+    × (l.cursor + size_list (list_from l.t l.kind l.count (l.position - 1)) ≡ l.next + size_list (list_of l.t l.kind))
     × (length l.out ≡ length l.initial.out)
-    × (laid l.out l.at (recs_list l.cursor (list_from l.t l.kind l.count l.position)) l.cursor
-    (heap_list l.cursor (list_from l.t l.kind l.count l.position))
+    × (laid l.out l.at (recs_list l.cursor (list_from l.t l.kind l.count (l.position - 1))) l.cursor
+    (heap_list l.cursor (list_from l.t l.kind l.count (l.position - 1)))
     ≡ laid l.initial.out l.place (recs_list l.next (list_of l.t l.kind)) l.next (heap_list l.next (list_of l.t l.kind)))
-
-abbrev pub decreases-loop-position : goal.decreases-loop-position
-decreases-loop-position l = l.count - l.position

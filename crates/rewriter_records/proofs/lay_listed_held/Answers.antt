@@ -13,5 +13,5 @@ returns-then-all-object_count c =
     let a = c.args in
     let k = a.kind in
     let l = ap length (refs-split k) ∙ length-append (objects_of k) (held_of k) in
-    let e : length (held_of k) ≡ 0 = omega (arith, l, r.1, c.object_count.ensures.0, c.if-all-object_count.true) in
+    let e : length (held_of k) ≡ 0 = omega (arith, l, ap length r.0, c.object_count.ensures.0, c.if-all-object_count.true) in
     over-empty a.t.now k a.source (held_of k) e a.out.now a.place a.next

@@ -20,7 +20,7 @@ lay_listed-requires c =
     let a = c.args in
     let t = a.t.now in
     let k = a.kind in
-    let e = (sym c.seat_of-seat.ensures
+    let e = (sym c.seat_of.ensures
     ∙ ap (as_seat (layout_of k)) c.in-At.is
     ∙ ap (seat (layout_of k) c.in-At.at) c.if-used.true) in
     let z = ap size_entry (entry-on t k a.position c.in-At.at e) in record { accepted = (c.requires.accepted, seated-at t c.requires.accepted k a.position c.in-At.at true e); kind_bound = (c.requires.kind_bound.0, omega (arith, z, c.requires.kind_bound)) }
@@ -32,7 +32,7 @@ returns-in-Nowhere c =
     let t = a.t.now in
     let k = a.kind in
     rw (entry-nowhere t k a.position
-    (sym c.seat_of-seat.ensures ∙ ap (as_seat (layout_of k)) c.in-Nowhere.is)) (
+    (sym c.seat_of.ensures ∙ ap (as_seat (layout_of k)) c.in-Nowhere.is)) (
       c.lay_unused.ensures.0 ∙ sym (add-zero a.next),
       c.lay_unused.ensures.1
           ∙ splice-none (splice a.out.now a.place (replicate (base_of (layout_of k)) 0)) a.next,
@@ -44,7 +44,7 @@ returns-then-used c =
     let a = c.args in
     let t = a.t.now in
     let k = a.kind in
-    rw (entry-on t k a.position c.in-At.at (sym c.seat_of-seat.ensures
+    rw (entry-on t k a.position c.in-At.at (sym c.seat_of.ensures
     ∙ ap (as_seat (layout_of k)) c.in-At.is
     ∙ ap (seat (layout_of k) c.in-At.at) c.if-used.true)) c.lay_listed.ensures
 
@@ -54,7 +54,7 @@ returns-else-used c =
     let a = c.args in
     let t = a.t.now in
     let k = a.kind in
-    rw (entry-off t k a.position c.in-At.at (sym c.seat_of-seat.ensures
+    rw (entry-off t k a.position c.in-At.at (sym c.seat_of.ensures
     ∙ ap (as_seat (layout_of k)) c.in-At.is
     ∙ ap (seat (layout_of k) c.in-At.at) c.if-used.false)) (
       c.lay_unused-else-used.ensures.0 ∙ sym (add-zero a.next),

@@ -20,7 +20,7 @@ seated c =
     let a = c.args in
     seated-at a.t.now c.requires a.kind a.position c.in-At.at
     c.in-At.used
-    (sym c.seat_of-s.ensures ∙ ap (as_seat (layout_of a.kind)) c.in-At.is)
+    (sym c.seat_of.ensures ∙ ap (as_seat (layout_of a.kind)) c.in-At.is)
 
 pub record_at-requires : goal.record_at-requires
 record_at-requires c = (
@@ -34,13 +34,13 @@ image_of-requires c = let a = c.args in
     omega (arith, ap length c.record_at.ensures, own-long a.kind a.t.now c.in-At.at (seated (goal.at.image_of-requires c).In-At).within)
 
 pub returns-in-Nowhere : goal.returns-in-Nowhere
-returns-in-Nowhere c = rw (← c.seat_of-s.ensures, c.in-Nowhere.is) (c.refused_image.ensures ∙ ap refused_image c.refuse.ensures)
+returns-in-Nowhere c = rw (← c.seat_of.ensures, c.in-Nowhere.is) (c.refused_image.ensures ∙ ap refused_image c.refuse.ensures)
 
 pub returns-in-At : goal.returns-in-At
 returns-in-At c =
     let a = c.args in
     let at = c.in-At.at in
     let used = c.in-At.used in
-    rw (← c.seat_of-s.ensures, c.in-At.is) (c.image_of.ensures
+    rw (← c.seat_of.ensures, c.in-At.is) (c.image_of.ensures
     ∙ ap (λ (x : List ℕ). image_at x (seat (layout_of a.kind) 0 used)) c.record_at.ensures
     ∙ image_at-own a.kind a.t.now at used)

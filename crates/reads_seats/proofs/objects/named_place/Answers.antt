@@ -4,9 +4,3 @@ use Rattle.reads_seats.proofs.objects.named_place.Goals as goal
 
 pub returns-in-Ignored : goal.returns-in-Ignored
 returns-in-Ignored c = rw c.in-Ignored.is (c.no_place.ensures ∙ ap no_place c.done.ensures)
-
-pub returns-in-Optional : goal.returns-in-Optional
-returns-in-Optional c = rw c.in-Optional.is c.ref_place.ensures
-
-pub returns-in-Required : goal.returns-in-Required
-returns-in-Required c = rw c.in-Required.is c.ref_place-in-Required.ensures

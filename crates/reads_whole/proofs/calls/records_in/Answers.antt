@@ -72,7 +72,7 @@ returns c =
     let written : told.result.written ≡ least (number_of t k n (kinds_to k a.last)) (length out / 184) =
     told.ensures.total_value.1 ∙ ap (λ (m : ℕ). least m (length out / 184)) total in record {
       value = (
-        rw (at, some, c.done-answer.ensures, written, total) refl,
+        rw (at, some, c.done.ensures, written, total) refl,
         told.ensures.out_after
             ∙ ap (λ (m : ℕ). splice out 0 (take (184 * told.result.written) (entries_of t k n m))) kinds,
       );

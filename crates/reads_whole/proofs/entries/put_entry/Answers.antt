@@ -22,7 +22,7 @@ seated c =
     let a = c.args in
     seated-at a.t.now c.requires.0 a.kind a.position c.in-At.at
     c.in-At.used
-    (sym c.seat_of-s.ensures ∙ ap (as_seat (layout_of a.kind)) c.in-At.is)
+    (sym c.seat_of.ensures ∙ ap (as_seat (layout_of a.kind)) c.in-At.is)
 
 pub record_at-requires : goal.record_at-requires
 record_at-requires c = (
@@ -41,7 +41,7 @@ put_found-requires c =
 pub returns-in-Nowhere : goal.returns-in-Nowhere
 unfolding entry_at
 returns-in-Nowhere c =
-    rw (← c.seat_of-s.ensures, c.in-Nowhere.is) c.put_none.ensures
+    rw (← c.seat_of.ensures, c.in-Nowhere.is) c.put_none.ensures
 
 pub returns-in-At : goal.returns-in-At
 unfolding entry_at
@@ -49,7 +49,7 @@ returns-in-At c =
     let a = c.args in
     let at = c.in-At.at in
     let used = c.in-At.used in
-    rw (← c.seat_of-s.ensures, c.in-At.is) (c.put_found.ensures
+    rw (← c.seat_of.ensures, c.in-At.is) (c.put_found.ensures
     ∙ ap (λ (x : List ℕ). entry_of x a.kind a.position (seat (layout_of a.kind) 0 used))
     c.record_at.ensures
     ∙ entry-own a.kind a.t.now at a.position used)

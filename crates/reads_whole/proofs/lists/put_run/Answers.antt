@@ -7,12 +7,11 @@ use lib.ListN.{length}
 use native.Mathlib.Omega.{arith}
 use Prim.Native.Nat.{ℕ, ◌+◌, ◌-◌, ◌*◌}
 use mathlib.Core.Path.{◌≡◌, refl, ap, ◌∙◌}
-use Rattle.table.proofs.Rules.{picks}
 use Rattle.reads_whole.proofs.lists.put_run.Goals as goal
 
 pub loop-i-init : goal.loop-i-init
 unfolding rows
-loop-i-init c = (search picks, refl, splice-none c.args.out.now 0)
+loop-i-init c = (refl, splice-none c.args.out.now 0)
 
 pub loop-i-preserved : goal.loop-i-preserved
 loop-i-preserved c =
@@ -25,10 +24,9 @@ loop-i-preserved c =
     let each = entry-long t c.requires.0 a.kind in
     let long : length w.new.part ≡ 184 * i + 184 - 184 * i =
     omega (arith, ap length w.ensures, each (a.position + i)) in (
-      omega (arith, c.loop-i-test.true),
-      c.out-1.given.1 ∙ l.invariant.1,
+      c.out-1.given.1 ∙ l.invariant.0,
       rows-turn entry 184 each a.out.now l.out _ a.position i (184 * i)
-          (omega (arith, c.loop-i-test.true, c.requires.1)) refl l.invariant.2 (lent l.out (184 * i)
+          (omega (arith, c.loop-i-test.true, c.requires.1)) refl l.invariant.1 (lent l.out (184 * i)
           (184 * i + 184 - 184 * i) w.new.part long
           ∙ ap (splice l.out (184 * i)) w.ensures),
     )
@@ -36,5 +34,5 @@ loop-i-preserved c =
 pub returns : goal.returns
 returns c = let a = c.args in
     let l = c.loop-i in
-    let e : l.i ≡ a.count = omega (arith, c.loop-i-test.false, l.invariant.0) in
-    l.invariant.2 ∙ ap (λ (n : ℕ). splice a.out.now 0 (rows (entry_at a.t.now a.kind) a.position n)) e
+    let e : l.i ≡ a.count = omega arith in
+    l.invariant.1 ∙ ap (λ (n : ℕ). splice a.out.now 0 (rows (entry_at a.t.now a.kind) a.position n)) e

@@ -1,5 +1,5 @@
-use mathlib.Core.Path.{◌≡◌, refl, sym, ap, ◌∙◌}
-use mathlib.Core.Bool.{Bool, true, false, ◌||◌}
+use mathlib.Core.Path.{◌≡◌, sym, ap, ◌∙◌}
+use mathlib.Core.Bool.{Bool, ◌||◌}
 use Prim.Native.Nat.{◌+◌, ◌-◌}
 use native.Mathlib.Omega.{arith}
 use Rattle.table.specs.Bytes.{pick}
@@ -7,12 +7,8 @@ use Rattle.table.specs.Objects.{newer_list}
 use Rattle.table.specs.Meaning.{meaning, minor_of}
 use Rattle.rewriter_sizes.specs.Parts.{list_from}
 use Rattle.rewriter_sizes.proofs.MinorLaws.{newer-more, newer-done, minor-is}
-use Rattle.table.proofs.Rules.{picks}
-use Rattle.rewriter_sizes.proofs.minor.form_minor.Goals.{After-count_of-count}
+use Rattle.rewriter_sizes.proofs.minor.form_minor.Goals.{After-count_of-count, After-is_newer}
 use Rattle.rewriter_sizes.proofs.minor.form_minor.Goals as goal
-
-pub loop-position-init : goal.loop-position-init
-loop-position-init c = (search picks, refl)
 
 -- the minor by the list
 whole : (c : After-count_of-count) → let t = c.args.t.now in
@@ -20,28 +16,32 @@ whole : (c : After-count_of-count) → let t = c.args.t.now in
 whole c =
     minor-is c.args.t.now (λ i. omega (arith, c.type_inv.t i)) c.requires c.count_of-count.result c.count_of-count.ensures.0
 
-pub returns-then-is_newer : goal.returns-then-is_newer
-returns-then-is_newer c =
+-- by the HFI at a position and the list behind it, where none before asks for it
+turn : (c : After-is_newer) → let t = c.args.t.now in let n = c.count_of-count.result in
+    newer_list (list_from t 3 n 0) ≡ (c.is_newer.result || newer_list (list_from t 3 n c.loop-position.position))
+turn c =
     let t = c.args.t.now in
     let n = c.count_of-count.result in
-    let m = newer-more t c.loop-position.position n c.loop-position-test.true in
-    let e = sym c.loop-position.invariant.1 ∙ m ∙ ap (λ (b : Bool). b || newer_list (list_from t 3 n (c.loop-position.position + 1))) (sym c.is_newer.ensures ∙ c.if-is_newer.true) in
-    sym (whole (goal.at.returns-then-is_newer c).After-count_of-count ∙ ap (λ (b : Bool). pick b 1 0) e)
+    let p = c.loop-position.position in
+    sym c.loop-position.invariant ∙ newer-more t p n (omega arith) (omega arith) ∙ ap (λ (b : Bool). b || newer_list (list_from t 3 n p)) (sym c.is_newer.ensures)
 
-pub loop-position-smaller : goal.loop-position-smaller
-loop-position-smaller c = omega (arith, c.loop-position-test.true)
+pub returns-then-is_newer : goal.returns-then-is_newer
+returns-then-is_newer c =
+    let a = goal.at.returns-then-is_newer c in
+    sym (whole a.After-count_of-count ∙ ap (λ (b : Bool). pick b 1 0) (rw c.if-is_newer.true at (turn a.After-is_newer)))
 
 pub loop-position-preserved : goal.loop-position-preserved
 loop-position-preserved c =
-    let t = c.args.t.now in
-    let n = c.count_of-count.result in
-    let m = newer-more t c.loop-position.position n c.loop-position-test.true in
-    let e = m ∙ ap (λ (b : Bool). b || newer_list (list_from t 3 n (c.loop-position.position + 1))) (sym c.is_newer.ensures ∙ c.if-is_newer.false) in
-    (omega (arith, c.loop-position-test.true), sym e ∙ c.loop-position.invariant.1)
+    let e : c.loop-position.position + 1 - 1 ≡ c.loop-position.position = omega arith in
+    rw e (sym (rw c.if-is_newer.false at (turn (goal.at.loop-position-preserved c).After-is_newer)))
 
 pub returns : goal.returns
 returns c =
-    let t = c.args.t.now in
-    let n = c.count_of-count.result in
-    let e = sym c.loop-position.invariant.1 ∙ newer-done t c.loop-position.position n (omega (arith, c.loop-position-test.false)) in
+    let e = sym c.loop-position.invariant ∙ newer-done c.args.t.now (c.loop-position.position - 1) c.count_of-count.result (omega arith) in
     sym (whole (goal.at.returns c).After-count_of-count ∙ ap (λ (b : Bool). pick b 1 0) e)
+
+pub returns-else-is_newer : goal.returns-else-is_newer
+returns-else-is_newer c =
+    let a = goal.at.returns-else-is_newer c in
+    let e = (rw c.if-is_newer.false at (turn a.After-is_newer)) ∙ newer-done c.args.t.now c.loop-position.position c.count_of-count.result (omega arith) in
+    sym (whole a.After-count_of-count ∙ ap (λ (b : Bool). pick b 1 0) e)

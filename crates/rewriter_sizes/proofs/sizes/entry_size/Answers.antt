@@ -13,7 +13,7 @@ pub named_size-requires : goal.named_size-requires
 named_size-requires c = (
   c.requires,
   seated-at c.args.t.now c.requires c.args.kind c.args.position c.in-At.at true
-      (sym c.seat_of-seat.ensures
+      (sym c.seat_of.ensures
       ∙ ap (as_seat (layout_of c.args.kind)) c.in-At.is
       ∙ ap (seat (layout_of c.args.kind) c.in-At.at) c.if-used.true),
 )
@@ -22,7 +22,7 @@ pub returns-in-Nowhere : goal.returns-in-Nowhere
 unfolding size_entry
 returns-in-Nowhere c = (
   sym (ap size_entry (entry-nowhere c.args.t.now c.args.kind c.args.position
-      (sym c.seat_of-seat.ensures ∙ ap (as_seat (layout_of c.args.kind)) c.in-Nowhere.is))),
+      (sym c.seat_of.ensures ∙ ap (as_seat (layout_of c.args.kind)) c.in-Nowhere.is))),
   lit≤ tt,
 )
 
@@ -31,7 +31,7 @@ unfolding size_entry slots_in
 returns-then-used c = (
   c.named_size.ensures.0
       ∙ sym (ap size_entry (entry-on c.args.t.now c.args.kind c.args.position c.in-At.at
-      (sym c.seat_of-seat.ensures
+      (sym c.seat_of.ensures
       ∙ ap (as_seat (layout_of c.args.kind)) c.in-At.is
       ∙ ap (seat (layout_of c.args.kind) c.in-At.at) c.if-used.true))),
   c.named_size.ensures.1,
@@ -41,7 +41,7 @@ pub returns-else-used : goal.returns-else-used
 unfolding size_entry
 returns-else-used c = (
   sym (ap size_entry (entry-off c.args.t.now c.args.kind c.args.position c.in-At.at
-      (sym c.seat_of-seat.ensures
+      (sym c.seat_of.ensures
       ∙ ap (as_seat (layout_of c.args.kind)) c.in-At.is
       ∙ ap (seat (layout_of c.args.kind) c.in-At.at) c.if-used.false))),
   lit≤ tt,
