@@ -3,7 +3,7 @@ ghost use Rattle.std.specs.Prelude.{◌+◌, ◌≤◌, length};
 ghost use Rattle.io.specs.Counts.{IsPrefixLen};
 
 use crate::options::{Asked, with_several};
-use show::bytes::{CHARACTERS, put_bytes};
+use show::bytes::{Style, put_bytes};
 use show::json::print_file;
 use show::people::print_people;
 use std::fs::Files;
@@ -49,7 +49,7 @@ fn show_for_people(name: &[u8], t: &[u8], a: Asked, none: bool) {
         print_bytes(b"\n");
     }
     if a.files == 2 {
-        put_bytes(name, CHARACTERS, true);
+        put_bytes(name, Style::Characters, true);
         print_bytes(b":\n\n");
     }
     print_people(t, a.all);

@@ -3,8 +3,8 @@ ghost use Rattle.std.specs.Prelude.{◌≤◌, length};
 ghost use Rattle.io.specs.Counts.{IsPrefixLen};
 ghost use Rattle.reader.specs.Accepted.{Accepted};
 
-use crate::bytes::{CHARACTERS, DIGITS, before_final_zero, put, put_bytes};
-use crate::numbers::{NONE, put_numbers};
+use crate::bytes::{Style, before_final_zero, put, put_bytes};
+use crate::numbers::put_numbers;
 use crate::records::{is_there, number_in, text_in};
 use crate::values::is_object_form;
 use reads::fields::field_in;
@@ -44,7 +44,7 @@ fn put_flag(set: bool, out: bool) -> usize {
 
 fn put_front(x: &[u8], n: usize, out: bool) -> usize {
     if n <= x.len() {
-        return put_bytes(&x[0..n], CHARACTERS, out);
+        return put_bytes(&x[0..n], Style::Characters, out);
     }
     0
 }
@@ -66,7 +66,7 @@ fn put_characters(t: &[u8], position: usize, row: Row, out: bool) -> usize
             return put_word(b"\"\"", out);
         }
     }
-    put_bytes(x, CHARACTERS, out)
+    put_bytes(x, Style::Characters, out)
 }
 
 // What is long enough for an address is one.
@@ -74,12 +74,12 @@ fn put_reached(x: &[u8], out: bool) -> usize {
     if 16 <= x.len() {
         return put(text_addresses::address(&x[0..16]), out);
     }
-    put_bytes(x, CHARACTERS, out)
+    put_bytes(x, Style::Characters, out)
 }
 
 fn put_service(x: &[u8], out: bool) -> usize {
     let end = before_final_zero(x);
-    put_bytes(&x[0..end], CHARACTERS, out)
+    put_bytes(&x[0..end], Style::Characters, out)
 }
 
 fn put_object(t: &[u8], position: usize, row: Row, x: &[u8], out: bool) -> usize
@@ -89,9 +89,9 @@ fn put_object(t: &[u8], position: usize, row: Row, x: &[u8], out: bool) -> usize
     match form {
         REACHED => put_reached(x, out),
         SERVICE => put_service(x, out),
-        BYTES => put_bytes(x, DIGITS, out),
-        HFIS => put_numbers(number_in(t, position, row.kind, row.by), x, out),
-        _ => put_numbers(NONE, x, out),
+        BYTES => put_bytes(x, Style::Digits, out),
+        HFIS => put_numbers(Some(number_in(t, position, row.kind, row.by)), x, out),
+        _ => put_numbers(None, x, out),
     }
 }
 

@@ -2,8 +2,8 @@
 ghost use Rattle.io.specs.Counts.{IsPrefixLen};
 ghost use Rattle.reader.specs.Accepted.{Accepted};
 
-use crate::bytes::{DIGITS, first_zero, print_quoted, put_bytes};
-use crate::numbers::{NONE, count_numbers, print_numbers};
+use crate::bytes::{Style, first_zero, print_quoted, put_bytes};
+use crate::numbers::{count_numbers, print_numbers};
 use crate::records::{is_there, number_in, text_in};
 use reads::fields::field_in;
 use reads::objects::{object_in, place_in};
@@ -99,7 +99,7 @@ fn print_digits(x: &[u8]) {
         return;
     }
     print_bytes(b"\"");
-    put_bytes(x, DIGITS, true);
+    put_bytes(x, Style::Digits, true);
     print_bytes(b"\"");
 }
 
@@ -108,14 +108,14 @@ fn print_object(t: &[u8], position: usize, row: Row, x: &[u8], depth: usize)
     requires { Accepted t.now }
 {
     let form = row.form;
-    let lead = number_in(t, position, row.kind, row.by);
+    let lead = Some(number_in(t, position, row.kind, row.by));
     match form {
         REACHED => print_reached(x),
         SERVICE => print_service(x),
         BYTES => print_digits(x),
         HFIS => print_numbers(lead, x, depth),
         HFI_COUNT => print(text::decimal(count_numbers(lead, x) as u64)),
-        _ => print_numbers(NONE, x, depth),
+        _ => print_numbers(None, x, depth),
     }
 }
 
