@@ -4,7 +4,7 @@ ghost use Rattle.reader.specs.Accepted.{Accepted};
 
 use crate::bytes::{print_line_start, print_quoted};
 use crate::numbers::{print_list_end, print_part_start};
-use crate::records::{is_used, kind_of, last_position};
+use crate::records::{cell_at, is_used, kind_of, last_position};
 use crate::values::{is_absent, print_value};
 use show_table::forms::{LISTED, SINGLE};
 use show_table::names::key_at;
@@ -29,12 +29,12 @@ fn print_key(i: usize, first: bool, depth: usize) {
 fn print_member(t: &[u8], position: usize, i: usize, first: bool, depth: usize)
     requires { Accepted t.now × (depth ≤ 4) }
 {
-    let row = row_at(i);
-    if is_absent(t, position, row) {
+    let cell = cell_at(t, position, i);
+    if is_absent(cell) {
         return;
     }
     print_key(i, first, depth);
-    print_value(t, position, row, depth + 1);
+    print_value(cell, depth + 1);
 }
 
 // A record as an object whose keys stand at a depth.

@@ -2,18 +2,16 @@
 ghost use Rattle.reader.specs.Accepted.{Accepted};
 
 use crate::cells::{put_cell, says_something};
-use crate::records::{first_position, is_used, last_position};
+use crate::records::{Cell, cell_at, first_position, is_used, last_position};
 use show_table::forms::{DETAIL, LINE};
 use show_table::names::{key_at, title_at};
-use show_table::{Row, end_row, first_row, row_at};
+use show_table::{end_row, first_row};
 use tool::{print, print_bytes};
 
-fn has_line(t: &[u8], position: usize, row: Row, all: bool) -> bool
-    requires { Accepted t.now }
-{
-    match row.view {
+fn has_line(cell: Cell<'_>, all: bool) -> bool {
+    match cell.row.view {
         DETAIL => all,
-        LINE => all || says_something(t, position, row),
+        LINE => all || says_something(cell),
         _ => false,
     }
 }
@@ -35,7 +33,7 @@ fn print_line(t: &[u8], position: usize, i: usize)
     print_bytes(b"  ");
     print(title_at(i));
     print_bytes(b": ");
-    put_cell(t, position, row_at(i), true);
+    put_cell(cell_at(t, position, i), true);
     print_bytes(b"\n");
 }
 
@@ -45,7 +43,7 @@ fn print_record(t: &[u8], part: usize, section: u8, position: usize, all: bool)
 {
     let mut none = true;
     for i in first_row(section)..end_row(section) {
-        if has_line(t, position, row_at(i), all) {
+        if has_line(cell_at(t, position, i), all) {
             if none {
                 print_heading(part, position);
             }

@@ -5,7 +5,7 @@ ghost use Rattle.reader.specs.Accepted.{Accepted};
 use crate::bytes::{pad, print_rule, put};
 use crate::cells::put_cell;
 use crate::lines::print_records;
-use crate::records::{first_position, is_used, kind_of, last_position};
+use crate::records::{cell_at, first_position, is_used, kind_of, last_position};
 use show_table::forms::{COLUMN, LISTED, SINGLE};
 use show_table::names::title_at;
 use show_table::{end_row, first_row, row_at};
@@ -34,7 +34,7 @@ fn cell_width(t: &[u8], section: u8, position: usize, i: usize) -> usize
     requires { Accepted t.now }
 {
     if is_used(t, section, position) {
-        return put_cell(t, position, row_at(i), false);
+        return put_cell(cell_at(t, position, i), false);
     }
     0
 }
@@ -83,7 +83,7 @@ fn print_column(t: &[u8], i: usize, width: usize, line: Line)
     match line {
         Line::Titles => pad(put(title_at(i), true), width),
         Line::Rule => print_rule(width),
-        Line::Cells(position) => pad(put_cell(t, position, row_at(i), true), width),
+        Line::Cells(position) => pad(put_cell(cell_at(t, position, i), true), width),
     }
 }
 
