@@ -24,6 +24,7 @@ fn put_word(word: &[u8], out: bool) -> usize
     put(with_bytes(empty(), word), out)
 }
 
+// Whether a choice of a field, which counts by the row's weight, is any but 0: one of two for a bit, one of four for two bits.
 fn is_set(cell: Cell<'_>, modulus: u64) -> bool
     requires { 0 < modulus }
 {
@@ -37,17 +38,11 @@ fn put_flag(set: bool, out: bool) -> usize {
     put_word(b"no", out)
 }
 
-fn put_front(x: &[u8], n: usize, out: bool) -> usize {
-    if n <= x.len() {
-        return put_bytes(&x[0..n], Style::Characters, out);
-    }
-    0
-}
-
 fn put_name(f: Field, out: bool) -> usize {
-    let n = f.len;
-    let b = f.bytes;
-    put_front(&b, n, out)
+    match f.bytes.get(..f.len) {
+        Some(name) => put_bytes(name, Style::Characters, out),
+        None => 0,
+    }
 }
 
 // An empty text is present: for people too it must not look like one that is absent.

@@ -67,6 +67,7 @@ fn print_positions<F: Fn(usize)>(t: &[u8], kind: u8, used: bool, depth: usize, p
     print_list_end(none, depth);
 }
 
+// The used records of a list, as objects.
 fn print_list(t: &[u8], kind: u8)
     requires { Accepted t.now }
 {
@@ -79,6 +80,7 @@ fn print_list(t: &[u8], kind: u8)
     );
 }
 
+// The unused positions of a list, as numbers.
 fn print_unused(t: &[u8], kind: u8)
     requires { Accepted t.now }
 {

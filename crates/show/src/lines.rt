@@ -27,6 +27,7 @@ fn print_heading(part: usize, position: usize) {
     print_bytes(b":\n");
 }
 
+// What row `i` says of a record, behind the row's title.
 fn print_line(t: &[u8], position: usize, i: usize)
     requires { Accepted t.now }
 {

@@ -50,6 +50,7 @@ fn column_width(t: &[u8], section: u8, i: usize) -> usize
     width
 }
 
+// The width of column `k`; 0 where a section has fewer.
 fn width_of(t: &[u8], section: u8, k: usize) -> usize
     requires { Accepted t.now × (k < 16) }
 {
@@ -105,6 +106,7 @@ fn print_unused(position: usize, width: usize) {
     print_bytes(b"|unused\n");
 }
 
+// The lines of a section's table; of a position that is not used, that it is not.
 fn print_table(t: &[u8], section: u8)
     requires { Accepted t.now }
 {

@@ -43,16 +43,10 @@ fn print_field(cell: Cell<'_>) {
     print_text(text_in(cell), is_quoted(cell.row.form));
 }
 
-fn print_front(x: &[u8], n: usize) {
-    if n <= x.len() {
-        print_quoted(&x[0..n]);
-    }
-}
-
 fn print_name(f: Field) {
-    let n = f.len;
-    let b = f.bytes;
-    print_front(&b, n);
+    if let Some(name) = f.bytes.get(..f.len) {
+        print_quoted(name);
+    }
 }
 
 // An object as characters, or null.
@@ -79,7 +73,7 @@ fn print_service(x: &[u8]) {
 }
 
 fn print_digits(x: &[u8]) {
-    if x.len() == 0 {
+    if x.is_empty() {
         print_bytes(b"null");
         return;
     }
