@@ -2,8 +2,8 @@
 ghost use Rattle.std.specs.Prelude.{◌+◌, ◌≤◌, length};
 ghost use Rattle.io.specs.Counts.{IsPrefixLen};
 
-use crate::options::{Asked, with_several};
-use show::bytes::{CHARACTERS, put_bytes};
+use crate::options::{Asked, Named, with_several};
+use show::bytes::{Style, put_bytes};
 use show::json::print_file;
 use show::people::print_people;
 use std::fs::Files;
@@ -11,13 +11,6 @@ use tool::{MOST, print_bytes, put_name};
 
 // The longest name of a file in a folder: the longest argument, `/NBFT` and a digit.
 const NAME_MAX: usize = 4102;
-
-// Whether a table is there, and whether none has been shown so far.
-#[derive(Clone, Copy)]
-struct Met {
-    there: bool,
-    none: bool,
-}
 
 pub fn print_start(a: Asked) {
     if a.json {
@@ -48,8 +41,8 @@ fn show_for_people(name: &[u8], t: &[u8], a: Asked, none: bool) {
     if !none {
         print_bytes(b"\n");
     }
-    if a.files == 2 {
-        put_bytes(name, CHARACTERS, true);
+    if a.files == Named::Several {
+        put_bytes(name, Style::Characters, true);
         print_bytes(b":\n\n");
     }
     print_people(t, a.all);
@@ -88,14 +81,10 @@ fn show_file<R: Files>(rt: &R, path: &[u8], a: Asked, none: bool) -> bool {
 fn bare_len(path: &[u8]) -> usize
     ensures { result ≤ length path.now }
 {
-    let n = path.len();
-    if n == 0 {
-        return n;
+    match path {
+        [front @ .., b'/'] => front.len(),
+        _ => path.len(),
     }
-    if path[n - 1] == b'/' {
-        return n - 1;
-    }
-    n
 }
 
 // The name of table `k` in a folder: NBFT, or that and a digit.
@@ -103,37 +92,23 @@ fn put_table_name(path: &[u8], k: u8, name: &mut [u8]) -> usize
     requires { (length path.now + 6 ≤ length name.old) × (k ≤ 9) }
     ensures { IsPrefixLen result name.new }
 {
-    let ending = [b'/', b'N', b'B', b'F', b'T', 48 + k];
+    let ending = [b'/', b'N', b'B', b'F', b'T', b'0' + k];
     if k == 0 {
         return put_name(path, &ending[..5], name);
     }
     put_name(path, &ending, name)
 }
 
-// Table `k` of a folder, if it is there; whether none of the folder's has been met so far.
-fn show_in_folder<R: Files>(rt: &R, path: &[u8], k: u8, a: Asked, none: bool) -> Met
+// Table `k` of a folder, if it is there; then whether none has been shown so far.
+fn show_in_folder<R: Files>(rt: &R, path: &[u8], k: u8, a: Asked, none: bool) -> Option<bool>
     requires { (length path.now ≤ 4096) × (k ≤ 9) }
 {
     let mut name = [0u8; NAME_MAX];
     let n = put_table_name(path, k, &mut name);
     if tool::is_there(rt, &name[..n]) {
-        let after = show_file(rt, &name[..n], a, none);
-        return Met {
-            there: true,
-            none: after,
-        };
+        return Some(show_file(rt, &name[..n], a, none));
     }
-    Met {
-        there: false,
-        none: none,
-    }
-}
-
-fn either(a: bool, b: bool) -> bool {
-    if a {
-        return true;
-    }
-    b
+    None
 }
 
 // NBFT and NBFT1 to NBFT9 of a folder; one without any is complained of.
@@ -142,12 +117,11 @@ fn show_folder<R: Files>(rt: &R, path: &[u8], a: Asked, none: bool) -> bool
 {
     let mut none_shown = none;
     let mut met = false;
-    let mut k: u8 = 0;
-    while k <= 9 {
-        let one = show_in_folder(rt, path, k, a, none_shown);
-        none_shown = one.none;
-        met = either(met, one.there);
-        k += 1;
+    for k in 0..=9 {
+        if let Some(after) = show_in_folder(rt, path, k, a, none_shown) {
+            none_shown = after;
+            met = true;
+        }
     }
     if !met {
         tool::complain(path, b": no NBFT, NBFT1 .. NBFT9 in this folder\n");
@@ -159,7 +133,7 @@ fn show_folder<R: Files>(rt: &R, path: &[u8], a: Asked, none: bool) -> bool
 pub fn show_name<R: Files + Input>(rt: &R, path: &[u8], a: Asked, none: bool) -> bool
     requires { length path.now ≤ 4096 }
 {
-    if check::same(path, b"-") {
+    if path == b"-".as_slice() {
         return show_input(rt, a, none);
     }
     if tool::is_folder(rt, path) {

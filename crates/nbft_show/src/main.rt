@@ -6,7 +6,7 @@ mod files; // tables from files, folders and standard input
 mod options; // what is asked for
 
 use files::{print_end, print_start, show_name};
-use options::{Asked, is_file, read_options};
+use options::{Asked, Named, is_file, read_options};
 use std::env::Env;
 use std::fs::Files;
 
@@ -30,16 +30,14 @@ fn show_argument<R: Env + Files + Input>(rt: &R, argument: usize, a: Asked, none
 
 fn show_arguments<R: Env + Files + Input>(rt: &R, a: Asked, count: usize) -> bool {
     let mut none = true;
-    let mut argument: usize = 1;
-    while argument < count {
+    for argument in 1..count {
         none = show_argument(rt, argument, a, none);
-        argument += 1;
     }
     none
 }
 
 fn show_all<R: Env + Files + Input>(rt: &R, a: Asked, count: usize) -> bool {
-    if a.files == 0 {
+    if a.files == Named::Nothing {
         return show_default(rt, a);
     }
     show_arguments(rt, a, count)
@@ -58,11 +56,10 @@ fn main(rt: HostRuntime) {
         return;
     }
     let count = tool::argument_count(&rt);
-    let a = read_options(&rt, count);
-    if !a.known {
+    let Some(a) = read_options(&rt, count) else {
         tool::complain(b"usage: nbft_show [--json] [--all] [FILE]...", b"\n");
         return;
-    }
+    };
     print_start(a);
     print_end(a, show_all(&rt, a, count));
 }

@@ -2,94 +2,91 @@
 
 use std::env::Env;
 
-// Of the files: 0 none, 1 one, 2 several.
-#[derive(Clone, Copy)]
-pub struct Asked {
-    pub known: bool,
-    pub json: bool,
-    pub all: bool,
-    pub files: usize,
+// How many files are named.
+#[derive(Clone, Copy, PartialEq, Eq)]
+pub enum Named {
+    Nothing,
+    One,
+    Several,
 }
 
-// An argument: a file, one of the two options, or an option that there is not.
 #[derive(Clone, Copy)]
+pub struct Asked {
+    pub json: bool,
+    pub all: bool,
+    pub files: Named,
+}
+
+// An argument: a file, or one of the two options.
+#[derive(Clone, Copy, PartialEq, Eq)]
 enum Word {
     File,
     Json,
     All,
-    Unknown,
 }
 
 // A dash alone is standard input.
 fn is_option(word: &[u8]) -> bool {
-    if word.len() < 2 {
-        return false;
-    }
-    word[0] == b'-'
+    2 <= word.len() && word[0] == b'-'
 }
 
-fn word_at<R: Env>(rt: &R, argument: usize) -> Word {
+// What an argument is, unless it is an option that there is not.
+fn word_at<R: Env>(rt: &R, argument: usize) -> Option<Word> {
     if tool::argument_is(rt, argument, b"--json") {
-        return Word::Json;
+        return Some(Word::Json);
     }
     if tool::argument_is(rt, argument, b"--all") {
-        return Word::All;
+        return Some(Word::All);
     }
     let mut word = io::buffer();
     let n = tool::argument_bytes(rt, argument, &mut word);
     if is_option(&word[..n]) {
-        return Word::Unknown;
+        return None;
     }
-    Word::File
+    Some(Word::File)
 }
 
 pub fn is_file<R: Env>(rt: &R, argument: usize) -> bool {
-    let word = word_at(rt, argument);
-    match word {
-        Word::File => true,
-        Word::Json => false,
-        Word::All => false,
-        Word::Unknown => false,
-    }
+    word_at(rt, argument) == Some(Word::File)
 }
 
-fn asked_of(known: bool, json: bool, all: bool, files: usize) -> Asked {
-    Asked {
-        known: known,
-        json: json,
-        all: all,
-        files: files,
+// With one file more.
+fn one_more(files: Named) -> Named {
+    match files {
+        Named::Nothing => Named::One,
+        _ => Named::Several,
     }
-}
-
-fn one_more(files: usize) -> usize {
-    if files == 0 {
-        return 1;
-    }
-    2
 }
 
 // With one argument more.
 fn with_word(a: Asked, word: Word) -> Asked {
     match word {
-        Word::File => asked_of(a.known, a.json, a.all, one_more(a.files)),
-        Word::Json => asked_of(a.known, true, a.all, a.files),
-        Word::All => asked_of(a.known, a.json, true, a.files),
-        Word::Unknown => asked_of(false, a.json, a.all, a.files),
+        Word::File => Asked {
+            files: one_more(a.files),
+            ..a
+        },
+        Word::Json => Asked { json: true, ..a },
+        Word::All => Asked { all: true, ..a },
     }
 }
 
 // With several files, as a folder may have.
 pub fn with_several(a: Asked) -> Asked {
-    asked_of(a.known, a.json, a.all, 2)
+    Asked {
+        files: Named::Several,
+        ..a
+    }
 }
 
-pub fn read_options<R: Env>(rt: &R, count: usize) -> Asked {
-    let mut a = asked_of(true, false, false, 0);
-    let mut argument: usize = 1;
-    while argument < count {
-        a = with_word(a, word_at(rt, argument));
-        argument += 1;
+// What the arguments ask for, unless one of them is an option that there is not.
+pub fn read_options<R: Env>(rt: &R, count: usize) -> Option<Asked> {
+    let mut a = Asked {
+        json: false,
+        all: false,
+        files: Named::Nothing,
+    };
+    for argument in 1..count {
+        a = with_word(a, word_at(rt, argument)?);
     }
-    a
+    Some(a)
 }

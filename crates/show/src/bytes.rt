@@ -5,12 +5,13 @@ ghost use Rattle.io.specs.Counts.{IsPrefixLen};
 use text::Text;
 use tool::print;
 
-// Two digits a byte; as characters; as the characters of a JSON string.
-pub const DIGITS: u8 = 0;
-
-pub const CHARACTERS: u8 = 1;
-
-pub const QUOTED: u8 = 2;
+// How bytes are printed: two digits a byte; as characters; as the characters of a JSON string.
+#[derive(Clone, Copy)]
+pub enum Style {
+    Digits,
+    Characters,
+    Quoted,
+}
 
 // No column is wider than a thousand; the sum stays far from its end.
 const WIDEST: usize = 1000;
@@ -35,36 +36,21 @@ pub fn put(t: Text, out: bool) -> usize
     len
 }
 
-fn piece(x: &[u8], style: u8) -> Text
+fn piece(x: &[u8], style: Style) -> Text
     requires { length x.now ≤ 16 }
     ensures { IsPrefixLen result.len result.bytes }
 {
     match style {
-        DIGITS => text_hex::hexes(x),
-        CHARACTERS => text_hex::escapes(x),
-        _ => text_hex::json_escapes(x),
+        Style::Digits => text_hex::hexes(x),
+        Style::Characters => text_hex::escapes(x),
+        Style::Quoted => text_hex::json_escapes(x),
     }
 }
 
-// Where the piece that starts at `at` ends.
-fn piece_end(at: usize, len: usize) -> usize
-    requires { at < len }
-    ensures { (at < result) × (result ≤ len) × (result ≤ at + 16) }
-{
-    if len - at <= 16 {
-        return len;
-    }
-    at + 16
-}
-
-pub fn put_bytes(x: &[u8], style: u8, out: bool) -> usize {
-    let mut width: usize = 0;
-    let mut at: usize = 0;
-    while at < x.len() {
-        let end = piece_end(at, x.len());
-        let more = put(piece(&x[at..end], style), out);
-        width = wider(width, more);
-        at = end;
+pub fn put_bytes(x: &[u8], style: Style, out: bool) -> usize {
+    let mut width = 0;
+    for part in x.chunks(16) {
+        width = wider(width, put(piece(part, style), out));
     }
     width
 }
@@ -72,7 +58,7 @@ pub fn put_bytes(x: &[u8], style: u8, out: bool) -> usize {
 // Of a JSON string, with its quotation marks.
 pub fn print_quoted(x: &[u8]) {
     tool::print_bytes(b"\"");
-    put_bytes(x, QUOTED, true);
+    put_bytes(x, Style::Quoted, true);
     tool::print_bytes(b"\"");
 }
 
@@ -80,35 +66,22 @@ pub fn print_quoted(x: &[u8]) {
 pub fn first_zero(x: &[u8]) -> usize
     ensures { result ≤ length x.now }
 {
-    let mut at: usize = 0;
-    while at < x.len() {
-        if x[at] == 0 {
-            return at;
-        }
-        at += 1;
-    }
-    at
+    x.iter().position(|b| *b == 0).unwrap_or(x.len())
 }
 
 // The end, or before a zero that stands last.
 pub fn before_final_zero(x: &[u8]) -> usize
     ensures { result ≤ length x.now }
 {
-    let len = x.len();
-    if len == 0 {
-        return len;
+    match x {
+        [front @ .., 0] => front.len(),
+        _ => x.len(),
     }
-    if x[len - 1] == 0 {
-        return len - 1;
-    }
-    len
 }
 
 fn print_repeated(mark: &[u8], from: usize, to: usize) {
-    let mut i = from;
-    while i < to {
+    for _ in from..to {
         tool::print_bytes(mark);
-        i += 1;
     }
 }
 

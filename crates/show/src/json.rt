@@ -3,8 +3,8 @@ ghost use Rattle.std.specs.Prelude.{◌≤◌};
 ghost use Rattle.reader.specs.Accepted.{Accepted};
 
 use crate::bytes::{print_line_start, print_quoted};
-use crate::numbers::print_list_end;
-use crate::records::{is_used, kind_of, last_position};
+use crate::numbers::{print_list_end, print_part_start};
+use crate::records::{cell_at, is_used, kind_of, last_position};
 use crate::values::{is_absent, print_value};
 use show_table::forms::{LISTED, SINGLE};
 use show_table::names::key_at;
@@ -20,10 +20,7 @@ const INNER: usize = 3;
 const LISTED_AT: usize = 4;
 
 fn print_key(i: usize, first: bool, depth: usize) {
-    if !first {
-        print_bytes(b",");
-    }
-    print_line_start(depth);
+    print_part_start(first, depth);
     print_bytes(b"\"");
     print(key_at(i));
     print_bytes(b"\":");
@@ -32,12 +29,12 @@ fn print_key(i: usize, first: bool, depth: usize) {
 fn print_member(t: &[u8], position: usize, i: usize, first: bool, depth: usize)
     requires { Accepted t.now × (depth ≤ 4) }
 {
-    let row = row_at(i);
-    if is_absent(t, position, row) {
+    let cell = cell_at(t, position, i);
+    if is_absent(cell) {
         return;
     }
     print_key(i, first, depth);
-    print_value(t, position, row, depth + 1);
+    print_value(cell, depth + 1);
 }
 
 // A record as an object whose keys stand at a depth.
@@ -46,97 +43,69 @@ fn print_record(t: &[u8], section: u8, position: usize, depth: usize)
 {
     print_bytes(b"{");
     let from = first_row(section);
-    let to = end_row(section);
-    let mut i = from;
-    while i < to {
+    for i in from..end_row(section) {
         print_member(t, position, i, i == from, depth);
-        i += 1;
     }
     print_line_start(depth - 1);
     print_bytes(b"}");
 }
 
-// A used record of a list; whether none has been printed so far.
-fn print_if_used(t: &[u8], kind: u8, position: usize, none: bool) -> bool
-    requires { Accepted t.now }
+// The positions of a list that are used, or those that are not; `print_one` prints each.
+fn print_positions<F: Fn(usize)>(t: &[u8], kind: u8, used: bool, depth: usize, print_one: F)
+    requires table { Accepted t.now }
+    requires printed { F.IsAlwaysCallable print_one }
 {
-    if !is_used(t, kind, position) {
-        return none;
+    print_bytes(b"[");
+    let mut none = true;
+    for position in 1..=last_position(t, kind) {
+        if is_used(t, kind, position) == used {
+            print_part_start(none, depth);
+            print_one(position);
+            none = false;
+        }
     }
-    if !none {
-        print_bytes(b",");
-    }
-    print_line_start(INNER);
-    print_record(t, kind, position, LISTED_AT);
-    false
+    print_list_end(none, depth);
 }
 
+// The used records of a list, as objects.
 fn print_list(t: &[u8], kind: u8)
     requires { Accepted t.now }
 {
-    print_bytes(b"[");
-    let last = last_position(t, kind);
-    let mut none = true;
-    let mut passed: usize = 0;
-    while passed < last {
-        none = print_if_used(t, kind, passed + 1, none);
-        passed += 1;
-    }
-    print_list_end(none, INNER);
+    print_positions(
+        t,
+        kind,
+        true,
+        INNER,
+        |position| print_record(t, kind, position, LISTED_AT),
+    );
 }
 
-// A position that is not used; whether none has been printed so far.
-fn print_if_unused(t: &[u8], kind: u8, position: usize, none: bool) -> bool
-    requires { Accepted t.now }
-{
-    if is_used(t, kind, position) {
-        return none;
-    }
-    if !none {
-        print_bytes(b",");
-    }
-    print_line_start(LISTED_AT);
-    print(text::decimal(position as u64));
-    false
-}
-
+// The unused positions of a list, as numbers.
 fn print_unused(t: &[u8], kind: u8)
     requires { Accepted t.now }
 {
-    print_bytes(b"[");
-    let last = last_position(t, kind);
-    let mut none = true;
-    let mut passed: usize = 0;
-    while passed < last {
-        none = print_if_unused(t, kind, passed + 1, none);
-        passed += 1;
-    }
-    print_list_end(none, LISTED_AT);
+    print_positions(
+        t,
+        kind,
+        false,
+        LISTED_AT,
+        |position| print(text::decimal(position as u64)),
+    );
 }
 
-// The unused positions of a row's list; whether none has been printed so far.
-fn print_unused_of(t: &[u8], i: usize, none: bool) -> bool
-    requires { Accepted t.now }
-{
-    let row = row_at(i);
-    if row.form != LISTED {
-        return none;
-    }
-    print_key(i, none, INNER);
-    print_unused(t, kind_of(row.weight));
-    false
-}
-
+// The unused positions of each list, by the list's key.
 fn print_all_unused(t: &[u8])
     requires { Accepted t.now }
 {
     print_bytes(b"{");
-    let to = end_row(Control::ID);
     let mut none = true;
-    let mut i = first_row(Control::ID);
-    while i < to {
-        none = print_unused_of(t, i, none);
-        i += 1;
+    for i in first_row(Control::ID)..end_row(Control::ID) {
+        let row = row_at(i);
+        if row.form == LISTED {
+            print_key(i, none, INNER);
+            print_unused(t, kind_of(row.weight));
+            none = false;
+        }
     }
     print_line_start(OUTER);
     print_bytes(b"}");
@@ -146,9 +115,8 @@ fn print_part(t: &[u8], i: usize)
     requires { Accepted t.now }
 {
     let row = row_at(i);
-    let form = row.form;
     print_key(i, false, OUTER);
-    match form {
+    match row.form {
         SINGLE => print_record(t, row.kind, 0, INNER),
         LISTED => print_list(t, kind_of(row.weight)),
         _ => print_all_unused(t),
@@ -158,19 +126,15 @@ fn print_part(t: &[u8], i: usize)
 fn print_table(t: &[u8])
     requires { Accepted t.now }
 {
-    let to = end_row(Control::ID);
-    let mut i = first_row(Control::ID);
-    while i < to {
+    for i in first_row(Control::ID)..end_row(Control::ID) {
         print_part(t, i);
-        i += 1;
     }
 }
 
 // The words without the end of their line.
 fn print_words(line: &[u8]) {
-    let n = line.len();
-    if n != 0 {
-        print_quoted(&line[0..n - 1]);
+    if let Some((_, words)) = line.split_last() {
+        print_quoted(words);
     }
 }
 
@@ -185,15 +149,13 @@ fn print_refused(a: Answer) {
     print_bytes(b",");
     print_line_start(OUTER);
     print_bytes(b"\"refused\":{");
-    print_number_of(b"\"number\":", a.number as u64);
-    print_number_of(b"\"kind\":", a.kind as u64);
+    print_number_of(b"\"number\":", u64::from(a.number));
+    print_number_of(b"\"kind\":", u64::from(a.kind));
     print_number_of(b"\"position\":", a.position as u64);
     print_line_start(INNER);
     print_bytes(b"\"words\":");
     let words = tool::answer_words(a);
-    let n = words.len;
-    let bytes = words.bytes;
-    print_words(&bytes[..n]);
+    print_words(&words.bytes[..words.len]);
     print_line_start(OUTER);
     print_bytes(b"}");
 }

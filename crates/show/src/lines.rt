@@ -2,25 +2,18 @@
 ghost use Rattle.reader.specs.Accepted.{Accepted};
 
 use crate::cells::{put_cell, says_something};
-use crate::records::{first_position, is_used, last_position};
+use crate::records::{Cell, cell_at, first_position, is_used, last_position};
 use show_table::forms::{DETAIL, LINE};
 use show_table::names::{key_at, title_at};
-use show_table::{Row, end_row, first_row, row_at};
+use show_table::{end_row, first_row};
 use tool::{print, print_bytes};
 
-fn has_line(t: &[u8], position: usize, row: Row, all: bool) -> bool
-    requires { Accepted t.now }
-{
-    if row.view == DETAIL {
-        return all;
+fn has_line(cell: Cell<'_>, all: bool) -> bool {
+    match cell.row.view {
+        DETAIL => all,
+        LINE => all || says_something(cell),
+        _ => false,
     }
-    if row.view == LINE {
-        if all {
-            return true;
-        }
-        return says_something(t, position, row);
-    }
-    false
 }
 
 // The record's name, by that of its part of the table.
@@ -34,42 +27,30 @@ fn print_heading(part: usize, position: usize) {
     print_bytes(b":\n");
 }
 
-// The line of a row, behind the heading where it is the first; whether none has been printed so far.
-fn print_line(t: &[u8], part: usize, position: usize, i: usize, all: bool, none: bool) -> bool
+// What row `i` says of a record, behind the row's title.
+fn print_line(t: &[u8], position: usize, i: usize)
     requires { Accepted t.now }
 {
-    let row = row_at(i);
-    if !has_line(t, position, row, all) {
-        return none;
-    }
-    if none {
-        print_heading(part, position);
-    }
     print_bytes(b"  ");
     print(title_at(i));
     print_bytes(b": ");
-    put_cell(t, position, row, true);
+    put_cell(cell_at(t, position, i), true);
     print_bytes(b"\n");
-    false
 }
 
+// The lines of a record, and in front of the first of them its heading.
 fn print_record(t: &[u8], part: usize, section: u8, position: usize, all: bool)
     requires { Accepted t.now }
 {
-    let to = end_row(section);
     let mut none = true;
-    let mut i = first_row(section);
-    while i < to {
-        none = print_line(t, part, position, i, all, none);
-        i += 1;
-    }
-}
-
-fn print_if_used(t: &[u8], part: usize, section: u8, position: usize, all: bool)
-    requires { Accepted t.now }
-{
-    if is_used(t, section, position) {
-        print_record(t, part, section, position, all);
+    for i in first_row(section)..end_row(section) {
+        if has_line(cell_at(t, position, i), all) {
+            if none {
+                print_heading(part, position);
+            }
+            print_line(t, position, i);
+            none = false;
+        }
     }
 }
 
@@ -77,10 +58,9 @@ fn print_if_used(t: &[u8], part: usize, section: u8, position: usize, all: bool)
 pub fn print_records(t: &[u8], part: usize, section: u8, all: bool)
     requires { Accepted t.now }
 {
-    let last = last_position(t, section);
-    let mut position = first_position(section);
-    while position <= last {
-        print_if_used(t, part, section, position, all);
-        position += 1;
+    for position in first_position(section)..=last_position(t, section) {
+        if is_used(t, section, position) {
+            print_record(t, part, section, position, all);
+        }
     }
 }

@@ -5,57 +5,36 @@ ghost use Rattle.reader.specs.Accepted.{Accepted};
 use crate::bytes::{pad, print_rule, put};
 use crate::cells::put_cell;
 use crate::lines::print_records;
-use crate::records::{first_position, is_used, kind_of, last_position};
+use crate::records::{cell_at, first_position, is_used, kind_of, last_position};
 use show_table::forms::{COLUMN, LISTED, SINGLE};
 use show_table::names::title_at;
 use show_table::{end_row, first_row, row_at};
 use table::Control;
 use tool::{print, print_bytes};
 
-// The lines of a table: the columns' names, the rule below them, and records.
-const TITLES: u8 = 0;
-
-const RULES: u8 = 1;
-
-const CELLS: u8 = 2;
-
 // No table has more columns.
 const MOST_COLUMNS: usize = 16;
 
-// The widths of columns, each at the place of its number.
+// The lines of a table: the columns' names, the rule below them, and the records, each by its position.
 #[derive(Clone, Copy)]
-pub struct Widths {
-    pub at: [usize; MOST_COLUMNS],
+enum Line {
+    Titles,
+    Rule,
+    Cells(usize),
 }
 
-// The row of column `k` of a section, or the section's end.
-fn column_row(section: u8, k: usize) -> usize
+// The row of column `k` of a section, if it has as many.
+fn column_row(section: u8, k: usize) -> Option<usize>
     requires { k < 16 }
 {
-    let to = end_row(section);
-    let mut i = first_row(section);
-    while i < to {
-        let row = row_at(i);
-        if row.view == COLUMN + k as u64 {
-            return i;
-        }
-        i += 1;
-    }
-    to
-}
-
-fn larger(a: usize, b: usize) -> usize {
-    if a < b {
-        return b;
-    }
-    a
+    (first_row(section)..end_row(section)).find(|i| row_at(*i).view == COLUMN + k as u64)
 }
 
 fn cell_width(t: &[u8], section: u8, position: usize, i: usize) -> usize
     requires { Accepted t.now }
 {
     if is_used(t, section, position) {
-        return put_cell(t, position, row_at(i), false);
+        return put_cell(cell_at(t, position, i), false);
     }
     0
 }
@@ -64,79 +43,60 @@ fn cell_width(t: &[u8], section: u8, position: usize, i: usize) -> usize
 fn column_width(t: &[u8], section: u8, i: usize) -> usize
     requires { Accepted t.now }
 {
-    let last = last_position(t, section);
     let mut width = put(title_at(i), false);
-    let mut position = first_position(section);
-    while position <= last {
-        width = larger(width, cell_width(t, section, position, i));
-        position += 1;
+    for position in first_position(section)..=last_position(t, section) {
+        width = width.max(cell_width(t, section, position, i));
     }
     width
 }
 
+// The width of column `k`; 0 where a section has fewer.
 fn width_of(t: &[u8], section: u8, k: usize) -> usize
     requires { Accepted t.now × (k < 16) }
 {
-    let i = column_row(section, k);
-    if i < end_row(section) {
-        return column_width(t, section, i);
+    match column_row(section, k) {
+        Some(i) => column_width(t, section, i),
+        None => 0,
     }
-    0
 }
 
-fn widths_of(t: &[u8], section: u8) -> Widths
+// The widths of columns, each at the place of its number.
+fn widths_of(t: &[u8], section: u8) -> [usize; MOST_COLUMNS]
     requires { Accepted t.now }
 {
-    let mut at = [0usize; MOST_COLUMNS];
-    let mut k: usize = 0;
-    while k < MOST_COLUMNS {
-        at[k] = width_of(t, section, k);
-        k += 1;
-    }
-    Widths { at: at }
+    std::array::from_fn(|k| width_of(t, section, k))
 }
 
-fn print_separator(k: usize, what: u8) {
+fn print_separator(k: usize, line: Line) {
     if k == 0 {
         return;
     }
-    if what == RULES {
-        print_bytes(b"+");
-        return;
+    match line {
+        Line::Rule => print_bytes(b"+"),
+        _ => print_bytes(b"|"),
     }
-    print_bytes(b"|");
 }
 
 // What stands in the column of row `i`.
-fn print_column(t: &[u8], position: usize, i: usize, width: usize, what: u8)
+fn print_column(t: &[u8], i: usize, width: usize, line: Line)
     requires { Accepted t.now }
 {
-    match what {
-        TITLES => pad(put(title_at(i), true), width),
-        RULES => print_rule(width),
-        _ => pad(put_cell(t, position, row_at(i), true), width),
-    }
-}
-
-fn print_column_at(t: &[u8], section: u8, position: usize, k: usize, width: usize, what: u8)
-    requires { Accepted t.now × (k < 16) }
-{
-    let i = column_row(section, k);
-    if i < end_row(section) {
-        print_separator(k, what);
-        print_column(t, position, i, width, what);
+    match line {
+        Line::Titles => pad(put(title_at(i), true), width),
+        Line::Rule => print_rule(width),
+        Line::Cells(position) => pad(put_cell(cell_at(t, position, i), true), width),
     }
 }
 
 // One line of a table.
-fn print_columns(t: &[u8], section: u8, position: usize, widths: Widths, what: u8)
+fn print_columns(t: &[u8], section: u8, widths: &[usize; MOST_COLUMNS], line: Line)
     requires { Accepted t.now }
 {
-    let at = widths.at;
-    let mut k: usize = 0;
-    while k < MOST_COLUMNS {
-        print_column_at(t, section, position, k, at[k], what);
-        k += 1;
+    for (k, width) in widths.iter().enumerate() {
+        if let Some(i) = column_row(section, k) {
+            print_separator(k, line);
+            print_column(t, i, *width, line);
+        }
     }
     print_bytes(b"\n");
 }
@@ -146,50 +106,47 @@ fn print_unused(position: usize, width: usize) {
     print_bytes(b"|unused\n");
 }
 
-fn print_position(t: &[u8], section: u8, position: usize, widths: Widths)
-    requires { Accepted t.now }
-{
-    if is_used(t, section, position) {
-        print_columns(t, section, position, widths, CELLS);
-        return;
-    }
-    let at = widths.at;
-    print_unused(position, at[0]);
-}
-
+// The lines of a section's table; of a position that is not used, that it is not.
 fn print_table(t: &[u8], section: u8)
     requires { Accepted t.now }
 {
     let widths = widths_of(t, section);
-    print_columns(t, section, 0, widths, TITLES);
-    print_columns(t, section, 0, widths, RULES);
-    let last = last_position(t, section);
-    let mut position = first_position(section);
-    while position <= last {
-        print_position(t, section, position, widths);
-        position += 1;
+    print_columns(t, section, &widths, Line::Titles);
+    print_columns(t, section, &widths, Line::Rule);
+    for position in first_position(section)..=last_position(t, section) {
+        if is_used(t, section, position) {
+            print_columns(t, section, &widths, Line::Cells(position));
+        } else {
+            print_unused(position, widths[0]);
+        }
     }
 }
 
-// The section that a row of the table shows, or that of the table where it shows none.
-fn section_of(i: usize) -> u8 {
+// The section that a row of the table shows.
+fn section_of(i: usize) -> Option<u8> {
     let row = row_at(i);
-    let form = row.form;
-    match form {
-        SINGLE => row.kind,
-        LISTED => kind_of(row.weight),
-        _ => Control::ID,
+    match row.form {
+        SINGLE => Some(row.kind),
+        LISTED => Some(kind_of(row.weight)),
+        _ => None,
     }
 }
 
-// A heading above no records would say nothing.
-fn print_part(t: &[u8], i: usize)
+// Goes over the rows of the table that show a section, each with that section.
+fn each_section<F: Fn(usize, u8)>(print_one: F)
+    requires { F.IsAlwaysCallable print_one }
+{
+    for i in first_row(Control::ID)..end_row(Control::ID) {
+        if let Some(section) = section_of(i) {
+            print_one(i, section);
+        }
+    }
+}
+
+// The table of a section, which row `i` of the whole shows. A heading above no records would say nothing.
+fn print_part(t: &[u8], i: usize, section: u8)
     requires { Accepted t.now }
 {
-    let section = section_of(i);
-    if section == Control::ID {
-        return;
-    }
     if last_position(t, section) < first_position(section) {
         return;
     }
@@ -201,42 +158,12 @@ fn print_part(t: &[u8], i: usize)
     print_table(t, section);
 }
 
-fn print_tables(t: &[u8])
-    requires { Accepted t.now }
-{
-    let to = end_row(Control::ID);
-    let mut i = first_row(Control::ID);
-    while i < to {
-        print_part(t, i);
-        i += 1;
-    }
-}
-
-fn print_part_lines(t: &[u8], i: usize, all: bool)
-    requires { Accepted t.now }
-{
-    let section = section_of(i);
-    if section != Control::ID {
-        print_records(t, i, section, all);
-    }
-}
-
-fn print_lines(t: &[u8], all: bool)
-    requires { Accepted t.now }
-{
-    let to = end_row(Control::ID);
-    let mut i = first_row(Control::ID);
-    while i < to {
-        print_part_lines(t, i, all);
-        i += 1;
-    }
-}
-
+// The tables of all sections, and then their records one by one.
 fn print_good(t: &[u8], all: bool)
     requires { Accepted t.now }
 {
-    print_tables(t);
-    print_lines(t, all);
+    each_section(|i, section| print_part(t, i, section));
+    each_section(|i, section| print_records(t, i, section, all));
 }
 
 // Any bytes: what a good table says; else number, kind and position of its first fault, and the words.
