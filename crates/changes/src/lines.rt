@@ -16,17 +16,15 @@ use text_hex::with_hexes;
 pub fn differ_at(one: &[u8], other: &[u8]) -> usize
     ensures { (result ≡ differ_at one.now other.now) × (result ≤ length one.now) }
 {
-    let mut at: usize = 0;
-    while at < one.len() {
+    for at in 0..one.len() {
         if at == other.len() {
             return other.len();
         }
         if one[at] != other[at] {
             return at;
         }
-        at += 1;
     }
-    at
+    one.len()
 }
 
 // A number and one byte behind it. The bound says what `with_number` does not: no number of a line has more than five digits.
@@ -50,12 +48,9 @@ fn number_of(x: &[u8]) -> usize
     requires { length x.now ≤ 4 }
     ensures { result ≡ val x.now }
 {
-    let len = x.len();
-    let mut left = len;
     let mut number: usize = 0;
-    while left != 0 {
-        number = wide(x[left - 1]) + 256 * number;
-        left -= 1;
+    for i in (0..x.len()).rev() {
+        number = wide(x[i]) + 256 * number;
     }
     number
 }

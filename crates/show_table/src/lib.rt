@@ -13,6 +13,7 @@ use forms::{
     OR_NULL, OR_OUT, PCI, POSITION, POSITIONS, PRIMARY, REACHED, SERVER, SERVICE, SHORT_PCI,
     SIGNED, SINGLE, TEXT, TRANSPORT, UNUSED, UUID, WANTED,
 };
+use std::ops::Range;
 use table::{Control, Discovery, Header, Hfi, Host, Security, Ssns};
 
 // Kind and offset of what is read, the way it is printed, the weight of a bit (or the kind of a list's records), the offset of another field, and
@@ -188,10 +189,10 @@ fn row_of(n: u64) -> Row
     Row {
         kind: kind as u8,
         off: off as usize,
-        form: form,
-        weight: weight,
+        form,
+        weight,
         by: by as usize,
-        view: view,
+        view,
     }
 }
 
@@ -205,34 +206,32 @@ pub fn row_at(i: usize) -> Row
     row_of(ROWS[i])
 }
 
-// Where a section starts. Its number is the kind of its record, and the table itself has that of the control record.
+// The rows of a section. Its number is the kind of its record, and the table itself has that of the control record.
+fn rows_of(section: u8) -> Range<usize>
+    ensures { (result.start ≡ first_of section) × (result.end ≡ end_of section) }
+{
+    match section {
+        Header::ID => 7..13,
+        Control::ID => 0..7,
+        Host::ID => 13..20,
+        Hfi::ID => 57..81,
+        Ssns::ID => 20..57,
+        Security::ID => 87..100,
+        Discovery::ID => 81..87,
+        _ => 0..0,
+    }
+}
+
+// Where a section starts.
 pub fn first_row(section: u8) -> usize
     ensures { result ≡ first_of section }
 {
-    match section {
-        Header::ID => 7,
-        Control::ID => 0,
-        Host::ID => 13,
-        Hfi::ID => 57,
-        Ssns::ID => 20,
-        Security::ID => 87,
-        Discovery::ID => 81,
-        _ => 0,
-    }
+    rows_of(section).start
 }
 
 // Where it ends.
 pub fn end_row(section: u8) -> usize
     ensures { result ≡ end_of section }
 {
-    match section {
-        Header::ID => 13,
-        Control::ID => 7,
-        Host::ID => 20,
-        Hfi::ID => 81,
-        Ssns::ID => 57,
-        Security::ID => 100,
-        Discovery::ID => 87,
-        _ => 0,
-    }
+    rows_of(section).end
 }

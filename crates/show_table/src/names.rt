@@ -22,15 +22,13 @@ fn start_of(names: &[u8], n: usize) -> usize
     ensures { (result ≤ length names.now) × (drop result names.now ≡ behind_bars n names.now) }
 {
     let mut bars = n;
-    let mut at: usize = 0;
-    while at < names.len() {
+    for (at, b) in names.iter().enumerate() {
         if bars == 0 {
             return at;
         }
-        bars -= bars_in(names[at]);
-        at += 1;
+        bars -= bars_in(*b);
     }
-    at
+    names.len()
 }
 
 // Where the name that starts at `from` ends.
@@ -38,14 +36,12 @@ fn end_of(names: &[u8], from: usize) -> usize
     requires { from ≤ length names.now }
     ensures { (from ≤ result) × (result ≤ length names.now) × (take (result - from) (drop from names.now) ≡ until_bar (drop from names.now)) }
 {
-    let mut at = from;
-    while at < names.len() {
+    for at in from..names.len() {
         if names[at] == b'|' {
             return at;
         }
-        at += 1;
     }
-    at
+    names.len()
 }
 
 // Name `n`; no name has more than 40 bytes.

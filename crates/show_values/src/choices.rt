@@ -2,7 +2,7 @@
 ghost use Rattle.std.specs.Prelude.{◌≡◌, ◌≤◌, ◌<◌, length, take};
 ghost use Rattle.io.specs.Counts.{IsPrefixLen};
 ghost use Rattle.text.specs.Ascii.{ascii};
-ghost use Rattle.show_values.specs.Values.{availability_of, bits_of, chosen_of, is_two_of, nid_of, nid_type_of, number_if_of, number_of, primary_of, server_of, transport_of, wanted_of};
+ghost use Rattle.show_values.specs.Values.{availability_of, bits_of, choice, chosen_of, is_two_of, nid_of, nid_type_of, number_if_of, number_of, primary_of, server_of, transport_of, wanted_of};
 
 use crate::number_of;
 use text::Text;
@@ -26,6 +26,19 @@ fn word_text(word: &[u8]) -> Text
     with_bytes(empty(), word)
 }
 
+// One of three words, by the number of two bits.
+fn choice_text(zeroth: &[u8], first: &[u8], second: &[u8], value: u64) -> Text
+    requires { (length zeroth.now ≤ 16) × (length first.now ≤ 16) × (length second.now ≤ 16) }
+    ensures { IsPrefixLen result.len result.bytes × (take result.len result.bytes ≡ choice zeroth.now first.now second.now (ascii "reserved") value) }
+{
+    match value {
+        0 => word_text(zeroth),
+        1 => word_text(first),
+        2 => word_text(second),
+        _ => word_text(b"reserved"),
+    }
+}
+
 pub fn not_indicated_text() -> Text
     ensures { IsPrefixLen result.len result.bytes × (take result.len result.bytes ≡ ascii "not indicated") }
 {
@@ -35,45 +48,25 @@ pub fn not_indicated_text() -> Text
 pub fn primary_text(value: u64) -> Text
     ensures { IsPrefixLen result.len result.bytes × (take result.len result.bytes ≡ primary_of value) }
 {
-    match value {
-        0 => word_text(b"not indicated"),
-        1 => word_text(b"unselected"),
-        2 => word_text(b"selected"),
-        _ => word_text(b"reserved"),
-    }
+    choice_text(b"not indicated", b"unselected", b"selected", value)
 }
 
 pub fn availability_text(value: u64) -> Text
     ensures { IsPrefixLen result.len result.bytes × (take result.len result.bytes ≡ availability_of value) }
 {
-    match value {
-        0 => word_text(b"not indicated"),
-        1 => word_text(b"available"),
-        2 => word_text(b"unavailable"),
-        _ => word_text(b"reserved"),
-    }
+    choice_text(b"not indicated", b"available", b"unavailable", value)
 }
 
 pub fn wanted_text(value: u64) -> Text
     ensures { IsPrefixLen result.len result.bytes × (take result.len result.bytes ≡ wanted_of value) }
 {
-    match value {
-        0 => word_text(b"not supported"),
-        1 => word_text(b"not required"),
-        2 => word_text(b"required"),
-        _ => word_text(b"reserved"),
-    }
+    choice_text(b"not supported", b"not required", b"required", value)
 }
 
 pub fn chosen_text(value: u64) -> Text
     ensures { IsPrefixLen result.len result.bytes × (take result.len result.bytes ≡ chosen_of value) }
 {
-    match value {
-        0 => word_text(b"nobody"),
-        1 => word_text(b"driver"),
-        2 => word_text(b"administrator"),
-        _ => word_text(b"reserved"),
-    }
+    choice_text(b"nobody", b"driver", b"administrator", value)
 }
 
 pub fn transport_text(value: u64) -> Text

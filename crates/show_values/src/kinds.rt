@@ -7,6 +7,7 @@ use show_table::forms::{
     SIGNED,
 };
 
+// An arm for each: of arms in one `|` pattern the goals are over ranges of numbers, which `search` and `grind` leave open.
 pub fn is_quoted(form: u64) -> bool
     ensures { result ≡ quoted form }
 {
@@ -29,10 +30,7 @@ pub fn is_quoted(form: u64) -> bool
 fn is_named_type(n: u64) -> bool
     ensures { result ≡ (leb 1 n && leb n 3) }
 {
-    if 1 <= n {
-        return n <= 3;
-    }
-    false
+    matches!(n, 1..=3)
 }
 
 pub fn is_left_out(form: u64, n: u64) -> bool

@@ -22,10 +22,9 @@ pub fn with_byte(t: Text, b: u8) -> Text
     requires { t.len < 128 }
     ensures { (result.len ≡ t.len + 1) × IsPrefixLen result.len result.bytes × (take result.len result.bytes ≡ take t.len t.bytes ++ (b ∷ [])) }
 {
-    let at = t.len;
     let mut longer = t;
-    longer.bytes[at] = b;
-    longer.len = at + 1;
+    longer.bytes[t.len] = b;
+    longer.len += 1;
     longer
 }
 
@@ -33,11 +32,9 @@ pub fn with_bytes(t: Text, s: &[u8]) -> Text
     requires { IsPrefixLen t.len t.bytes × (t.len + length s.now ≤ 128) }
     ensures { (result.len ≡ t.len + length s.now) × IsPrefixLen result.len result.bytes × (take result.len result.bytes ≡ take t.len t.bytes ++ s.now) }
 {
+    let end = t.len + s.len();
     let mut longer = t;
-    let mut i: usize = 0;
-    while i < s.len() {
-        longer = with_byte(longer, s[i]);
-        i += 1;
-    }
+    longer.bytes[t.len..end].copy_from_slice(s);
+    longer.len = end;
     longer
 }

@@ -10,10 +10,7 @@ fn with_digits(t: Text, n: u64, most: usize) -> Text
     requires { t.len + most ≤ 128 }
     ensures { (result.len ≤ t.len + most) × (take result.len result.bytes ≡ take t.len t.bytes ++ digits_of most n) }
 {
-    if most == 0 {
-        return t;
-    }
-    if n == 0 {
+    if most == 0 || n == 0 {
         return t;
     }
     with_byte(with_digits(t, n / 10, most - 1), (48 + n % 10) as u8)

@@ -26,7 +26,7 @@ pub struct Runs {
 pub fn wide(x: u8) -> u64
     ensures { (result ≡ x) × (result < 256) }
 {
-    x as u64
+    u64::from(x)
 }
 
 fn group_at(b: &[u8], i: usize) -> u64
@@ -51,20 +51,18 @@ fn joined_runs(g: u64, r: Runs) -> Runs
     requires { (r.first < 8) × (r.at < 8) }
     ensures { result ≡ joined g r }
 {
-    let len = r.len;
-    let at = r.at;
     let first = first_with(g, r.first);
-    if len <= first {
+    if r.len <= first {
         return Runs {
-            first: first,
+            first,
             at: 0,
             len: first,
         };
     }
     Runs {
-        first: first,
-        at: at + 1,
-        len: len,
+        first,
+        at: r.at + 1,
+        ..r
     }
 }
 
@@ -77,9 +75,7 @@ fn runs_in(b: &[u8]) -> Runs
         at: 0,
         len: 0,
     };
-    let mut i: usize = 8;
-    while 0 < i {
-        i -= 1;
+    for i in (0..8).rev() {
         r = joined_runs(group_at(b, i), r);
     }
     r
@@ -91,10 +87,8 @@ fn with_next_groups(t: Text, b: &[u8], from: usize, to: usize) -> Text
     ensures { (result.len ≤ t.len + 40) × IsPrefixLen result.len result.bytes × (take result.len result.bytes ≡ take t.len t.bytes ++ behind_colons (drop from (take to (groups b.now)))) }
 {
     let mut longer = t;
-    let mut i = from;
-    while i < to {
+    for i in from..to {
         longer = with_unpadded(with_byte(longer, b':'), group_at(b, i));
-        i += 1;
     }
     longer
 }
@@ -142,10 +136,7 @@ fn is_mapped(b: &[u8], first: usize) -> bool
     requires { (length b.now ≡ 16) × (first ≡ zeros_first (groups b.now)) }
     ensures { result ≡ mapped (groups b.now) }
 {
-    if first == 5 {
-        return group_at(b, 5) == 65535;
-    }
-    false
+    first == 5 && group_at(b, 5) == 65535
 }
 
 pub fn address(b: &[u8]) -> Text
@@ -153,11 +144,10 @@ pub fn address(b: &[u8]) -> Text
     ensures { IsPrefixLen result.len result.bytes × (take result.len result.bytes ≡ address_of b.now) }
 {
     let runs = runs_in(b);
-    let first = runs.first;
-    if is_mapped(b, first) {
+    if is_mapped(b, runs.first) {
         return with_quad(empty(), b);
     }
-    if first == 6 {
+    if runs.first == 6 {
         return with_quad(with_bytes(empty(), b"::"), b);
     }
     six(b, runs.at, runs.len)

@@ -1,1 +1,2 @@
+pub mod EscapeLaws
 pub mod RowLaws

@@ -39,7 +39,7 @@ pub fn with_hex_byte(t: Text, b: u8) -> Text
     requires { IsPrefixLen t.len t.bytes × (t.len + 2 ≤ 128) }
     ensures { (result.len ≡ t.len + 2) × IsPrefixLen result.len result.bytes × (take result.len result.bytes ≡ take t.len t.bytes ++ hex_of 2 b) }
 {
-    with_hex(t, 2, b as u64)
+    with_hex(t, 2, u64::from(b))
 }
 
 // A number below 65536 without zeros in front.

@@ -1,24 +1,50 @@
-// Rows of bytes in hexadecimal, in the order of the table.
-ghost use Rattle.std.specs.Prelude.{◌≡◌, ◌++◌, ◌+◌, ◌*◌, ◌≤◌, length, take, drop};
+// Rows of bytes, in the order of the table: written in any way, in hexadecimal, and as UUIDs.
+ghost use Rattle.std.specs.Prelude.{ℕ, List, ◌≡◌, ◌++◌, ◌+◌, ◌*◌, ◌≤◌, length, take, drop};
 ghost use Rattle.io.specs.Counts.{IsPrefixLen};
 ghost use Rattle.text.specs.Ascii.{ascii};
-ghost use Rattle.text_hex.specs.Hexadecimal.{hexes_of, uuid_of};
+ghost use Rattle.text_hex.specs.Hexadecimal.{hex_of, hexes_of, row_of, uuid_of};
 
 use crate::with_hex_byte;
 use text::Text;
 use text::append::{empty, with_byte};
 
+// A way to write a byte of a row; the definition says what it makes of each.
+pub trait Writing {
+    ghost of: { ℕ → List ℕ };
+
+    fn with(t: Text, b: u8) -> Text
+        requires { IsPrefixLen t.len t.bytes × (t.len + length (of b) ≤ 128) }
+        ensures { IsPrefixLen result.len result.bytes × (take result.len result.bytes ≡ take t.len t.bytes ++ of b) };
+}
+
+// Two digits for each byte.
+struct Hex;
+
+impl Writing for Hex {
+    ghost of = { hex_of 2 };
+
+    fn with(t: Text, b: u8) -> Text {
+        with_hex_byte(t, b)
+    }
+}
+
+// What is written of each byte, one behind the other.
+pub fn with_each<W: Writing>(t: Text, x: &[u8]) -> Text
+    requires { IsPrefixLen t.len t.bytes × (t.len + length (row_of W.of x.now) ≤ 128) }
+    ensures { IsPrefixLen result.len result.bytes × (take result.len result.bytes ≡ take t.len t.bytes ++ row_of W.of x.now) }
+{
+    let mut longer = t;
+    for b in x {
+        longer = W::with(longer, *b);
+    }
+    longer
+}
+
 pub fn with_hexes(t: Text, x: &[u8]) -> Text
     requires { IsPrefixLen t.len t.bytes × (t.len + 2 * length x.now ≤ 128) }
     ensures { (result.len ≡ t.len + 2 * length x.now) × IsPrefixLen result.len result.bytes × (take result.len result.bytes ≡ take t.len t.bytes ++ hexes_of x.now) }
 {
-    let mut longer = t;
-    let mut i: usize = 0;
-    while i < x.len() {
-        longer = with_hex_byte(longer, x[i]);
-        i += 1;
-    }
-    longer
+    with_each::<Hex>(t, x)
 }
 
 pub fn hexes(x: &[u8]) -> Text

@@ -26,14 +26,14 @@ returns-then-is_mapped c =
           (cc (behind-none (take e.result.len e.result.bytes) (quad_of c.args.b.now) e.ensures.2)),
     )
 
-pub returns-then-first-eq6 : goal.returns-then-first-eq6
+pub returns-then-runs-eq6 : goal.returns-then-runs-eq6
 unfolding address_of
-returns-then-first-eq6 c =
-    let e = c.empty-then-first-eq6 in
+returns-then-runs-eq6 c =
+    let e = c.empty-then-runs-eq6 in
     let colons-alone = c.with_bytes.ensures.2 ∙ behind-none (take e.result.len e.result.bytes) (ascii "::") e.ensures.2 in (
-      c.with_quad-then-first-eq6.ensures.0,
-      rw (← c.is_mapped.ensures, c.if-is_mapped.false, ← zeros (goal.at.returns-then-first-eq6 c).After-runs_in-runs, eq-eqb c.runs_in-runs.result.first 6 c.if-first-eq6.true)
-          (c.with_quad-then-first-eq6.ensures.1 ∙ ap (λ (colons : List ℕ). colons ++ quad_of c.args.b.now) colons-alone),
+      c.with_quad-then-runs-eq6.ensures.0,
+      rw (← c.is_mapped.ensures, c.if-is_mapped.false, ← zeros (goal.at.returns-then-runs-eq6 c).After-runs_in-runs, eq-eqb c.runs_in-runs.result.first 6 c.if-runs-eq6.true)
+          (c.with_quad-then-runs-eq6.ensures.1 ∙ ap (λ (colons : List ℕ). colons ++ quad_of c.args.b.now) colons-alone),
     )
 
 pub six-requires : goal.six-requires
@@ -51,6 +51,6 @@ returns c = (
     ← c.is_mapped.ensures,
     c.if-is_mapped.false,
     ← zeros (goal.at.returns c).After-runs_in-runs,
-    ne_eqb c.runs_in-runs.result.first 6 c.if-first-eq6.false,
+    ne_eqb c.runs_in-runs.result.first 6 c.if-runs-eq6.false,
   ) c.six.ensures.1,
 )

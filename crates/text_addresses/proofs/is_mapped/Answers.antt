@@ -8,7 +8,7 @@ unfolding mapped
 returns-then-first-eq5 c =
     rw (← c.requires.1, eq-eqb c.args.first 5 c.if-first-eq5.true, ← c.group_at.ensures.0) refl
 
-pub returns : goal.returns
+pub returns-else-first-eq5 : goal.returns-else-first-eq5
 unfolding mapped
-returns c =
+returns-else-first-eq5 c =
     rw (← c.requires.1, ne_eqb c.args.first 5 c.if-first-eq5.false) refl

@@ -13,8 +13,6 @@ loop-i-preserved c =
     let l = c.loop-i in
     let few : a.to ≤ length gs = omega (arith, eight a.b.now c.requires.2) in (
       omega arith,
-      omega arith,
-      omega arith,
       c.with_unpadded-longer.ensures.1,
       cc (
         colon-step (take l.longer.len l.longer.bytes) gs l.i a.to few c.loop-i-test.true,
@@ -30,6 +28,6 @@ returns c =
     let l = c.loop-i in
     let few : a.to ≤ length gs = omega (arith, eight a.b.now c.requires.2) in (
       omega arith,
-      l.invariant.3,
+      l.invariant.1,
       cc (colon-end (take l.longer.len l.longer.bytes) gs l.i a.to few (omega arith)),
     )

@@ -1,5 +1,5 @@
 use Rattle.io.specs.Counts.{IsPrefixLen}
-use Prim.Native.Nat.{◌+◌, ◌*◌, ◌-◌, ◌≤◌}
+use Prim.Native.Nat.{◌+◌, ◌*◌, ◌≤◌}
 use mathlib.Core.Path.{◌≡◌}
 use mathlib.Core.List.{◌++◌}
 use lib.ListN.{take, drop}
@@ -8,12 +8,7 @@ use Rattle.text_addresses.proofs.with_next_groups.Given as goal
 
 abbrev pub invariant-loop-i : goal.invariant-loop-i
 invariant-loop-i l =
-    (l.from ≤ l.i)
-    × (l.i ≤ l.to)
-    × (l.longer.len + 5 * l.from ≤ l.initial.longer.len + 5 * l.i)
+    (l.longer.len + 5 * l.from ≤ l.initial.longer.len + 5 * l.i)
     × IsPrefixLen l.longer.len l.longer.bytes
     × (take l.longer.len l.longer.bytes ++ behind_colons (drop l.i (take l.to (groups l.b)))
     ≡ take l.initial.longer.len l.initial.longer.bytes ++ behind_colons (drop l.from (take l.to (groups l.b))))
-
-abbrev pub decreases-loop-i : goal.decreases-loop-i
-decreases-loop-i l = l.to - l.i

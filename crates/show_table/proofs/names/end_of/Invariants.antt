@@ -1,13 +1,10 @@
 use mathlib.Core.Path.{◌≡◌}
 use mathlib.Core.List.{◌++◌}
-use Prim.Native.Nat.{◌-◌, ◌≤◌}
-use lib.ListN.{length, take, drop}
+use Prim.Native.Nat.{◌-◌}
+use lib.ListN.{take, drop}
 use Rattle.show_table.specs.Names.{until_bar}
 use Rattle.show_table.proofs.names.end_of.Given as goal
 
 abbrev pub invariant-loop-at : goal.invariant-loop-at
 invariant-loop-at l =
-    (l.from ≤ l.at) × (l.at ≤ length l.names) × (take (l.at - l.from) (drop l.from l.names) ++ until_bar (drop l.at l.names) ≡ until_bar (drop l.from l.names))
-
-abbrev pub decreases-loop-at : goal.decreases-loop-at
-decreases-loop-at l = length l.names - l.at
+    take (l.at - l.from) (drop l.from l.names) ++ until_bar (drop l.at l.names) ≡ until_bar (drop l.from l.names)

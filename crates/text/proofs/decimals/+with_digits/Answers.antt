@@ -9,6 +9,7 @@ use native.Mathlib.Nat.{suc-ne-zero}
 use native.Mathlib.Numerals.{sub-one}
 use native.Mathlib.Omega.{arith}
 use Rattle.text.specs.Numerals.{digits_of}
+use Rattle.text.proofs.decimals.+with_digits.Goals.{then-most-eq0-via-then-most-eq0, then-most-eq0-via-else-most-eq0+then-n-eq0}
 use Rattle.text.proofs.decimals.+with_digits.Goals as goal
 
 -- no digits where none may come, none of zero, and else one at the end
@@ -28,10 +29,14 @@ more zero n h z = absurd (h refl)
 more (suc k) n h z = rw (ne_eqb n 0 z, sub-one (suc k)) refl
 
 pub returns-then-most-eq0 : goal.returns-then-most-eq0
-returns-then-most-eq0 t c = let a = c.args in (omega arith, cc (none_left a.most a.n c.if-most-eq0.true, append-nil (take a.t.len a.t.bytes)))
-
-pub returns-then-n-eq0 : goal.returns-then-n-eq0
-returns-then-n-eq0 t c = let a = c.args in (omega arith, cc (none-of-zero a.most a.n c.if-n-eq0.true, append-nil (take a.t.len a.t.bytes)))
+returns-then-most-eq0 t c =
+    let a = c.args in (
+      omega arith,
+      elim c.then-most-eq0.branch [
+        | then-most-eq0-via-then-most-eq0 w ↦ cc (none_left a.most a.n w.if-most-eq0.true, append-nil (take a.t.len a.t.bytes))
+        | then-most-eq0-via-else-most-eq0+then-n-eq0 w ↦ cc (none-of-zero a.most a.n w.if-n-eq0.true, append-nil (take a.t.len a.t.bytes))
+      ],
+    )
 
 pub returns : goal.returns
 returns t c =

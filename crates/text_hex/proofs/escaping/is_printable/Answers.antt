@@ -1,12 +1,15 @@
 use Rattle.text_hex.specs.Escapes.{printable}
-use borrow.Author.Tests.{le-leb, lt-leb}
-use mathlib.Core.Path.{refl}
+use Rattle.text.proofs.Rules.{picks}
 use Rattle.text_hex.proofs.escaping.is_printable.Goals as goal
 
-pub returns-then-b-ge32 : goal.returns-then-b-ge32
+pub returns-in-32-to-126 : goal.returns-in-32-to-126
 unfolding printable
-returns-then-b-ge32 c = rw (le-leb 0x20 c.args.b c.if-b-ge32.true) refl
+returns-in-32-to-126 c = search picks
 
-pub returns : goal.returns
+pub returns-in_default : goal.returns-in_default
 unfolding printable
-returns c = rw (lt-leb 0x20 c.args.b c.if-b-ge32.false) refl
+returns-in_default c = search picks
+
+pub returns-in_default-2 : goal.returns-in_default-2
+unfolding printable
+returns-in_default-2 c = search picks
