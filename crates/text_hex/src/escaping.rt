@@ -1,94 +1,96 @@
 // Bytes of unknown meaning, made printable: in a line, and in a JSON string.
-ghost use Rattle.std.specs.Prelude.{◌≡◌, ◌++◌, ◌+◌, ◌≤◌, length, take};
-ghost use Rattle.io.specs.Counts.{IsPrefixLen};
+ghost use Rattle.std.specs.Prelude.{◌≡◌, cond, ◌++◌, ◌+◌, ◌≤◌, length};
 ghost use Rattle.text.specs.Ascii.{ascii};
-ghost use Rattle.text_hex.specs.Hexadecimal.{hex_of};
-ghost use Rattle.text_hex.specs.Escapes.{printable, escaped_of, escapes_of, json_of, jsons_of};
+ghost use Rattle.text_hex.specs.Hexadecimal.{hex_of, row_of};
+ghost use Rattle.text_hex.specs.Escapes.{printable, escaped_of, json_of, escapes_of, jsons_of};
 
-use crate::with_hex_byte;
+use crate::put_hex_byte;
 use text::Text;
-use text::append::{empty, with_byte, with_bytes};
 
 fn is_printable(b: u8) -> bool
     ensures { result ≡ printable b }
 {
-    if 0x20 <= b {
-        return b <= 0x7e;
-    }
-    false
+    0x20 <= b && b <= 0x7e
 }
 
 // A byte by its number.
-fn with_code(t: Text, b: u8) -> Text
-    requires { IsPrefixLen t.len t.bytes × (t.len + 4 ≤ 128) }
-    ensures { (result.len ≤ t.len + 4) × IsPrefixLen result.len result.bytes × (take result.len result.bytes ≡ take t.len t.bytes ++ (ascii "\\x" ++ hex_of 2 b)) }
+fn put_code(text: &mut Text, b: u8)
+    requires { length text.old + 4 ≤ 128 }
+    ensures { (length text.new ≤ length text.old + 4) × (text.new ≡ text.old ++ (ascii "\\x" ++ hex_of 2 b)) }
 {
-    with_hex_byte(with_bytes(t, b"\\x"), b)
+    text.append(b"\\x");
+    put_hex_byte(text, b);
 }
 
-fn with_escaped(t: Text, b: u8) -> Text
-    requires { IsPrefixLen t.len t.bytes × (t.len + 4 ≤ 128) }
-    ensures { (result.len ≤ t.len + 4) × IsPrefixLen result.len result.bytes × (take result.len result.bytes ≡ take t.len t.bytes ++ escaped_of b) }
+fn put_escaped(text: &mut Text, b: u8)
+    requires { length text.old + 4 ≤ 128 }
+    ensures { (length text.new ≤ length text.old + 4) × (text.new ≡ text.old ++ escaped_of b) }
 {
-    if is_printable(b) {
-        if b == b'\\' {
-            return with_code(t, b);
-        }
-        return with_byte(t, b);
+    if is_printable(b) && b != b'\\' {
+        text.push(b);
+    } else {
+        put_code(text, b);
     }
-    with_code(t, b)
 }
 
-fn with_json_escaped(t: Text, b: u8) -> Text
-    requires { IsPrefixLen t.len t.bytes × (t.len + 6 ≤ 128) }
-    ensures { (result.len ≤ t.len + 6) × IsPrefixLen result.len result.bytes × (take result.len result.bytes ≡ take t.len t.bytes ++ json_of b) }
+fn put_json_escaped(text: &mut Text, b: u8)
+    requires { length text.old + 6 ≤ 128 }
+    ensures { (length text.new ≤ length text.old + 6) × (text.new ≡ text.old ++ json_of b) }
 {
-    if is_printable(b) {
-        if b == b'"' {
-            return with_bytes(t, b"\\\"");
-        }
-        if b == b'\\' {
-            return with_bytes(t, b"\\\\");
-        }
-        return with_byte(t, b);
+    if !is_printable(b) {
+        text.append(b"\\u00");
+        put_hex_byte(text, b);
+    } else if b == b'"' {
+        text.append(b"\\\"");
+    } else if b == b'\\' {
+        text.append(b"\\\\");
+    } else {
+        text.push(b);
     }
-    with_hex_byte(with_bytes(t, b"\\u00"), b)
 }
 
 pub fn escaped(b: u8) -> Text
-    ensures { IsPrefixLen result.len result.bytes × (take result.len result.bytes ≡ escaped_of b) }
+    ensures { result ≡ escaped_of b }
 {
-    with_escaped(empty(), b)
+    let mut text = Text::new();
+    put_escaped(&mut text, b);
+    text
 }
 
 pub fn json_escaped(b: u8) -> Text
-    ensures { IsPrefixLen result.len result.bytes × (take result.len result.bytes ≡ json_of b) }
+    ensures { result ≡ json_of b }
 {
-    with_json_escaped(empty(), b)
+    let mut text = Text::new();
+    put_json_escaped(&mut text, b);
+    text
+}
+
+// A row of bytes, each as it stands in a line or in a JSON string.
+fn row(x: &[u8], json: bool) -> Text
+    requires { length x.now ≤ 16 }
+    ensures { result ≡ row_of (λ b. cond json (json_of b) (escaped_of b)) x.now }
+{
+    let mut text = Text::new();
+    for &b in x {
+        if json {
+            put_json_escaped(&mut text, b);
+        } else {
+            put_escaped(&mut text, b);
+        }
+    }
+    text
 }
 
 pub fn escapes(x: &[u8]) -> Text
     requires { length x.now ≤ 16 }
-    ensures { IsPrefixLen result.len result.bytes × (take result.len result.bytes ≡ escapes_of x.now) }
+    ensures { result ≡ escapes_of x.now }
 {
-    let mut longer = empty();
-    let mut i: usize = 0;
-    while i < x.len() {
-        longer = with_escaped(longer, x[i]);
-        i += 1;
-    }
-    longer
+    row(x, false)
 }
 
 pub fn json_escapes(x: &[u8]) -> Text
     requires { length x.now ≤ 16 }
-    ensures { IsPrefixLen result.len result.bytes × (take result.len result.bytes ≡ jsons_of x.now) }
+    ensures { result ≡ jsons_of x.now }
 {
-    let mut longer = empty();
-    let mut i: usize = 0;
-    while i < x.len() {
-        longer = with_json_escaped(longer, x[i]);
-        i += 1;
-    }
-    longer
+    row(x, true)
 }

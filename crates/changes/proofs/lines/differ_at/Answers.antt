@@ -13,7 +13,7 @@ returns-then-one-at c =
     let a = c.args in
     omega (
       arith,
-      differ-here a.one.now a.other.now l.at c.loop-at-test.true l.invariant.1 c.if-at-other.false c.if-one-at.true,
+      differ-here a.one.now a.other.now l.at c.loop-at-test.true l.invariant.0 c.if-at-other.false c.if-one-at.true,
     )
 
 pub loop-at-preserved : goal.loop-at-preserved
@@ -22,7 +22,7 @@ loop-at-preserved c =
     let a = c.args in
     omega (
       arith,
-      differ-on a.one.now a.other.now l.at c.loop-at-test.true l.invariant.1 c.if-at-other.false c.if-one-at.false,
+      differ-on a.one.now a.other.now l.at c.loop-at-test.true l.invariant.0 c.if-at-other.false c.if-one-at.false,
     )
 
 pub returns : goal.returns
