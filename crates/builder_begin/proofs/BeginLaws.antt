@@ -29,11 +29,6 @@ use Rattle.laws.specs.TextLaws.{told_fault}
 use Rattle.table.specs.declared.Need.TheVariants.{Optional}
 use Rattle.builder_begin.specs.Begins.{header_told, begin_with, SmallCounts}
 
--- ---- the empty state
-
-pub same-state : (s : State) → s.turn ≡ 0 → s.position ≡ 0 → s.hfi ≡ 0 → s.ssns ≡ 0 → s.security ≡ 0 → s.discovery ≡ 0 → s.used ≡ 0 → eqb s.minor 0 ≡ same_state s empty
-same-state s a b c d e f g = rw (a, b, c, d, e, f, g) refl
-
 -- ---- what is opened
 
 module _ (oem : List ℕ) (c : Counts) (small : SmallCounts c) (signature : List ℕ) where

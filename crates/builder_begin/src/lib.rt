@@ -18,28 +18,7 @@ use table::{FRONT, Host, Need, State, Step};
 fn is_empty(state: State) -> bool
     ensures { result ≡ same_state state empty }
 {
-    if state.turn != 0 {
-        return false;
-    }
-    if state.position != 0 {
-        return false;
-    }
-    if state.hfi != 0 {
-        return false;
-    }
-    if state.ssns != 0 {
-        return false;
-    }
-    if state.security != 0 {
-        return false;
-    }
-    if state.discovery != 0 {
-        return false;
-    }
-    if state.used != 0 {
-        return false;
-    }
-    state.minor == 0
+    state == State::EMPTY
 }
 
 // The table of which nothing but this is told; `heap` is where its heap starts. The header minor is 0 until a record asks for more.

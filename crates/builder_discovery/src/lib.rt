@@ -11,7 +11,7 @@ ghost use Rattle.builder_record.specs.Calls.{discovery_told, tell_discovery};
 
 use builder_record::judging::{judged, refused};
 use builder_record::laying::{lay_text, stepped};
-use builder_told::marks::mark_32;
+use builder_told::marks::mark_whole;
 use builder_told::objects::{ended_len, first_of, fits_text};
 use builder_writers::write_discovery;
 use bytes_room::room_fault;
@@ -43,7 +43,7 @@ pub fn discovery(out: &mut [u8], state: State, told: Discovery, address: &[u8], 
     ensures { Gives (tell_discovery state out.old told.bytes address.now nqn.now) result out.new }
 {
     let bytes = told.bytes;
-    let marked = mark_32(bytes, Discovery::ID, state.position as usize);
+    let marked = mark_whole(bytes, Discovery::ID, state.position as usize);
     let fault = first_of(
         fits_text(Need::Optional, address),
         fits_text(Need::Optional, nqn),

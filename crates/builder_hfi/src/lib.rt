@@ -16,7 +16,7 @@ ghost use Rattle.builder_hfi.specs.HfiParts.{own_need, own_fault, hfi_fault, ide
 
 use builder_record::judging::{judged, refused};
 use builder_record::laying::{lay_text, stepped};
-use builder_told::marks::{mark_20, mark_32, mark_128};
+use builder_told::marks::mark_whole;
 use builder_told::objects::{ended_len, first_of, fits, fits_text, kept};
 use builder_writers::{write_hfi, write_hfi_extended, write_info};
 use bytes_room::room_fault;
@@ -233,11 +233,11 @@ pub fn hfi(
     ensures { Gives (tell_hfi state out.old told.bytes info.bytes name.now extended_told extended.bytes iaid.now duid.now) result out.new }
 {
     let bytes = told.bytes;
-    let marked = mark_32(bytes, Hfi::ID, state.position as usize);
+    let marked = mark_whole(bytes, Hfi::ID, state.position as usize);
     let info_bytes = info.bytes;
-    let marked_info = mark_128(info_bytes, Info::ID, state.position as usize);
+    let marked_info = mark_whole(info_bytes, Info::ID, state.position as usize);
     let extended_bytes = extended.bytes;
-    let marked_extended = mark_20(extended_bytes, HfiExtended::ID, state.position as usize);
+    let marked_extended = mark_whole(extended_bytes, HfiExtended::ID, state.position as usize);
     let there = is_there(&marked_info, extended_told);
     let own = own_fault(&marked_info, there, &marked_extended);
     let objects = object_fault(name, there, &marked_extended, iaid, duid);

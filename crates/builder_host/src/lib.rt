@@ -11,7 +11,7 @@ ghost use Rattle.builder_record.specs.Calls.{host_told, tell_host};
 
 use builder_record::judging::{judged, refused};
 use builder_record::laying::{lay_text, stepped};
-use builder_told::marks::mark_32;
+use builder_told::marks::mark_whole;
 use builder_told::objects::{ended_len, fits_text};
 use builder_writers::write_host;
 use bytes_room::room_fault;
@@ -40,7 +40,7 @@ pub fn host(out: &mut [u8], state: State, told: Host, nqn: &[u8]) -> Step
     ensures { Gives (tell_host state out.old told.bytes nqn.now) result out.new }
 {
     let bytes = told.bytes;
-    let marked = mark_32(bytes, Host::ID, state.position as usize);
+    let marked = mark_whole(bytes, Host::ID, state.position as usize);
     let answer = judged(state, Host::ID, &marked, 0, fits_text(Need::Required, nqn));
     if answer.number != 0 {
         return refused(answer, state);

@@ -13,7 +13,7 @@ ghost use Rattle.builder_security.specs.SecurityFaults.{security_fault};
 
 use builder_record::judging::{judged, refused};
 use builder_record::laying::{lay_pieces, stepped};
-use builder_told::marks::mark_64;
+use builder_told::marks::mark_whole;
 use builder_told::objects::{first_of, fits, kept};
 use builder_writers::write_security;
 use bytes_room::room_fault;
@@ -106,7 +106,7 @@ pub fn security(
     ensures { Gives (tell_security state out.old told.bytes algorithms.now protocols.now ciphers.now groups.now hashes.now keypath.now) result out.new }
 {
     let bytes = told.bytes;
-    let marked = mark_64(bytes, Security::ID, state.position as usize);
+    let marked = mark_whole(bytes, Security::ID, state.position as usize);
     let fault = security_fault(
         &marked, algorithms, protocols, ciphers, groups, hashes, keypath,
     );

@@ -16,7 +16,7 @@ ghost use Rattle.builder_ssns.specs.SsnsParts.{own_need, ssns_fault, extended_si
 
 use builder_record::judging::{judged, refused};
 use builder_record::laying::{lay_pieces, lay_text, stepped};
-use builder_told::marks::{mark_18, mark_128};
+use builder_told::marks::mark_whole;
 use builder_told::objects::{ended_len, first_of, fits, fits_text, kept, positions_fault};
 use builder_writers::{write_extended, write_ssns};
 use bytes_room::room_fault;
@@ -168,9 +168,9 @@ pub fn ssns(
     ensures { Gives (tell_ssns state out.old told.bytes address.now service.now others.now nqn.now extended.bytes path.now) result out.new }
 {
     let bytes = told.bytes;
-    let marked = mark_128(bytes, Ssns::ID, state.position as usize);
+    let marked = mark_whole(bytes, Ssns::ID, state.position as usize);
     let extended_bytes = extended.bytes;
-    let marked_extended = mark_18(extended_bytes, Extended::ID, state.position as usize);
+    let marked_extended = mark_whole(extended_bytes, Extended::ID, state.position as usize);
     let hfis = state.hfi as usize;
     let fault = ssns_fault(&marked, hfis, address, service, others, nqn, path);
     let answer = judged(state, Ssns::ID, &marked, 0, fault);

@@ -67,52 +67,12 @@ fn mark(bytes: &mut [u8], kind: u8, position: usize)
     set_valid(bytes, layout_kinds::flags_at(kind));
 }
 
-// Host, HFI and discovery records by value.
-pub fn mark_32(told: [u8; Host::SIZE], kind: u8, position: usize) -> [u8; Host::SIZE]
-    requires { Tellable kind × (base_of (layout_of kind) ≡ 32) }
-    ensures { (result ≡ marked (layout_of kind).shape position told) × (length told ≡ 32) × (length result ≡ 32) }
+// The same by value, for a record of any kind.
+pub fn mark_whole<const N: usize>(told: [u8; N], kind: u8, position: usize) -> [u8; N]
+    requires { Tellable kind × (base_of (layout_of kind) ≡ N) }
+    ensures { (result ≡ marked (layout_of kind).shape position told.entry) × (length told.entry ≡ N) × (length result ≡ N) }
 {
     let mut bytes = told;
-    mark(&mut bytes[0..Host::SIZE], kind, position);
-    bytes
-}
-
-// Security records by value.
-pub fn mark_64(told: [u8; Security::SIZE], kind: u8, position: usize) -> [u8; Security::SIZE]
-    requires { Tellable kind × (base_of (layout_of kind) ≡ 64) }
-    ensures { (result ≡ marked (layout_of kind).shape position told) × (length told ≡ 64) × (length result ≡ 64) }
-{
-    let mut bytes = told;
-    mark(&mut bytes[0..Security::SIZE], kind, position);
-    bytes
-}
-
-// SSNS records and transport info by value.
-pub fn mark_128(told: [u8; Ssns::SIZE], kind: u8, position: usize) -> [u8; Ssns::SIZE]
-    requires { Tellable kind × (base_of (layout_of kind) ≡ 128) }
-    ensures { (result ≡ marked (layout_of kind).shape position told) × (length told ≡ 128) × (length result ≡ 128) }
-{
-    let mut bytes = told;
-    mark(&mut bytes[0..Ssns::SIZE], kind, position);
-    bytes
-}
-
-// Extended info by value.
-pub fn mark_18(told: [u8; Extended::SIZE], kind: u8, position: usize) -> [u8; Extended::SIZE]
-    requires { Tellable kind × (base_of (layout_of kind) ≡ 18) }
-    ensures { (result ≡ marked (layout_of kind).shape position told) × (length told ≡ 18) × (length result ≡ 18) }
-{
-    let mut bytes = told;
-    mark(&mut bytes[0..Extended::SIZE], kind, position);
-    bytes
-}
-
-// HFI extended info by value.
-pub fn mark_20(told: [u8; HfiExtended::SIZE], kind: u8, position: usize) -> [u8; HfiExtended::SIZE]
-    requires { Tellable kind × (base_of (layout_of kind) ≡ 20) }
-    ensures { (result ≡ marked (layout_of kind).shape position told) × (length told ≡ 20) × (length result ≡ 20) }
-{
-    let mut bytes = told;
-    mark(&mut bytes[0..HfiExtended::SIZE], kind, position);
+    mark(&mut bytes, kind, position);
     bytes
 }

@@ -67,13 +67,9 @@ digits-few (suc d) (suc k) n h = go (eqb n 0) (digits-few d k (n / 10) q)
     go true l = omega arith
     go false l = simp length-append (omega arith)
 
-numeral-short : (n : ℕ) → n < 65536 → length (numeral n) ≤ 5
+pub numeral-short : (n : ℕ) → n < 65536 → length (numeral n) ≤ 5
 unfolding numeral
 numeral-short n h = simp length-append (omega (arith, digits-few 4 19 (n / 10) (omega arith)))
-
--- what a number below 65,536 makes a text longer by
-pub number_short : (n t r : ℕ) (ts rs : List ℕ) → n < 65536 → r ≡ length (take r rs) → take r rs ≡ take t ts ++ numeral n → r ≤ t + 5
-number_short n t r ts rs h l e = omega (arith, numeral-short n h, simp (length-append, length-take) at (l ∙ ap length e))
 
 -- ---- columns behind one another
 

@@ -1,6 +1,5 @@
 // The lines of a comparison, each made whole: columns with a space between them, and a line end.
-ghost use Rattle.std.specs.Prelude.{◌≡◌, [], ◌∷◌, ◌++◌, ◌+◌, ◌≤◌, ◌<◌, length, take};
-ghost use Rattle.io.specs.Counts.{IsPrefixLen};
+ghost use Rattle.std.specs.Prelude.{◌≡◌, [], ◌∷◌, ◌++◌, ◌+◌, ◌≤◌, ◌<◌, length};
 ghost use Rattle.table.specs.Bytes.{val};
 ghost use Rattle.text.specs.Ascii.{ascii};
 ghost use Rattle.text.specs.Numerals.{numeral};
@@ -8,9 +7,8 @@ ghost use Rattle.changes.specs.Changes.{differ_at, fields, objects, only_on, spa
 
 use bytes_wire::wide;
 use text::Text;
-use text::append::{empty, with_byte, with_bytes};
-use text::decimals::with_number;
-use text_hex::with_hexes;
+use text::decimals::put_number;
+use text_hex::put_hexes;
 
 // Where two rows of bytes first differ; the shorter length where one begins the other.
 pub fn differ_at(one: &[u8], other: &[u8]) -> usize
@@ -27,20 +25,24 @@ pub fn differ_at(one: &[u8], other: &[u8]) -> usize
     one.len()
 }
 
-// A number and one byte behind it. The bound says what `with_number` does not: no number of a line has more than five digits.
-fn with_column(t: Text, n: usize, behind: u8) -> Text
-    requires { (n < 65536) × (t.len + 21 ≤ 128) }
-    ensures { (result.len ≤ t.len + 6) × IsPrefixLen result.len result.bytes × (take result.len result.bytes ≡ take t.len t.bytes ++ (numeral n ++ (behind ∷ []))) }
+// A number and one byte behind it. The bound says what `put_number` does not: no number of a line has more than five digits.
+fn put_column(text: &mut Text, n: usize, behind: u8)
+    requires { (n < 65536) × (length text.old + 21 ≤ 128) }
+    ensures { (length text.new ≤ length text.old + 6) × (text.new ≡ text.old ++ (numeral n ++ (behind ∷ []))) }
 {
-    with_byte(with_number(t, n as u64), behind)
+    put_number(text, n as u64);
+    text.push(behind);
 }
 
 // The kind and the position, with which every line begins.
 fn place_columns(kind: u8, position: usize) -> Text
     requires { position < 65536 }
-    ensures { (result.len ≤ 12) × IsPrefixLen result.len result.bytes × (take result.len result.bytes ≡ spaced (numeral kind) (numeral position ++ ascii " ")) }
+    ensures { (length result ≤ 12) × (result ≡ spaced (numeral kind) (numeral position ++ ascii " ")) }
 {
-    with_column(with_column(empty(), kind as usize, b' '), position, b' ')
+    let mut text = Text::new();
+    put_column(&mut text, usize::from(kind), b' ');
+    put_column(&mut text, position, b' ');
+    text
 }
 
 // The number that a short field spells. The bytes are read from the last, the highest, down to the first.
@@ -48,32 +50,38 @@ fn number_of(x: &[u8]) -> usize
     requires { length x.now ≤ 4 }
     ensures { result ≡ val x.now }
 {
+    let len = x.len();
     let mut number: usize = 0;
-    for i in (0..x.len()).rev() {
+    for i in (0..len).rev() {
         number = wide(x[i]) + 256 * number;
     }
     number
 }
 
 // A field's value: a number where it has at most four bytes.
-fn with_value(t: Text, x: &[u8]) -> Text
-    requires { IsPrefixLen t.len t.bytes × (t.len + 32 ≤ 128) × (length x.now ≤ 16) }
-    ensures { (result.len ≤ t.len + 32) × IsPrefixLen result.len result.bytes × (take result.len result.bytes ≡ take t.len t.bytes ++ value_of x.now) }
+fn put_value(text: &mut Text, x: &[u8])
+    requires { (length text.old + 32 ≤ 128) × (length x.now ≤ 16) }
+    ensures { (length text.new ≤ length text.old + 32) × (text.new ≡ text.old ++ value_of x.now) }
 {
     if x.len() <= 4 {
-        return with_number(t, number_of(x) as u64);
+        put_number(text, number_of(x) as u64);
+    } else {
+        put_hexes(text, x);
     }
-    with_hexes(t, x)
 }
 
 // A field's line, by the field's bytes on either side.
 pub fn field_line(kind: u8, position: usize, offset: usize, one: &[u8], other: &[u8]) -> Text
     requires { (position < 65536) × (offset < 256) × (length one.now ≤ 16) × (length other.now ≤ 16) }
-    ensures { IsPrefixLen result.len result.bytes × (take result.len result.bytes ≡ text_of (fields kind position offset one.now other.now)) }
+    ensures { result ≡ text_of (fields kind position offset one.now other.now) }
 {
-    let place = with_column(place_columns(kind, position), offset, b' ');
-    let first = with_byte(with_value(place, one), b' ');
-    with_byte(with_value(first, other), b'\n')
+    let mut text = place_columns(kind, position);
+    put_column(&mut text, offset, b' ');
+    put_value(&mut text, one);
+    text.push(b' ');
+    put_value(&mut text, other);
+    text.push(b'\n');
+    text
 }
 
 // An object's line, by both lengths and where the objects first differ.
@@ -86,33 +94,39 @@ pub fn object_line(
     at: usize,
 ) -> Text
     requires { (position < 65536) × (offset < 256) × (one < 65536) × (other < 65536) × (at < 65536) }
-    ensures { IsPrefixLen result.len result.bytes × (take result.len result.bytes ≡ text_of (objects kind position offset one other at)) }
+    ensures { result ≡ text_of (objects kind position offset one other at) }
 {
-    let place = with_column(place_columns(kind, position), offset, b' ');
-    let lengths = with_column(with_column(place, one, b' '), other, b' ');
-    with_column(lengths, at, b'\n')
+    let mut text = place_columns(kind, position);
+    put_column(&mut text, offset, b' ');
+    put_column(&mut text, one, b' ');
+    put_column(&mut text, other, b' ');
+    put_column(&mut text, at, b'\n');
+    text
 }
 
 // The line of a difference that is told by a word and the side it stands on.
 fn side_line(kind: u8, position: usize, word: &[u8], side: u8) -> Text
     requires { (position < 65536) × (length word.now ≤ 4) }
-    ensures { IsPrefixLen result.len result.bytes × (take result.len result.bytes ≡ spaced (numeral kind) (spaced (numeral position) (spaced word.now (numeral side ++ ascii "\n")))) }
+    ensures { result ≡ spaced (numeral kind) (spaced (numeral position) (spaced word.now (numeral side ++ ascii "\n"))) }
 {
-    let named = with_bytes(place_columns(kind, position), word);
-    with_column(with_byte(named, b' '), side as usize, b'\n')
+    let mut text = place_columns(kind, position);
+    text.append(word);
+    text.push(b' ');
+    put_column(&mut text, usize::from(side), b'\n');
+    text
 }
 
 // A position or a heap record that one side alone has, and a position that one side alone uses.
 pub fn only_line(kind: u8, position: usize, side: u8) -> Text
     requires { position < 65536 }
-    ensures { IsPrefixLen result.len result.bytes × (take result.len result.bytes ≡ text_of (only_on kind position side)) }
+    ensures { result ≡ text_of (only_on kind position side) }
 {
     side_line(kind, position, b"only", side)
 }
 
 pub fn used_line(kind: u8, position: usize, side: u8) -> Text
     requires { position < 65536 }
-    ensures { IsPrefixLen result.len result.bytes × (take result.len result.bytes ≡ text_of (used_on kind position side)) }
+    ensures { result ≡ text_of (used_on kind position side) }
 {
     side_line(kind, position, b"used", side)
 }

@@ -1,12 +1,10 @@
 // The rows' keys and titles: each in one string, in the order of the rows, with a bar between two.
 ghost use Rattle.std.specs.Prelude.{◌≡◌, ◌≤◌, ◌<◌, ◌-◌, length, take, drop};
-ghost use Rattle.io.specs.Counts.{IsPrefixLen};
 ghost use Rattle.text.specs.Ascii.{ascii};
 ghost use Rattle.show_table.specs.Names.{bars_in, behind_bars, until_bar, name_at};
 ghost use Rattle.show_table.specs.Shown.{line_at};
 
 use text::Text;
-use text::append::{empty, with_bytes};
 
 fn bars_in(b: u8) -> usize
     ensures { (result ≡ bars_in b) × (result ≤ 1) }
@@ -47,19 +45,19 @@ fn end_of(names: &[u8], from: usize) -> usize
 // Name `n`; no name has more than 40 bytes.
 fn name_at(names: &[u8], n: usize) -> Text
     requires { length (name_at n names.now) ≤ 40 }
-    ensures { (result.len ≤ 40) × IsPrefixLen result.len result.bytes × (take result.len result.bytes ≡ name_at n names.now) }
+    ensures { result ≡ name_at n names.now }
 {
     let from = start_of(names, n);
     let to = end_of(names, from);
-    with_bytes(empty(), &names[from..to])
+    Text::of(&names[from..to])
 }
 
 // The key of row `i`, in JSON; behind the last row none.
 pub fn key_at(i: usize) -> Text
-    ensures { (result.len ≤ 40) × IsPrefixLen result.len result.bytes × (take result.len result.bytes ≡ ascii (line_at i).key) }
+    ensures { (length result ≤ 40) × (result ≡ ascii (line_at i).key) }
 {
     if 100 <= i {
-        return empty();
+        return Text::new();
     }
     name_at(
         b"header|host|subsystem|hfi|discovery|security|unused|\
@@ -84,10 +82,10 @@ pub fn key_at(i: usize) -> Text
 
 // Its title, or its words, for people.
 pub fn title_at(i: usize) -> Text
-    ensures { (result.len ≤ 40) × IsPrefixLen result.len result.bytes × (take result.len result.bytes ≡ ascii (line_at i).title) }
+    ensures { (length result ≤ 40) × (result ≡ ascii (line_at i).title) }
 {
     if 100 <= i {
-        return empty();
+        return Text::new();
     }
     name_at(
         b"NBFT Header|NBFT Host|NBFT Subsystems|NBFT HFIs|NBFT Discovery Controllers|NBFT Security||\

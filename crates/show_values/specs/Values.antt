@@ -19,13 +19,9 @@ number_of x = num x 0 4
 abbrev pub bits_of : ℕ → ℕ → ℕ → ℕ
 bits_of w m n = pick (eqb w 0) 0 (n / w % m)
 
--- what stands for 0, 1, 2 and any other number
-abbrev pub choice : {A : Type 0} → A → A → A → A → ℕ → A
-choice zeroth first second other v = pick (eqb v 0) zeroth (pick (eqb v 1) first (pick (eqb v 2) second other))
-
 -- 0, 1, 2; accepted tables have no 3 in two bits
 abbrev pub word : String → String → String → ℕ → List ℕ
-word zeroth first second v = ascii (choice zeroth first second "reserved" v)
+word zeroth first second v = ascii (pick (eqb v 0) zeroth (pick (eqb v 1) first (pick (eqb v 2) second "reserved")))
 
 unfoldable pub primary_of : ℕ → List ℕ
 primary_of = word "not indicated" "unselected" "selected"

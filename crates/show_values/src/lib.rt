@@ -4,8 +4,7 @@
 pub mod choices; // words for numbers, and values that hang on another field
 pub mod kinds; // how a value stands in JSON
 
-ghost use Rattle.std.specs.Prelude.{◌≡◌, ◌<◌, length, take};
-ghost use Rattle.io.specs.Counts.{IsPrefixLen};
+ghost use Rattle.std.specs.Prelude.{◌≡◌, ◌<◌, length};
 ghost use Rattle.show_values.specs.Values.{bits_of, field_text, number_of};
 
 use bytes_wire::u32_at;
@@ -36,7 +35,7 @@ fn bits_in(x: &[u8], weight: u64, modulus: u64) -> u64
 
 pub fn field_text(form: u64, weight: u64, x: &[u8], y: &[u8]) -> Text
     requires { (length x.now ≡ 16) × (length y.now ≡ 16) }
-    ensures { IsPrefixLen result.len result.bytes × (take result.len result.bytes ≡ field_text form weight x.now y.now) }
+    ensures { result ≡ field_text form weight x.now y.now }
 {
     match form {
         SIGNED => text::signed_decimal(number_of(x)),

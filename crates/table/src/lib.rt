@@ -121,7 +121,7 @@ pub struct Rewritten {
 
 // How far a build has come. Turn 0 is the empty state (all fields zero), 2 to 6 wait for a record of that kind, 7 for finish, 8 is finished. `minor` is the
 // header minor that the records told so far ask for.
-#[derive(Clone, Copy)]
+#[derive(Clone, Copy, PartialEq, Eq)]
 pub struct State {
     pub turn: u16,
     pub position: u16,
@@ -131,6 +131,20 @@ pub struct State {
     pub discovery: u8,
     pub used: usize,
     pub minor: usize,
+}
+
+impl State {
+    // Nothing is begun.
+    pub const EMPTY: State = State {
+        turn: 0,
+        position: 0,
+        hfi: 0,
+        ssns: 0,
+        security: 0,
+        discovery: 0,
+        used: 0,
+        minor: 0,
+    };
 }
 
 // What a builder call hands back.

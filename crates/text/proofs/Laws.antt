@@ -1,8 +1,6 @@
--- A fact about lists that proofs here and in the crates above share. Assumes nothing.
-use mathlib.Core.Path.{◌≡◌, refl}
-use mathlib.Core.List.{List, [], ◌++◌}
-use Prim.Native.Nat.{ℕ}
+-- Facts about lists that proofs here and in the crates above share. Assumes nothing.
+use Rattle.std.proofs.Common.{◌≡◌, refl, List, [], ◌++◌, ℕ, ◌+◌, ◌≤◌, length, length-append, arith}
 
--- what is written behind nothing
-pub behind-none : (xs ys : List ℕ) → xs ≡ [] → xs ++ ys ≡ ys
-behind-none xs ys e = rw e refl
+-- how much longer a text is by what was put behind it
+pub longer-by : {xs : List ℕ} (ys zs : List ℕ) (n : ℕ) → xs ≡ ys ++ zs → length zs ≤ n → length xs ≤ length ys + n
+longer-by ys zs n e h = rw (e, length-append ys zs) (omega (arith, h))

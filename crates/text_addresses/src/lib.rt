@@ -3,16 +3,14 @@
 #![tactic(auto)]
 
 ghost use Rattle.std.specs.Prelude.{◌≡◌, ◌++◌, ◌+◌, ◌*◌, ◌≤◌, ◌<◌, length, take, drop, get_or};
-ghost use Rattle.io.specs.Counts.{IsPrefixLen};
 ghost use Rattle.text.specs.Ascii.{ascii};
 ghost use Rattle.text.specs.Numerals.{numeral};
 ghost use Rattle.text_addresses.specs.Addresses.{groups, behind_colons, colons, zeros_first, longest_run, start_of, six_of, mapped, quad_of, address_of};
 ghost use Rattle.text_addresses.specs.Runs.{first_with, joined, runs_of};
 
 use text::Text;
-use text::append::{empty, with_byte, with_bytes};
-use text::decimals::with_number;
-use text_hex::with_unpadded;
+use text::decimals::put_number;
+use text_hex::put_unpadded;
 
 // The zero groups in a part of an address: how many come first, and where the longest run starts and how
 // many it has.
@@ -26,7 +24,7 @@ pub struct Runs {
 pub fn wide(x: u8) -> u64
     ensures { (result ≡ x) × (result < 256) }
 {
-    u64::from(x)
+    x as u64
 }
 
 fn group_at(b: &[u8], i: usize) -> u64
@@ -62,7 +60,7 @@ fn joined_runs(g: u64, r: Runs) -> Runs
     Runs {
         first,
         at: r.at + 1,
-        ..r
+        len: r.len,
     }
 }
 
@@ -82,54 +80,60 @@ fn runs_in(b: &[u8]) -> Runs
 }
 
 // The groups from `from` to before `to`, each behind a colon.
-fn with_next_groups(t: Text, b: &[u8], from: usize, to: usize) -> Text
-    requires { IsPrefixLen t.len t.bytes × (t.len + 40 ≤ 128) × (length b.now ≡ 16) × (from ≤ to) × (to ≤ 8) }
-    ensures { (result.len ≤ t.len + 40) × IsPrefixLen result.len result.bytes × (take result.len result.bytes ≡ take t.len t.bytes ++ behind_colons (drop from (take to (groups b.now)))) }
+fn put_next_groups(text: &mut Text, b: &[u8], from: usize, to: usize)
+    requires { (length text.old + 40 ≤ 128) × (length b.now ≡ 16) × (from ≤ to) × (to ≤ 8) }
+    ensures { (length text.new ≤ length text.old + 40) × (text.new ≡ text.old ++ behind_colons (drop from (take to (groups b.now)))) }
 {
-    let mut longer = t;
     for i in from..to {
-        longer = with_unpadded(with_byte(longer, b':'), group_at(b, i));
+        text.push(b':');
+        put_unpadded(text, group_at(b, i));
     }
-    longer
 }
 
 // The groups from `from` to before `to`, with a colon between.
-fn with_groups(t: Text, b: &[u8], from: usize, to: usize) -> Text
-    requires { IsPrefixLen t.len t.bytes × (t.len + 44 ≤ 128) × (length b.now ≡ 16) × (from ≤ to) × (to ≤ 8) }
-    ensures { (result.len ≤ t.len + 44) × IsPrefixLen result.len result.bytes × (take result.len result.bytes ≡ take t.len t.bytes ++ colons (drop from (take to (groups b.now)))) }
+fn put_groups(text: &mut Text, b: &[u8], from: usize, to: usize)
+    requires { (length text.old + 44 ≤ 128) × (length b.now ≡ 16) × (from ≤ to) × (to ≤ 8) }
+    ensures { (length text.new ≤ length text.old + 44) × (text.new ≡ text.old ++ colons (drop from (take to (groups b.now)))) }
 {
     if from < to {
-        return with_next_groups(with_unpadded(t, group_at(b, from)), b, from + 1, to);
+        put_unpadded(text, group_at(b, from));
+        put_next_groups(text, b, from + 1, to);
     }
-    t
 }
 
-// Byte `i` of an address, behind a dot.
-fn with_octet(t: Text, b: &[u8], i: usize) -> Text
-    requires { (t.len + 21 ≤ 128) × (i < length b.now) }
-    ensures { (result.len ≤ t.len + 21) × IsPrefixLen result.len result.bytes × (take result.len result.bytes ≡ take t.len t.bytes ++ ascii "." ++ numeral (get_or b.now i 0)) }
+// A byte of an address, behind a dot.
+fn put_octet(text: &mut Text, byte: u8)
+    requires { length text.old + 21 ≤ 128 }
+    ensures { (length text.new ≤ length text.old + 21) × (text.new ≡ text.old ++ (ascii "." ++ numeral byte)) }
 {
-    with_number(with_byte(t, b'.'), wide(b[i]))
+    text.push(b'.');
+    put_number(text, wide(byte));
 }
 
-fn with_quad(t: Text, b: &[u8]) -> Text
-    requires { (t.len + 83 ≤ 128) × (length b.now ≡ 16) }
-    ensures { IsPrefixLen result.len result.bytes × (take result.len result.bytes ≡ take t.len t.bytes ++ quad_of b.now) }
+fn put_quad(text: &mut Text, b: &[u8])
+    requires { (length text.old + 83 ≤ 128) × (length b.now ≡ 16) }
+    ensures { text.new ≡ text.old ++ quad_of b.now }
 {
-    let first = with_number(t, wide(b[12]));
-    with_octet(with_octet(with_octet(first, b, 13), b, 14), b, 15)
+    put_number(text, wide(b[12]));
+    put_octet(text, b[13]);
+    put_octet(text, b[14]);
+    put_octet(text, b[15]);
 }
 
 // The groups with a run left out, or with none where none has two.
 fn six(b: &[u8], at: usize, len: usize) -> Text
     requires { (length b.now ≡ 16) × (at + len ≤ 8) × (len ≡ longest_run (groups b.now)) × (at ≡ start_of (longest_run (groups b.now)) (groups b.now)) }
-    ensures { IsPrefixLen result.len result.bytes × (take result.len result.bytes ≡ six_of (groups b.now)) }
+    ensures { result ≡ six_of (groups b.now) }
 {
+    let mut text = Text::new();
     if len < 2 {
-        return with_groups(empty(), b, 0, 8);
+        put_groups(&mut text, b, 0, 8);
+        return text;
     }
-    let left = with_groups(empty(), b, 0, at);
-    with_groups(with_bytes(left, b"::"), b, at + len, 8)
+    put_groups(&mut text, b, 0, at);
+    text.append(b"::");
+    put_groups(&mut text, b, at + len, 8);
+    text
 }
 
 fn is_mapped(b: &[u8], first: usize) -> bool
@@ -141,14 +145,19 @@ fn is_mapped(b: &[u8], first: usize) -> bool
 
 pub fn address(b: &[u8]) -> Text
     requires { length b.now ≡ 16 }
-    ensures { IsPrefixLen result.len result.bytes × (take result.len result.bytes ≡ address_of b.now) }
+    ensures { result ≡ address_of b.now }
 {
     let runs = runs_in(b);
-    if is_mapped(b, runs.first) {
-        return with_quad(empty(), b);
+    let first = runs.first;
+    let mut text = Text::new();
+    if is_mapped(b, first) {
+        put_quad(&mut text, b);
+        return text;
     }
-    if runs.first == 6 {
-        return with_quad(with_bytes(empty(), b"::"), b);
+    if first == 6 {
+        text.append(b"::");
+        put_quad(&mut text, b);
+        return text;
     }
     six(b, runs.at, runs.len)
 }

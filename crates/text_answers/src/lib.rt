@@ -1,8 +1,7 @@
 // What the numbers of an answer mean, in words, and the line that says so.
 #![tactic(auto)]
 
-ghost use Rattle.std.specs.Prelude.{◌≡◌, ◌++◌, ◌+◌, ◌≤◌, length, take};
-ghost use Rattle.io.specs.Counts.{IsPrefixLen};
+ghost use Rattle.std.specs.Prelude.{◌≡◌, ◌++◌, ◌+◌, ◌≤◌, length};
 ghost use Rattle.table.specs.Meaning.{limit};
 ghost use Rattle.text.specs.Ascii.{ascii};
 ghost use Rattle.text.specs.Numerals.{numeral};
@@ -10,88 +9,85 @@ ghost use Rattle.text_answers.specs.Words.{meaning_of, kind_of, place_of, fault_
 
 use table::{Control, Discovery, Header, Hfi, Host, Security, Ssns};
 use text::Text;
-use text::append::{empty, with_byte, with_bytes};
-use text::decimals::with_number;
+use text::decimals::put_number;
 
 // A text that says how long a table may be.
-fn with_limit(t: Text, before: &[u8], behind: &[u8]) -> Text
-    requires { IsPrefixLen t.len t.bytes × (t.len + length before.now + 20 + length behind.now ≤ 128) }
-    ensures { (result.len ≤ t.len + length before.now + 20 + length behind.now) × IsPrefixLen result.len result.bytes × (take result.len result.bytes ≡ take t.len t.bytes ++ (before.now ++ (numeral limit ++ behind.now))) }
+fn put_limit(text: &mut Text, before: &[u8], behind: &[u8])
+    requires { length text.old + length before.now + 20 + length behind.now ≤ 128 }
+    ensures { (length text.new ≤ length text.old + length before.now + 20 + length behind.now) × (text.new ≡ text.old ++ (before.now ++ (numeral limit ++ behind.now))) }
 {
-    let number = with_number(with_bytes(t, before), table::LIMIT as u64);
-    with_bytes(number, behind)
+    text.append(before);
+    put_number(text, table::LIMIT as u64);
+    text.append(behind);
 }
 
-fn with_meaning(t: Text, number: u8) -> Text
-    requires { IsPrefixLen t.len t.bytes × (t.len + 69 ≤ 128) }
-    ensures { (result.len ≤ t.len + 69) × IsPrefixLen result.len result.bytes × (take result.len result.bytes ≡ take t.len t.bytes ++ ascii (meaning_of number)) }
+fn put_meaning(text: &mut Text, number: u8)
+    requires { length text.old + 69 ≤ 128 }
+    ensures { (length text.new ≤ length text.old + 69) × (text.new ≡ text.old ++ ascii (meaning_of number)) }
 {
     match number {
-        0 => with_bytes(t, b"good"),
-        1 => with_bytes(t, b"too few bytes"),
-        2 => with_bytes(t, b"the signature is wrong"),
-        3 => with_bytes(t, b"Length is outside what is lent"),
-        4 => with_limit(t, b"Length is above ", b""),
-        5 => with_bytes(t, b"the checksum is wrong"),
-        6 => with_bytes(t, b"the header's major revision is wrong"),
-        7 => with_bytes(t, b"the control record is wrong"),
-        8 => with_bytes(t, b"a record length or a region is wrong"),
-        9 => with_bytes(t, b"a version is wrong"),
-        10 => with_bytes(
-            t,
-            b"a host that is not valid, or a wrong ID, index, type or two-bit field",
-        ),
-        11 => with_bytes(
-            t,
-            b"a reference is wrong, outside the heap, or required and absent",
-        ),
-        12 => with_bytes(t, b"a heap record breaks its rule"),
-        13 => with_bytes(t, b"an index names no valid record"),
-        14 => with_bytes(t, b"the output is too short"),
-        15 => with_bytes(t, b"a builder call out of turn or an impossible state"),
-        16 => with_bytes(t, b"no such kind, position or field"),
-        17 => with_limit(t, b"the output would pass ", b" bytes"),
-        18 => with_bytes(t, b"a text does not end in its only zero byte"),
-        19 => with_bytes(t, b"a heap record shares a byte with another object"),
-        20 => with_bytes(t, b"a secondary list is too long or names an HFI twice"),
-        _ => with_bytes(t, b"a fault with no name"),
+        0 => text.append(b"good"),
+        1 => text.append(b"too few bytes"),
+        2 => text.append(b"the signature is wrong"),
+        3 => text.append(b"Length is outside what is lent"),
+        4 => put_limit(text, b"Length is above ", b""),
+        5 => text.append(b"the checksum is wrong"),
+        6 => text.append(b"the header's major revision is wrong"),
+        7 => text.append(b"the control record is wrong"),
+        8 => text.append(b"a record length or a region is wrong"),
+        9 => text.append(b"a version is wrong"),
+        10 => text.append(b"a host that is not valid, or a wrong ID, index, type or two-bit field"),
+        11 => text.append(b"a reference is wrong, outside the heap, or required and absent"),
+        12 => text.append(b"a heap record breaks its rule"),
+        13 => text.append(b"an index names no valid record"),
+        14 => text.append(b"the output is too short"),
+        15 => text.append(b"a builder call out of turn or an impossible state"),
+        16 => text.append(b"no such kind, position or field"),
+        17 => put_limit(text, b"the output would pass ", b" bytes"),
+        18 => text.append(b"a text does not end in its only zero byte"),
+        19 => text.append(b"a heap record shares a byte with another object"),
+        20 => text.append(b"a secondary list is too long or names an HFI twice"),
+        _ => text.append(b"a fault with no name"),
     }
 }
 
-fn with_kind(t: Text, kind: u8) -> Text
-    requires { IsPrefixLen t.len t.bytes × (t.len + 21 ≤ 128) }
-    ensures { (result.len ≤ t.len + 21) × IsPrefixLen result.len result.bytes × (take result.len result.bytes ≡ take t.len t.bytes ++ ascii (kind_of kind)) }
+fn put_kind(text: &mut Text, kind: u8)
+    requires { length text.old + 21 ≤ 128 }
+    ensures { (length text.new ≤ length text.old + 21) × (text.new ≡ text.old ++ ascii (kind_of kind)) }
 {
     match kind {
-        Header::ID => with_bytes(t, b"header"),
-        Control::ID => with_bytes(t, b"control"),
-        Host::ID => with_bytes(t, b"host"),
-        Hfi::ID => with_bytes(t, b"HFI"),
-        Ssns::ID => with_bytes(t, b"SSNS"),
-        Security::ID => with_bytes(t, b"security"),
-        Discovery::ID => with_bytes(t, b"discovery"),
-        _ => with_bytes(t, b"a record with no name"),
+        Header::ID => text.append(b"header"),
+        Control::ID => text.append(b"control"),
+        Host::ID => text.append(b"host"),
+        Hfi::ID => text.append(b"HFI"),
+        Ssns::ID => text.append(b"SSNS"),
+        Security::ID => text.append(b"security"),
+        Discovery::ID => text.append(b"discovery"),
+        _ => text.append(b"a record with no name"),
     }
 }
 
 // Where a fault is.
-fn with_place(t: Text, kind: u8, position: u64) -> Text
-    requires { IsPrefixLen t.len t.bytes × (t.len + 44 ≤ 128) }
-    ensures { (result.len ≤ t.len + 44) × (take result.len result.bytes ≡ take t.len t.bytes ++ place_of kind position) }
+fn put_place(text: &mut Text, kind: u8, position: u64)
+    requires { length text.old + 44 ≤ 128 }
+    ensures { (length text.new ≤ length text.old + 44) × (text.new ≡ text.old ++ place_of kind position) }
 {
-    let record = with_kind(with_bytes(t, b": "), kind);
-    if position == 0 {
-        return record;
+    text.append(b": ");
+    put_kind(text, kind);
+    if position != 0 {
+        text.push(b' ');
+        put_number(text, position);
     }
-    with_number(with_byte(record, b' '), position)
 }
 
 pub fn fault_line(number: u8, kind: u8, position: u64) -> Text
-    ensures { IsPrefixLen result.len result.bytes × (take result.len result.bytes ≡ fault_line number kind position) }
+    ensures { result ≡ fault_line number kind position }
 {
-    let meaning = with_meaning(empty(), number);
-    if number == 0 {
-        return with_byte(meaning, b'\n');
+    let mut text = Text::new();
+    put_meaning(&mut text, number);
+    if number != 0 {
+        put_place(&mut text, kind, position);
     }
-    with_byte(with_place(meaning, kind, position), b'\n')
+    text.push(b'\n');
+    text
 }

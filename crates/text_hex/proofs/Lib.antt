@@ -1,2 +1,1 @@
-pub mod EscapeLaws
 pub mod RowLaws

@@ -1,72 +1,96 @@
 // Bytes of unknown meaning, made printable: in a line, and in a JSON string.
-ghost use Rattle.std.specs.Prelude.{◌≡◌, ◌≤◌, length, take};
-ghost use Rattle.io.specs.Counts.{IsPrefixLen};
-ghost use Rattle.text_hex.specs.Escapes.{printable, escaped_of, escapes_of, json_of, jsons_of};
+ghost use Rattle.std.specs.Prelude.{◌≡◌, cond, ◌++◌, ◌+◌, ◌≤◌, length};
+ghost use Rattle.text.specs.Ascii.{ascii};
+ghost use Rattle.text_hex.specs.Hexadecimal.{hex_of, row_of};
+ghost use Rattle.text_hex.specs.Escapes.{printable, escaped_of, json_of, escapes_of, jsons_of};
 
-use crate::rows::{Writing, with_each};
-use crate::with_hex_byte;
+use crate::put_hex_byte;
 use text::Text;
-use text::append::{empty, with_byte, with_bytes};
 
 fn is_printable(b: u8) -> bool
     ensures { result ≡ printable b }
 {
-    matches!(b, 0x20..=0x7e)
+    0x20 <= b && b <= 0x7e
 }
 
-// How a byte is written in a line: by its number where it is a backslash or not printable.
-struct InLine;
+// A byte by its number.
+fn put_code(text: &mut Text, b: u8)
+    requires { length text.old + 4 ≤ 128 }
+    ensures { (length text.new ≤ length text.old + 4) × (text.new ≡ text.old ++ (ascii "\\x" ++ hex_of 2 b)) }
+{
+    text.append(b"\\x");
+    put_hex_byte(text, b);
+}
 
-impl Writing for InLine {
-    ghost of = { escaped_of };
-
-    fn with(t: Text, b: u8) -> Text {
-        if is_printable(b) && b != b'\\' {
-            with_byte(t, b)
-        } else {
-            with_hex_byte(with_bytes(t, b"\\x"), b)
-        }
+fn put_escaped(text: &mut Text, b: u8)
+    requires { length text.old + 4 ≤ 128 }
+    ensures { (length text.new ≤ length text.old + 4) × (text.new ≡ text.old ++ escaped_of b) }
+{
+    if is_printable(b) && b != b'\\' {
+        text.push(b);
+    } else {
+        put_code(text, b);
     }
 }
 
-// How it is written in a JSON string.
-struct InJson;
-
-impl Writing for InJson {
-    ghost of = { json_of };
-
-    fn with(t: Text, b: u8) -> Text {
-        match b {
-            b'"' => with_bytes(t, b"\\\""),
-            b'\\' => with_bytes(t, b"\\\\"),
-            _ if is_printable(b) => with_byte(t, b),
-            _ => with_hex_byte(with_bytes(t, b"\\u00"), b),
-        }
+fn put_json_escaped(text: &mut Text, b: u8)
+    requires { length text.old + 6 ≤ 128 }
+    ensures { (length text.new ≤ length text.old + 6) × (text.new ≡ text.old ++ json_of b) }
+{
+    if !is_printable(b) {
+        text.append(b"\\u00");
+        put_hex_byte(text, b);
+    } else if b == b'"' {
+        text.append(b"\\\"");
+    } else if b == b'\\' {
+        text.append(b"\\\\");
+    } else {
+        text.push(b);
     }
 }
 
 pub fn escaped(b: u8) -> Text
-    ensures { IsPrefixLen result.len result.bytes × (take result.len result.bytes ≡ escaped_of b) }
+    ensures { result ≡ escaped_of b }
 {
-    InLine::with(empty(), b)
+    let mut text = Text::new();
+    put_escaped(&mut text, b);
+    text
 }
 
 pub fn json_escaped(b: u8) -> Text
-    ensures { IsPrefixLen result.len result.bytes × (take result.len result.bytes ≡ json_of b) }
+    ensures { result ≡ json_of b }
 {
-    InJson::with(empty(), b)
+    let mut text = Text::new();
+    put_json_escaped(&mut text, b);
+    text
+}
+
+// A row of bytes, each as it stands in a line or in a JSON string.
+fn row(x: &[u8], json: bool) -> Text
+    requires { length x.now ≤ 16 }
+    ensures { result ≡ row_of (λ b. cond json (json_of b) (escaped_of b)) x.now }
+{
+    let mut text = Text::new();
+    for &b in x {
+        if json {
+            put_json_escaped(&mut text, b);
+        } else {
+            put_escaped(&mut text, b);
+        }
+    }
+    text
 }
 
 pub fn escapes(x: &[u8]) -> Text
     requires { length x.now ≤ 16 }
-    ensures { IsPrefixLen result.len result.bytes × (take result.len result.bytes ≡ escapes_of x.now) }
+    ensures { result ≡ escapes_of x.now }
 {
-    with_each::<InLine>(empty(), x)
+    row(x, false)
 }
 
 pub fn json_escapes(x: &[u8]) -> Text
     requires { length x.now ≤ 16 }
-    ensures { IsPrefixLen result.len result.bytes × (take result.len result.bytes ≡ jsons_of x.now) }
+    ensures { result ≡ jsons_of x.now }
 {
-    with_each::<InJson>(empty(), x)
+    row(x, true)
 }

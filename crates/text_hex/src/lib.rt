@@ -4,15 +4,13 @@
 pub mod escaping; // bytes of unknown meaning
 pub mod rows; // rows of bytes, and UUIDs
 
-ghost use Rattle.std.specs.Prelude.{◌≡◌, ◌++◌, ◌+◌, ◌≤◌, ◌<◌, length, take, get_or};
-ghost use Rattle.io.specs.Counts.{IsPrefixLen};
+ghost use Rattle.std.specs.Prelude.{◌≡◌, ◌++◌, ◌+◌, ◌<◌, ◌≤◌, length};
 ghost use Rattle.text.specs.Ascii.{ascii};
-ghost use Rattle.text_hex.specs.Hexadecimal.{hex_digit, hex_of, mac_of, pci_of, short_pci_of, unpadded_of};
+ghost use Rattle.text_hex.specs.Hexadecimal.{hex_digit, hex_of, unpadded_of, mac_of, pci_of, short_pci_of};
 
 pub use escaping::{escaped, escapes, json_escaped, json_escapes};
-pub use rows::{hexes, uuid, with_hexes};
+pub use rows::{hexes, put_hexes, uuid};
 use text::Text;
-use text::append::{empty, with_byte, with_bytes};
 
 fn hex_digit(d: u64) -> u8
     requires { d < 16 }
@@ -25,72 +23,87 @@ fn hex_digit(d: u64) -> u8
 }
 
 // The last k digits of a number, with zeros in front.
-pub fn with_hex(t: Text, k: usize, n: u64) -> Text
-    requires { IsPrefixLen t.len t.bytes × (t.len + k ≤ 128) }
-    ensures { (result.len ≡ t.len + k) × IsPrefixLen result.len result.bytes × (take result.len result.bytes ≡ take t.len t.bytes ++ hex_of k n) }
+pub fn put_hex(text: &mut Text, k: usize, n: u64)
+    requires { length text.old + k ≤ 128 }
+    ensures { (length text.new ≡ length text.old + k) × (text.new ≡ text.old ++ hex_of k n) }
 {
     if k == 0 {
-        return t;
+        return;
     }
-    with_byte(with_hex(t, k - 1, n / 16), hex_digit(n % 16))
+    put_hex(text, k - 1, n / 16);
+    text.push(hex_digit(n % 16));
 }
 
-pub fn with_hex_byte(t: Text, b: u8) -> Text
-    requires { IsPrefixLen t.len t.bytes × (t.len + 2 ≤ 128) }
-    ensures { (result.len ≡ t.len + 2) × IsPrefixLen result.len result.bytes × (take result.len result.bytes ≡ take t.len t.bytes ++ hex_of 2 b) }
+pub fn put_hex_byte(text: &mut Text, b: u8)
+    requires { length text.old + 2 ≤ 128 }
+    ensures { (length text.new ≡ length text.old + 2) × (text.new ≡ text.old ++ hex_of 2 b) }
 {
-    with_hex(t, 2, u64::from(b))
+    put_hex(text, 2, u64::from(b));
 }
 
 // A number below 65536 without zeros in front.
-pub fn with_unpadded(t: Text, n: u64) -> Text
-    requires { IsPrefixLen t.len t.bytes × (t.len + 4 ≤ 128) × (n < 65536) }
-    ensures { (result.len ≤ t.len + 4) × IsPrefixLen result.len result.bytes × (take result.len result.bytes ≡ take t.len t.bytes ++ unpadded_of n) }
+pub fn put_unpadded(text: &mut Text, n: u64)
+    requires { (length text.old + 4 ≤ 128) × (n < 65536) }
+    ensures { (length text.new ≤ length text.old + 4) × (text.new ≡ text.old ++ unpadded_of n) }
 {
     if n < 16 {
-        return with_hex(t, 1, n);
+        put_hex(text, 1, n);
+    } else if n < 256 {
+        put_hex(text, 2, n);
+    } else if n < 4096 {
+        put_hex(text, 3, n);
+    } else {
+        put_hex(text, 4, n);
     }
-    if n < 256 {
-        return with_hex(t, 2, n);
-    }
-    if n < 4096 {
-        return with_hex(t, 3, n);
-    }
-    with_hex(t, 4, n)
 }
 
-// Byte `i` of an address, behind a colon.
-fn with_next(t: Text, b: &[u8], i: usize) -> Text
-    requires { (t.len + 3 ≤ 128) × (i < length b.now) }
-    ensures { (result.len ≡ t.len + 3) × IsPrefixLen result.len result.bytes × (take result.len result.bytes ≡ take t.len t.bytes ++ ascii ":" ++ hex_of 2 (get_or b.now i 0)) }
+// A byte of an address, behind a colon.
+fn put_next(text: &mut Text, b: u8)
+    requires { length text.old + 3 ≤ 128 }
+    ensures { (length text.new ≡ length text.old + 3) × (text.new ≡ text.old ++ (ascii ":" ++ hex_of 2 b)) }
 {
-    with_hex_byte(with_byte(t, b':'), b[i])
+    text.push(b':');
+    put_hex_byte(text, b);
 }
 
 pub fn mac(b: &[u8]) -> Text
     requires { length b.now ≡ 6 }
-    ensures { IsPrefixLen result.len result.bytes × (take result.len result.bytes ≡ mac_of b.now) }
+    ensures { result ≡ mac_of b.now }
 {
-    let first = with_hex_byte(empty(), b[0]);
-    let third = with_next(with_next(first, b, 1), b, 2);
-    with_next(with_next(with_next(third, b, 3), b, 4), b, 5)
+    let mut text = Text::new();
+    put_hex_byte(&mut text, b[0]);
+    put_next(&mut text, b[1]);
+    put_next(&mut text, b[2]);
+    put_next(&mut text, b[3]);
+    put_next(&mut text, b[4]);
+    put_next(&mut text, b[5]);
+    text
 }
 
 pub fn pci(id: u64) -> Text
-    ensures { IsPrefixLen result.len result.bytes × (take result.len result.bytes ≡ pci_of id) }
+    ensures { result ≡ pci_of id }
 {
-    let segment = with_byte(with_hex(empty(), 4, id / 65536 % 65536), b':');
-    let bus = with_byte(with_hex(segment, 2, id / 256 % 256), b':');
-    let device = with_byte(with_hex(bus, 2, id / 8 % 32), b'.');
-    with_hex(device, 1, id % 8)
+    let mut text = Text::new();
+    put_hex(&mut text, 4, id / 65536 % 65536);
+    text.push(b':');
+    put_hex(&mut text, 2, id / 256 % 256);
+    text.push(b':');
+    put_hex(&mut text, 2, id / 8 % 32);
+    text.push(b'.');
+    put_hex(&mut text, 1, id % 8);
+    text
 }
 
 // As nvme-cli prints it: no zeros in front, and 0 for every segment, since it hands the routing ID on in 16 bits.
 pub fn short_pci(id: u64) -> Text
-    ensures { IsPrefixLen result.len result.bytes × (take result.len result.bytes ≡ short_pci_of id) }
+    ensures { result ≡ short_pci_of id }
 {
-    let segment = with_bytes(empty(), b"0:");
-    let bus = with_byte(with_unpadded(segment, id / 256 % 256), b':');
-    let device = with_byte(with_unpadded(bus, id / 8 % 32), b'.');
-    with_unpadded(device, id % 8)
+    let mut text = Text::new();
+    text.append(b"0:");
+    put_unpadded(&mut text, id / 256 % 256);
+    text.push(b':');
+    put_unpadded(&mut text, id / 8 % 32);
+    text.push(b'.');
+    put_unpadded(&mut text, id % 8);
+    text
 }

@@ -1,5 +1,5 @@
 use mathlib.Core.Path.{◌≡◌, refl, ap, ap₂, ◌∙◌}
-use lib.Dec.{lit≤}
+use lib.Dec.{lit≤, lit<}
 use Rattle.table.specs.declared.Need.TheVariants.{Optional}
 use Rattle.table.specs.Layout.{text}
 use Rattle.table.specs.FixedLayouts.{layout_of, discovery}
@@ -17,28 +17,28 @@ use Rattle.builder_discovery.proofs.discovery.Goals as goal
 -- what was answered, by the objects
 judged-is : (c : After-judged-answer) →
     c.judged-answer.result
-    ≡ first_fail (judge_tests (layout_of 6) c.args.state (image_in (layout_of 6) c.mark_32-marked.result 0) 0
+    ≡ first_fail (judge_tests (layout_of 6) c.args.state (image_in (layout_of 6) c.mark_whole-marked.result 0) 0
     (first_of (told_fault Optional text c.args.address.now) (told_fault Optional text c.args.nqn.now)))
 judged-is c =
     c.judged-answer.ensures
     ∙ ap (λ (f : ℕ). first_fail (judge_tests (layout_of 6)
     c.args.state
-    (image_in (layout_of 6) c.mark_32-marked.result 0) 0 f)) (c.first_of-fault.ensures
+    (image_in (layout_of 6) c.mark_whole-marked.result 0) 0 f)) (c.first_of-fault.ensures
     ∙ ap₂ (λ (x y : ℕ). first_of x y) c.fits_text.ensures c.fits_text-2.ensures)
 
-pub mark_32-marked-requires : goal.mark_32-marked-requires
+pub mark_whole-marked-requires : goal.mark_whole-marked-requires
 unfolding layout_of discovery
-mark_32-marked-requires c = (refl, refl)
+mark_whole-marked-requires c = (lit< tt, (refl, refl))
 
 pub judged-answer-requires : goal.judged-answer-requires
 unfolding layout_of discovery
-judged-answer-requires c = (lit≤ tt, lit≤ tt, c.mark_32-marked.ensures.2)
+judged-answer-requires c = (lit≤ tt, lit≤ tt, c.mark_whole-marked.ensures.2)
 
 pub returns-then-answer-ne0 : goal.returns-then-answer-ne0
 returns-then-answer-ne0 c =
     let t = discovery-refused c.args.state c.args.out.now c.args.told.bytes
-    c.mark_32-marked.result c.args.address.now c.args.nqn.now c.judged-answer.result
-    c.mark_32-marked.ensures.0 (judged-is (goal.at.returns-then-answer-ne0 c).After-judged-answer) c.if-answer-ne0.true in (
+    c.mark_whole-marked.result c.args.address.now c.args.nqn.now c.judged-answer.result
+    c.mark_whole-marked.ensures.0 (judged-is (goal.at.returns-then-answer-ne0 c).After-judged-answer) c.if-answer-ne0.true in (
       step_is c.refused.result c.judged-answer.result c.args.state c.refused.ensures.0
           c.refused.ensures.1
           ∙ t.0,
@@ -49,15 +49,15 @@ pub lay_discovery-requires : goal.lay_discovery-requires
 unfolding discovery
 lay_discovery-requires c =
     let p = discovery-passed c.args.state c.args.out.now c.args.told.bytes
-    c.mark_32-marked.result c.args.address.now c.args.nqn.now c.judged-answer.result
-    c.mark_32-marked.ensures.0 (judged-is (goal.at.lay_discovery-requires c).After-judged-answer) c.if-answer-ne0.false in
-    (p.0, c.mark_32-marked.ensures.2, p.1, p.2)
+    c.mark_whole-marked.result c.args.address.now c.args.nqn.now c.judged-answer.result
+    c.mark_whole-marked.ensures.0 (judged-is (goal.at.lay_discovery-requires c).After-judged-answer) c.if-answer-ne0.false in
+    (p.0, c.mark_whole-marked.ensures.2, p.1, p.2)
 
 pub returns : goal.returns
 returns c =
     let d = discovery-done c.args.state c.args.out.now c.args.told.bytes
-    c.mark_32-marked.result c.args.address.now c.args.nqn.now c.judged-answer.result
-    c.mark_32-marked.ensures.0 (judged-is (goal.at.returns c).After-judged-answer) c.if-answer-ne0.false in (
+    c.mark_whole-marked.result c.args.address.now c.args.nqn.now c.judged-answer.result
+    c.mark_whole-marked.ensures.0 (judged-is (goal.at.returns c).After-judged-answer) c.if-answer-ne0.false in (
       c.lay_discovery.ensures.0 ∙ ap (λ (o : Outcome). o.step) d,
       c.lay_discovery.ensures.1 ∙ ap (λ (o : Outcome). o.buffer) d,
     )

@@ -1,12 +1,6 @@
-use mathlib.Core.Path.{◌≡◌, ap, ◌∙◌}
-use mathlib.Core.List.{List, ◌++◌}
-use Prim.Native.Nat.{ℕ}
-use native.Mathlib.Omega.{arith}
+use Rattle.std.proofs.Common.{arith, ◌≡◌, refl}
 use borrow.Author.Tests.{eq-eqb, ne_eqb}
-use lib.ListN.{take}
-use Rattle.text.specs.Ascii.{ascii}
-use Rattle.text.proofs.Laws.{behind-none}
-use Rattle.text_addresses.specs.Addresses.{groups, zeros_first, quad_of, address_of}
+use Rattle.text_addresses.specs.Addresses.{groups, zeros_first, address_of}
 use Rattle.text_addresses.proofs.Groups.{eight, runs_fit, runs-right}
 use Rattle.text_addresses.proofs.address.Goals.{After-runs_in-runs}
 use Rattle.text_addresses.proofs.address.Goals as goal
@@ -19,22 +13,13 @@ is_mapped-requires c = (c.requires, zeros (goal.at.is_mapped-requires c).After-r
 
 pub returns-then-is_mapped : goal.returns-then-is_mapped
 unfolding address_of
-returns-then-is_mapped c =
-    let e = c.empty in (
-      c.with_quad.ensures.0,
-      rw (← c.is_mapped.ensures, c.if-is_mapped.true)
-          (cc (behind-none (take e.result.len e.result.bytes) (quad_of c.args.b.now) e.ensures.2)),
-    )
+returns-then-is_mapped c = rw (← c.is_mapped.ensures, c.if-is_mapped.true, c.put_quad.ensures, c.new-text.ensures) refl
 
-pub returns-then-runs-eq6 : goal.returns-then-runs-eq6
+pub returns-then-first-eq6 : goal.returns-then-first-eq6
 unfolding address_of
-returns-then-runs-eq6 c =
-    let e = c.empty-then-runs-eq6 in
-    let colons-alone = c.with_bytes.ensures.2 ∙ behind-none (take e.result.len e.result.bytes) (ascii "::") e.ensures.2 in (
-      c.with_quad-then-runs-eq6.ensures.0,
-      rw (← c.is_mapped.ensures, c.if-is_mapped.false, ← zeros (goal.at.returns-then-runs-eq6 c).After-runs_in-runs, eq-eqb c.runs_in-runs.result.first 6 c.if-runs-eq6.true)
-          (c.with_quad-then-runs-eq6.ensures.1 ∙ ap (λ (colons : List ℕ). colons ++ quad_of c.args.b.now) colons-alone),
-    )
+returns-then-first-eq6 c =
+    let place = zeros (goal.at.returns-then-first-eq6 c).After-runs_in-runs in
+    rw (← c.is_mapped.ensures, c.if-is_mapped.false, ← place, eq-eqb c.runs_in-runs.result.first 6 c.if-first-eq6.true, c.put_quad-then-first-eq6.ensures, c.append.ensures, c.new-text.ensures) refl
 
 pub six-requires : goal.six-requires
 six-requires c =
@@ -45,12 +30,6 @@ six-requires c =
 
 pub returns : goal.returns
 unfolding address_of
-returns c = (
-  c.six.ensures.0,
-  rw (
-    ← c.is_mapped.ensures,
-    c.if-is_mapped.false,
-    ← zeros (goal.at.returns c).After-runs_in-runs,
-    ne_eqb c.runs_in-runs.result.first 6 c.if-runs-eq6.false,
-  ) c.six.ensures.1,
-)
+returns c =
+    let place = zeros (goal.at.returns c).After-runs_in-runs in
+    rw (← c.is_mapped.ensures, c.if-is_mapped.false, ← place, ne_eqb c.runs_in-runs.result.first 6 c.if-first-eq6.false) c.six.ensures

@@ -1,6 +1,5 @@
-use mathlib.Core.Path.{refl}
-use native.Mathlib.Omega.{arith}
-use lib.ListN.{drop, length-drop, drop_of_length-le}
+use Rattle.std.proofs.Common.{arith, refl, drop, length-drop}
+use lib.ListN.{drop_of_length-le}
 use Rattle.text_addresses.specs.Runs.{runs_of}
 use Rattle.text_addresses.specs.Addresses.{groups}
 use Rattle.text_addresses.proofs.Groups.{eight, runs_fit, runs-next}
@@ -21,4 +20,10 @@ joined_runs-r-requires c =
 pub loop-i-preserved : goal.loop-i-preserved
 loop-i-preserved c =
     let b = c.args.b.now in
-    cc (runs-next (groups b) c.loop-i.i c.loop-i-test.true (omega (arith, eight b c.requires)))
+    let i = c.loop-i.i in
+    cc (
+      c.joined_runs-r.ensures,
+      c.group_at.ensures.0,
+      c.loop-i.invariant,
+      runs-next (groups b) i c.loop-i-test.true (omega (arith, c.loop-i.auto.i, eight b c.requires)),
+    )

@@ -1,5 +1,4 @@
-use mathlib.Core.Path.{◌≡◌}
-use lib.ListN.{drop}
+use Rattle.std.proofs.Common.{◌≡◌, drop}
 use Rattle.text_addresses.specs.Runs.{runs_of}
 use Rattle.text_addresses.specs.Addresses.{groups}
 use Rattle.text_addresses.proofs.runs_in.Given as goal

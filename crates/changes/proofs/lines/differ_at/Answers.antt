@@ -11,13 +11,19 @@ pub returns-then-one-at : goal.returns-then-one-at
 returns-then-one-at c =
     let l = c.loop-at in
     let a = c.args in
-    omega (arith, differ-here a.one.now a.other.now l.at c.loop-at-test.true l.invariant.0 c.if-at-other.false c.if-one-at.true)
+    omega (
+      arith,
+      differ-here a.one.now a.other.now l.at c.loop-at-test.true l.invariant.0 c.if-at-other.false c.if-one-at.true,
+    )
 
 pub loop-at-preserved : goal.loop-at-preserved
 loop-at-preserved c =
     let l = c.loop-at in
     let a = c.args in
-    omega (arith, differ-on a.one.now a.other.now l.at c.loop-at-test.true l.invariant.0 c.if-at-other.false c.if-one-at.false)
+    omega (
+      arith,
+      differ-on a.one.now a.other.now l.at c.loop-at-test.true l.invariant.0 c.if-at-other.false c.if-one-at.false,
+    )
 
 pub returns : goal.returns
 returns c =

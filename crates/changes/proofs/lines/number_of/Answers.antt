@@ -1,6 +1,4 @@
-use mathlib.Core.Path.{◌≡◌, ap, sym}
-use Prim.Native.Nat.{◌<◌}
-use native.Mathlib.Omega.{arith}
+use Rattle.std.proofs.Common.{arith, ◌≡◌, ap, sym, ◌<◌}
 use lib.Seq.{drop-length}
 use Rattle.table.specs.Bytes.{val}
 use Rattle.changes.proofs.LineLaws.{val-down, val-small}
@@ -10,8 +8,11 @@ use Rattle.changes.proofs.lines.number_of.Goals as goal
 pub loop-i-init : goal.loop-i-init
 loop-i-init c = sym (ap val (drop-length c.args.x.now))
 
+-- One of four bytes leaves room for the next step.
 small : (c : After-wide) → c.loop-i.number < 4294967296
-small c = let l = c.loop-i in omega (arith, l.invariant, val-small c.args.x.now l.i c.requires (λ j. omega (arith, c.type_inv.x j)))
+small c =
+    let l = c.loop-i in
+    omega (arith, l.invariant, val-small c.args.x.now l.i c.requires (λ j. omega (arith, c.type_inv.x j)))
 
 pub overflow_mul-number : goal.overflow_mul-number
 overflow_mul-number c = omega (arith, small (goal.at.overflow_mul-number c).After-wide)
@@ -22,5 +23,9 @@ overflow_add-number c = omega (arith, small (goal.at.overflow_add-number c).Afte
 pub loop-i-preserved : goal.loop-i-preserved
 loop-i-preserved c =
     let l = c.loop-i in
-    let some : l.i ≡ 0 → ⊥ = omega (arith, c.loop-i-test.true) in
-    omega (arith, c.wide.ensures.0, val-down c.args.x.now l.i (omega arith) some)
+    omega (arith, c.wide.ensures.0, l.invariant, val-down c.args.x.now l.i l.auto.i (omega (arith, c.loop-i-test.true)))
+
+pub returns : goal.returns
+returns c =
+    let none : c.loop-i.i ≡ 0 = omega (arith, c.loop-i-test.false) in
+    rw none at c.loop-i.invariant

@@ -1,19 +1,12 @@
-use mathlib.Core.List.{◌++◌, append_assoc}
-use lib.ListN.{take}
-use borrow.Author.Rules.{rules}
-use Rattle.text.proofs.Laws.{behind-none}
-use Rattle.text.specs.Numerals.{numeral}
+use Rattle.std.proofs.Common.{arith, ◌≡◌, ◌++◌, ap, length, append_assoc}
 use Rattle.text.specs.Ascii.{ascii}
+use Rattle.text.specs.Numerals.{numeral}
 use Rattle.changes.proofs.lines.place_columns.Goals as goal
 
 pub returns : goal.returns
 returns c =
     let a = c.args in
-    let e = c.empty in (
-      search rules,
-      c.with_column-2.ensures.1,
-      cc (
-        behind-none (take e.result.len e.result.bytes) (numeral a.kind ++ ascii " ") e.ensures.2,
-        append_assoc (numeral a.kind) (ascii " ") (numeral a.position ++ ascii " "),
-      ),
+    let first : c.put_column.new.text ≡ numeral a.kind ++ ascii " " = rw c.new-text.ensures at c.put_column.ensures.1 in (
+      omega (arith, c.put_column.ensures.0, c.put_column-2.ensures.0, ap length c.new-text.ensures),
+      cc (c.put_column-2.ensures.1, first, append_assoc (numeral a.kind) (ascii " ") (numeral a.position ++ ascii " ")),
     )

@@ -1,4 +1,5 @@
-use mathlib.Core.Path.{◌≡◌, ◌∙◌}
+use mathlib.Core.Path.{◌≡◌, refl, ◌∙◌}
+use lib.Dec.{lit≤}
 use native.Mathlib.Omega.{arith}
 use lib.ListN.{get_or-eq_default}
 use Rattle.show_table.specs.Shown.{Line, lines, line_at, no_line}
@@ -9,7 +10,7 @@ pub returns-then-i-ge100 : goal.returns-then-i-ge100
 unfolding lines
 returns-then-i-ge100 c =
     let e : line_at c.args.i ≡ no_line = get_or-eq_default lines no_line c.if-i-ge100.true in
-    (omega (arith, c.empty.ensures.0), c.empty.ensures.1, rw e c.empty.ensures.2)
+    rw (c.new.ensures, e) (lit≤ tt, refl)
 
 pub name_at-requires : goal.name_at-requires
 unfolding lines
@@ -19,4 +20,4 @@ pub returns : goal.returns
 unfolding lines
 returns c =
     let right = names-right (λ (l : Line). l.key) _ lines tt c.args.i (omega (arith, c.if-i-ge100.false)) in
-    (c.name_at.ensures.0, c.name_at.ensures.1, c.name_at.ensures.2 ∙ right.0)
+    (rw c.name_at.ensures right.1, c.name_at.ensures ∙ right.0)

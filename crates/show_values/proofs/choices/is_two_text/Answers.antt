@@ -7,10 +7,10 @@ pub returns-then-bits_of-eq2 : goal.returns-then-bits_of-eq2
 unfolding is_two_of
 returns-then-bits_of-eq2 c =
     let bits = c.bits_of.ensures ∙ ap (bits_of c.args.weight 4) c.number_of.ensures.0 in
-    (c.decimal.ensures.0, rw (eq-eqb _ _ (sym bits ∙ c.if-bits_of-eq2.true)) c.decimal.ensures.1)
+    rw (eq-eqb _ _ (sym bits ∙ c.if-bits_of-eq2.true)) c.decimal.ensures.1
 
 pub returns : goal.returns
 unfolding is_two_of
 returns c =
     let bits = c.bits_of.ensures ∙ ap (bits_of c.args.weight 4) c.number_of.ensures.0 in
-    (c.decimal-2.ensures.0, rw (ne_eqb _ _ (λ e. c.if-bits_of-eq2.false (bits ∙ e))) c.decimal-2.ensures.1)
+    rw (ne_eqb _ _ (λ e. c.if-bits_of-eq2.false (bits ∙ e))) c.decimal-2.ensures.1

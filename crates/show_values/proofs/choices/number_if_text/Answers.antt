@@ -8,10 +8,10 @@ pub returns-then-bits_of-eq1 : goal.returns-then-bits_of-eq1
 unfolding number_if_of
 returns-then-bits_of-eq1 c =
     let bits = c.bits_of.ensures ∙ ap (bits_of c.args.weight 2) c.number_of.ensures.0 in
-    (c.decimal.ensures.0, rw (eq-eqb _ _ (sym bits ∙ c.if-bits_of-eq1.true)) (c.decimal.ensures.1 ∙ ap numeral c.number_of-then-bits_of-eq1.ensures.0))
+    rw (eq-eqb _ _ (sym bits ∙ c.if-bits_of-eq1.true)) (c.decimal.ensures.1 ∙ ap numeral c.number_of-then-bits_of-eq1.ensures.0)
 
 pub returns : goal.returns
 unfolding number_if_of
 returns c =
     let bits = c.bits_of.ensures ∙ ap (bits_of c.args.weight 2) c.number_of.ensures.0 in
-    (c.decimal-2.ensures.0, rw (ne_eqb _ _ (λ e. c.if-bits_of-eq1.false (bits ∙ e))) c.decimal-2.ensures.1)
+    rw (ne_eqb _ _ (λ e. c.if-bits_of-eq1.false (bits ∙ e))) c.decimal-2.ensures.1

@@ -7,10 +7,10 @@ pub returns-then-bits_of-eq1 : goal.returns-then-bits_of-eq1
 unfolding server_of
 returns-then-bits_of-eq1 c =
     let bits = c.bits_of.ensures ∙ ap (bits_of c.args.weight 2) c.number_of.ensures.0 in
-    (c.address.ensures.0, rw (eq-eqb _ _ (sym bits ∙ c.if-bits_of-eq1.true)) c.address.ensures.1)
+    rw (eq-eqb _ _ (sym bits ∙ c.if-bits_of-eq1.true)) c.address.ensures
 
 pub returns : goal.returns
 unfolding server_of
 returns c =
     let bits = c.bits_of.ensures ∙ ap (bits_of c.args.weight 2) c.number_of.ensures.0 in
-    (c.empty.ensures.1, rw (ne_eqb _ _ (λ e. c.if-bits_of-eq1.false (bits ∙ e))) c.empty.ensures.2)
+    rw (ne_eqb _ _ (λ e. c.if-bits_of-eq1.false (bits ∙ e))) c.new.ensures

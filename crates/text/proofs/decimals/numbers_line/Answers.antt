@@ -1,12 +1,7 @@
-use Rattle.text.specs.Numerals.{numeral, numbers_line}
-use Rattle.text.proofs.Laws.{behind-none}
-use lib.ListN.{take}
+use Rattle.text.specs.Numerals.{numbers_line}
+use Rattle.std.proofs.Common.{refl, append_assoc}
 use Rattle.text.proofs.decimals.numbers_line.Goals as goal
 
 pub returns : goal.returns
 unfolding numbers_line
-returns c = (
-  c.with_byte.ensures.1,
-  cc (behind-none (take c.empty.result.len c.empty.result.bytes) (numeral c.args.a)
-      c.empty.ensures.2),
-)
+returns c = simp (c.push-3.ensures, c.put_number-3.ensures.1, c.push-2.ensures, c.put_number-2.ensures.1, c.push.ensures, c.put_number.ensures.1, c.new-text.ensures, append_assoc) refl

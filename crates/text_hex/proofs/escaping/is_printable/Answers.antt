@@ -1,15 +1,12 @@
 use Rattle.text_hex.specs.Escapes.{printable}
-use Rattle.text.proofs.Rules.{picks}
+use borrow.Author.Tests.{le-leb, lt-leb}
+use Rattle.std.proofs.Common.{refl}
 use Rattle.text_hex.proofs.escaping.is_printable.Goals as goal
 
-pub returns-in-32-to-126 : goal.returns-in-32-to-126
+pub returns-then-b-ge32 : goal.returns-then-b-ge32
 unfolding printable
-returns-in-32-to-126 c = search picks
+returns-then-b-ge32 c = rw (le-leb 0x20 c.args.b c.if-b-ge32.true) refl
 
-pub returns-in_default : goal.returns-in_default
+pub returns-else-b-ge32 : goal.returns-else-b-ge32
 unfolding printable
-returns-in_default c = search picks
-
-pub returns-in_default-2 : goal.returns-in_default-2
-unfolding printable
-returns-in_default-2 c = search picks
+returns-else-b-ge32 c = rw (lt-leb 0x20 c.args.b c.if-b-ge32.false) refl

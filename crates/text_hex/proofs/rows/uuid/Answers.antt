@@ -1,12 +1,9 @@
-use Rattle.text.proofs.Laws.{behind-none}
-use lib.ListN.{take}
-use Rattle.text_hex.specs.Hexadecimal.{hexes_of, uuid_of}
+use Rattle.std.proofs.Common.{refl, append_assoc}
+use Rattle.text_hex.specs.Hexadecimal.{uuid_of}
 use Rattle.text_hex.proofs.rows.uuid.Goals as goal
 
 pub returns : goal.returns
 unfolding uuid_of
 returns c =
-    let e = c.empty.result in (
-      c.with_next_part-3.ensures.1,
-      cc (behind-none (take e.len e.bytes) (hexes_of (take 4 c.args.b.now)) c.empty.ensures.2),
-    )
+    simp (c.put_dashed-4.ensures.1, c.put_dashed-3.ensures.1, c.put_dashed-2.ensures.1, c.put_dashed.ensures.1, c.put_hexes.ensures.1, c.new-text.ensures, append_assoc)
+    refl
