@@ -72,9 +72,9 @@ fn position_lines(t: &[u8], u: &[u8], kind: u8, position: usize, out: &mut [u8])
         if position <= count_of(u, kind) {
             return pair_lines(t, u, kind, position, out);
         }
-        return put_text(out, 0, only_line(kind, position, 1));
+        return put_text(out, 0, &only_line(kind, position, 1));
     }
-    put_text(out, 0, only_line(kind, position, 2))
+    put_text(out, 0, &only_line(kind, position, 2))
 }
 
 // What stands at a place, from the buffer's first byte on.

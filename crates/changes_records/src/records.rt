@@ -1,6 +1,5 @@
 // The lines of two records of one kind and position: fields and objects by ascending offset, then the heap record that they name.
 ghost use Rattle.std.specs.Prelude.{◌≡◌, ◌++◌, ◌+◌, ◌≤◌, ◌<◌, length, take};
-ghost use Rattle.io.specs.Counts.{IsPrefixLen};
 ghost use Rattle.table.specs.Layout.{base_of};
 ghost use Rattle.table.specs.FixedLayouts.{layout_of};
 ghost use Rattle.reader.specs.Accepted.{Accepted};
@@ -14,15 +13,14 @@ use changes::lines::{differ_at, field_line, object_line};
 use reads::objects::whole_object;
 use reads::records::record_in;
 use text::Text;
-use text::append::empty;
 
 // A field's line where its two values differ.
 fn field_text(kind: u8, position: usize, offset: usize, one: &[u8], other: &[u8]) -> Text
     requires { (position < 65536) × (offset < 256) × (length one.now ≤ 16) × (length other.now ≤ 16) }
-    ensures { IsPrefixLen result.len result.bytes × (take result.len result.bytes ≡ texts_of (field_line kind position offset one.now other.now)) }
+    ensures { result ≡ texts_of (field_line kind position offset one.now other.now) }
 {
     if check::same(one, other) {
-        return empty();
+        return Text::new();
     }
     field_line(kind, position, offset, one, other)
 }
@@ -30,12 +28,12 @@ fn field_text(kind: u8, position: usize, offset: usize, one: &[u8], other: &[u8]
 // An object's line where the two objects differ, terminators and all.
 fn object_text(t: &[u8], u: &[u8], kind: u8, position: usize, offset: usize) -> Text
     requires { Accepted t.now × Accepted u.now × (position < 65536) × (offset < 256) }
-    ensures { IsPrefixLen result.len result.bytes × (take result.len result.bytes ≡ texts_of (object_line kind position offset (object_in t.now kind position offset) (object_in u.now kind position offset))) }
+    ensures { result ≡ texts_of (object_line kind position offset (object_in t.now kind position offset) (object_in u.now kind position offset)) }
 {
     let one = whole_object(t, kind, position, offset);
     let other = whole_object(u, kind, position, offset);
     if check::same(one, other) {
-        return empty();
+        return Text::new();
     }
     let at = differ_at(one, other);
     object_line(kind, position, offset, one.len(), other.len(), at)
@@ -52,7 +50,7 @@ fn offset_text(
     other: &[u8],
 ) -> Text
     requires { Accepted t.now × Accepted u.now × (position < 65536) × (offset < 256) × (base_of (layout_of kind) ≤ length one.now) × (base_of (layout_of kind) ≤ length other.now) }
-    ensures { IsPrefixLen result.len result.bytes × (take result.len result.bytes ≡ texts_of (offset_lines kind position (layout_of kind).shape.fields one.now other.now (plain_lines t.now u.now kind position) offset)) }
+    ensures { result ≡ texts_of (offset_lines kind position (layout_of kind).shape.fields one.now other.now (plain_lines t.now u.now kind position) offset) }
 {
     let width = layout_fields::field_width(kind, offset);
     if width != 0 {
@@ -68,18 +66,16 @@ fn offset_text(
     if layout_fields::has_object(kind, offset) {
         return object_text(t, u, kind, position, offset);
     }
-    empty()
+    Text::new()
 }
 
 // A text behind the first `at` bytes of `out`; how many are then taken.
-pub fn put_text(out: &mut [u8], at: usize, text: Text) -> usize
-    requires { IsPrefixLen text.len text.bytes × (at + 128 ≤ length out.old) }
-    ensures { (result ≡ at + text.len) × (result ≤ at + 128) × (take result out.new ≡ take at out.old ++ take text.len text.bytes) × (length out.new ≡ length out.old) }
+pub fn put_text(out: &mut [u8], at: usize, text: &Text) -> usize
+    requires { at + 128 ≤ length out.old }
+    ensures { (result ≡ at + length text.now) × (result ≤ at + 128) × (take result out.new ≡ take at out.old ++ text.now) × (length out.new ≡ length out.old) }
 {
-    let len = text.len;
-    let bytes = text.bytes;
-    let end = at + len;
-    copy_into(out, at, &bytes[..len]);
+    let end = at + text.len();
+    copy_into(out, at, text.as_bytes());
     end
 }
 
@@ -98,11 +94,9 @@ fn image_lines(
     ensures { (from ≤ result) × (result ≤ from + 16384) × (take result out.new ≡ take from out.old ++ texts_of (record_lines kind position (layout_of kind).shape one.now other.now (plain_lines t.now u.now kind position))) × (length out.new ≡ length out.old) }
 {
     let mut at = from;
-    let mut offset: usize = 0;
-    while offset < one.len() {
+    for offset in 0..one.len() {
         let text = offset_text(t, u, kind, position, offset, one, other);
-        at = put_text(out, at, text);
-        offset += 1;
+        at = put_text(out, at, &text);
     }
     at
 }

@@ -43,10 +43,10 @@ fn held_lines(t: &[u8], u: &[u8], kind: u8, position: usize, out: &mut [u8], fro
         if other {
             return level_of(own_lines(t, u, kind, position, out, from), true);
         }
-        return level_of(put_text(out, from, only_line(kind, position, 1)), false);
+        return level_of(put_text(out, from, &only_line(kind, position, 1)), false);
     }
     if other {
-        return level_of(put_text(out, from, only_line(kind, position, 2)), false);
+        return level_of(put_text(out, from, &only_line(kind, position, 2)), false);
     }
     level_of(from, false)
 }
@@ -92,10 +92,10 @@ pub fn pair_lines(t: &[u8], u: &[u8], kind: u8, position: usize, out: &mut [u8])
         if y.used {
             return whole_lines(t, u, kind, position, out);
         }
-        return put_text(out, 0, used_line(kind, position, 1));
+        return put_text(out, 0, &used_line(kind, position, 1));
     }
     if y.used {
-        return put_text(out, 0, used_line(kind, position, 2));
+        return put_text(out, 0, &used_line(kind, position, 2));
     }
     0
 }

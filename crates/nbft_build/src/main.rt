@@ -43,7 +43,7 @@ fn build_file<R: Env + Files>(rt: &R, from: usize, to: usize) {
 fn write_table<R: Env + Files>(rt: &R, to: usize, out: &[u8], len: usize) {
     if len <= out.len() {
         if tool::write_file(rt, to, &out[0..len]) {
-            tool::print(text::decimal(len as u64));
+            tool::print(&text::decimal(len as u64));
             tool::print_bytes(b" bytes\n");
         }
     }

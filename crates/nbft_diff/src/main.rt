@@ -15,15 +15,13 @@ fn complain_of<R: Env>(rt: &R, argument: usize, a: Answer) {
     let mut path = io::buffer();
     let n = tool::argument_bytes(rt, argument, &mut path);
     let words = tool::answer_words(a);
-    let len = words.len;
-    let bytes = words.bytes;
     tool::complain(&path[..n], b": ");
-    tool::complain(&bytes[..len], b"");
+    tool::complain(words.as_bytes(), b"");
 }
 
 fn print_refusal<R: Env>(rt: &R, argument: usize, a: Answer) {
     if a.number != 0 {
-        tool::print(tool::answer_line(a));
+        tool::print(&tool::answer_line(a));
         complain_of(rt, argument, a);
     }
 }

@@ -6,7 +6,7 @@ use table::Answer;
 use tool::{MOST, print_answer, print_bytes};
 
 fn print_length(len: usize) {
-    tool::print(text::decimal(len as u64));
+    tool::print(&text::decimal(len as u64));
     print_bytes(b" bytes\n");
 }
 

@@ -1,6 +1,5 @@
 // Bytes of any number, printed sixteen at a time. What is printed has its width returned, and where nothing is to be printed, the width alone.
 ghost use Rattle.std.specs.Prelude.{◌+◌, ◌≤◌, ◌<◌, length};
-ghost use Rattle.io.specs.Counts.{IsPrefixLen};
 
 use text::Text;
 use tool::print;
@@ -26,19 +25,15 @@ pub fn wider(width: usize, more: usize) -> usize {
     width + more
 }
 
-pub fn put(t: Text, out: bool) -> usize
-    requires { IsPrefixLen t.len t.bytes }
-{
-    let len = t.len;
+pub fn put(text: &Text, out: bool) -> usize {
     if out {
-        print(t);
+        print(text);
     }
-    len
+    text.len()
 }
 
 fn piece(x: &[u8], style: Style) -> Text
     requires { length x.now ≤ 16 }
-    ensures { IsPrefixLen result.len result.bytes }
 {
     match style {
         Style::Digits => text_hex::hexes(x),
@@ -50,7 +45,7 @@ fn piece(x: &[u8], style: Style) -> Text
 pub fn put_bytes(x: &[u8], style: Style, out: bool) -> usize {
     let mut width = 0;
     for part in x.chunks(16) {
-        width = wider(width, put(piece(part, style), out));
+        width = wider(width, put(&piece(part, style), out));
     }
     width
 }

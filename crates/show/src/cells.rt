@@ -1,6 +1,5 @@
 // The value of a row for people. Each is printed where it is asked for, and its width returned in any case.
 ghost use Rattle.std.specs.Prelude.{◌<◌, ◌≤◌, length};
-ghost use Rattle.io.specs.Counts.{IsPrefixLen};
 
 use crate::bytes::{Style, before_final_zero, put, put_bytes};
 use crate::numbers::put_numbers;
@@ -16,12 +15,11 @@ use show_values::choices::bits_of;
 use show_values::kinds::is_null;
 use table::Field;
 use text::Text;
-use text::append::{empty, with_bytes};
 
 fn put_word(word: &[u8], out: bool) -> usize
     requires { length word.now ≤ 16 }
 {
-    put(with_bytes(empty(), word), out)
+    put(&Text::of(word), out)
 }
 
 // Whether a choice of a field, which counts by the row's weight, is any but 0: one of two for a bit, one of four for two bits.
@@ -57,7 +55,7 @@ fn put_characters(cell: Cell<'_>, out: bool) -> usize {
 // What is long enough for an address is one.
 fn put_reached(x: &[u8], out: bool) -> usize {
     if 16 <= x.len() {
-        return put(text_addresses::address(&x[0..16]), out);
+        return put(&text_addresses::address(&x[0..16]), out);
     }
     put_bytes(x, Style::Characters, out)
 }
@@ -87,7 +85,7 @@ fn put_field(cell: Cell<'_>, out: bool) -> usize {
     if cell.row.form == OR_OUT && n == 0 {
         return put_word(b"none", out);
     }
-    put(text_in(cell), out)
+    put(&text_in(cell), out)
 }
 
 pub fn put_cell(cell: Cell<'_>, out: bool) -> usize {
@@ -95,7 +93,7 @@ pub fn put_cell(cell: Cell<'_>, out: bool) -> usize {
         return put_object(cell, out);
     }
     match cell.row.form {
-        POSITION => put(text::decimal(cell.position as u64), out),
+        POSITION => put(&text::decimal(cell.position as u64), out),
         FLAG => put_flag(is_set(cell, 2), out),
         NAME => put_name(field_of(cell), out),
         TEXT | BYTES_TEXT => put_characters(cell, out),
@@ -108,10 +106,8 @@ fn is_object_or_text(form: u64) -> bool {
 }
 
 // Nothing, 0, and the address of zeros.
-fn is_silent(t: Text) -> bool
-    requires { IsPrefixLen t.len t.bytes }
-{
-    matches!(&t.bytes[..t.len], [] | [b'0'] | [b':', b':'])
+fn is_silent(text: &Text) -> bool {
+    matches!(text.as_bytes(), [] | [b'0'] | [b':', b':'])
 }
 
 // Whether a row says anything of a record: what is absent, zero or not set does not.
@@ -122,6 +118,6 @@ pub fn says_something(cell: Cell<'_>) -> bool {
     match cell.row.form {
         FLAG => is_set(cell, 2),
         PRIMARY | AVAILABILITY | WANTED | CHOSEN => is_set(cell, 4),
-        _ => !is_silent(text_in(cell)),
+        _ => !is_silent(&text_in(cell)),
     }
 }

@@ -22,7 +22,7 @@ const LISTED_AT: usize = 4;
 fn print_key(i: usize, first: bool, depth: usize) {
     print_part_start(first, depth);
     print_bytes(b"\"");
-    print(key_at(i));
+    print(&key_at(i));
     print_bytes(b"\":");
 }
 
@@ -89,7 +89,7 @@ fn print_unused(t: &[u8], kind: u8)
         kind,
         false,
         LISTED_AT,
-        |position| print(text::decimal(position as u64)),
+        |position| print(&text::decimal(position as u64)),
     );
 }
 
@@ -141,7 +141,7 @@ fn print_words(line: &[u8]) {
 fn print_number_of(key: &[u8], n: u64) {
     print_line_start(INNER);
     print_bytes(key);
-    print(text::decimal(n));
+    print(&text::decimal(n));
     print_bytes(b",");
 }
 
@@ -154,8 +154,7 @@ fn print_refused(a: Answer) {
     print_number_of(b"\"position\":", a.position as u64);
     print_line_start(INNER);
     print_bytes(b"\"words\":");
-    let words = tool::answer_words(a);
-    print_words(&words.bytes[..words.len]);
+    print_words(tool::answer_words(a).as_bytes());
     print_line_start(OUTER);
     print_bytes(b"}");
 }

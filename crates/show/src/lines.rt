@@ -19,10 +19,10 @@ fn has_line(cell: Cell<'_>, all: bool) -> bool {
 // The record's name, by that of its part of the table.
 fn print_heading(part: usize, position: usize) {
     print_bytes(b"\n");
-    print(key_at(part));
+    print(&key_at(part));
     if position != 0 {
         print_bytes(b" ");
-        print(text::decimal(position as u64));
+        print(&text::decimal(position as u64));
     }
     print_bytes(b":\n");
 }
@@ -32,7 +32,7 @@ fn print_line(t: &[u8], position: usize, i: usize)
     requires { Accepted t.now }
 {
     print_bytes(b"  ");
-    print(title_at(i));
+    print(&title_at(i));
     print_bytes(b": ");
     put_cell(cell_at(t, position, i), true);
     print_bytes(b"\n");

@@ -1,7 +1,7 @@
 // Lists of positions: one that leads, if one does, and behind it those of a list that are not the same.
 use crate::bytes::{print_line_start, put, wider};
-use text::append::{empty, with_byte};
-use text::decimals::with_number;
+use text::Text;
+use text::decimals;
 use tool::{print, print_bytes};
 
 // Goes over the one that leads and over the others, in their order.
@@ -29,9 +29,11 @@ pub fn count_numbers(lead: Option<u64>, x: &[u8]) -> usize {
 // A number for people, behind a comma unless it is the first; its width.
 fn put_number(n: u64, first: bool, out: bool) -> usize {
     if first {
-        return put(text::decimal(n), out);
+        return put(&text::decimal(n), out);
     }
-    put(with_number(with_byte(empty(), b','), n), out)
+    let mut text = Text::of(b",");
+    decimals::put_number(&mut text, n);
+    put(&text, out)
 }
 
 // All of them for people; their width.
@@ -59,7 +61,7 @@ pub fn print_numbers(lead: Option<u64>, x: &[u8], depth: usize) {
     let mut none = true;
     each_number(lead, x, |n| {
         print_part_start(none, depth);
-        print(text::decimal(n));
+        print(&text::decimal(n));
         none = false;
     });
     print_list_end(none, depth);

@@ -43,7 +43,7 @@ fn cell_width(t: &[u8], section: u8, position: usize, i: usize) -> usize
 fn column_width(t: &[u8], section: u8, i: usize) -> usize
     requires { Accepted t.now }
 {
-    let mut width = put(title_at(i), false);
+    let mut width = put(&title_at(i), false);
     for position in first_position(section)..=last_position(t, section) {
         width = width.max(cell_width(t, section, position, i));
     }
@@ -82,7 +82,7 @@ fn print_column(t: &[u8], i: usize, width: usize, line: Line)
     requires { Accepted t.now }
 {
     match line {
-        Line::Titles => pad(put(title_at(i), true), width),
+        Line::Titles => pad(put(&title_at(i), true), width),
         Line::Rule => print_rule(width),
         Line::Cells(position) => pad(put_cell(cell_at(t, position, i), true), width),
     }
@@ -102,7 +102,7 @@ fn print_columns(t: &[u8], section: u8, widths: &[usize; MOST_COLUMNS], line: Li
 }
 
 fn print_unused(position: usize, width: usize) {
-    pad(put(text::decimal(position as u64), true), width);
+    pad(put(&text::decimal(position as u64), true), width);
     print_bytes(b"|unused\n");
 }
 
@@ -153,7 +153,7 @@ fn print_part(t: &[u8], i: usize, section: u8)
     if i != first_row(Control::ID) {
         print_bytes(b"\n");
     }
-    print(title_at(i));
+    print(&title_at(i));
     print_bytes(b":\n\n");
     print_table(t, section);
 }

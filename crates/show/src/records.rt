@@ -1,6 +1,5 @@
 // Which records there are, and the fields that a row reads.
 ghost use Rattle.std.specs.Prelude.{◌≡◌, ◌<◌, take};
-ghost use Rattle.io.specs.Counts.{IsPrefixLen};
 ghost use Rattle.table.specs.Reads.{field_at, image_at, seat_of};
 ghost use Rattle.reader.specs.Accepted.{Accepted};
 ghost use Rattle.reads_seats.specs.Told.{count_of};
@@ -99,7 +98,7 @@ pub fn object_of(cell: Cell<'_>) -> &[u8] {
 
 // The text of the field of a row: that of the very field which the row names, by the other one that it names.
 pub fn text_in(cell: Cell<'_>) -> Text
-    ensures { IsPrefixLen result.len result.bytes × (take result.len result.bytes ≡ field_text cell.entry.row.form cell.entry.row.weight (field_at cell.entry.t.now cell.entry.row.off (seat_of cell.entry.t.now cell.entry.row.kind cell.entry.position)).bytes (field_at cell.entry.t.now cell.entry.row.by (seat_of cell.entry.t.now cell.entry.row.kind cell.entry.position)).bytes) }
+    ensures { result ≡ field_text cell.entry.row.form cell.entry.row.weight (field_at cell.entry.t.now cell.entry.row.off (seat_of cell.entry.t.now cell.entry.row.kind cell.entry.position)).bytes (field_at cell.entry.t.now cell.entry.row.by (seat_of cell.entry.t.now cell.entry.row.kind cell.entry.position)).bytes }
 {
     let field = field_in(cell.t, cell.row.kind, cell.position, cell.row.off);
     let other = field_in(cell.t, cell.row.kind, cell.position, cell.row.by);

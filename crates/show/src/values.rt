@@ -1,5 +1,4 @@
 // The value of a row in JSON.
-ghost use Rattle.io.specs.Counts.{IsPrefixLen};
 
 use crate::bytes::{Style, first_zero, print_quoted, put_bytes};
 use crate::numbers::{count_numbers, print_numbers};
@@ -22,16 +21,14 @@ pub fn is_absent(cell: Cell<'_>) -> bool {
     is_left_out(cell.row.form, number_of(cell))
 }
 
-fn print_text(t: Text, quoted: bool)
-    requires { IsPrefixLen t.len t.bytes }
-{
+fn print_text(text: &Text, quoted: bool) {
     if quoted {
         print_bytes(b"\"");
-        print(t);
+        print(text);
         print_bytes(b"\"");
         return;
     }
-    print(t);
+    print(text);
 }
 
 fn print_field(cell: Cell<'_>) {
@@ -40,7 +37,7 @@ fn print_field(cell: Cell<'_>) {
         print_bytes(b"null");
         return;
     }
-    print_text(text_in(cell), is_quoted(cell.row.form));
+    print_text(&text_in(cell), is_quoted(cell.row.form));
 }
 
 fn print_name(f: Field) {
@@ -61,7 +58,7 @@ fn print_characters(cell: Cell<'_>) {
 // What is long enough for an address is one.
 fn print_reached(x: &[u8]) {
     if 16 <= x.len() {
-        print_text(text_addresses::address(&x[0..16]), true);
+        print_text(&text_addresses::address(&x[0..16]), true);
         return;
     }
     print_quoted(x);
@@ -91,7 +88,7 @@ fn print_object(cell: Cell<'_>, depth: usize) {
         SERVICE => print_service(x),
         BYTES => print_digits(x),
         HFIS => print_numbers(lead, x, depth),
-        HFI_COUNT => print(text::decimal(count_numbers(lead, x) as u64)),
+        HFI_COUNT => print(&text::decimal(count_numbers(lead, x) as u64)),
         _ => print_numbers(None, x, depth),
     }
 }
@@ -110,7 +107,7 @@ pub fn print_value(cell: Cell<'_>, depth: usize) {
         return;
     }
     match cell.row.form {
-        POSITION => print(text::decimal(cell.position as u64)),
+        POSITION => print(&text::decimal(cell.position as u64)),
         NAME => print_name(field_of(cell)),
         TEXT | BYTES_TEXT => print_characters(cell),
         _ => print_field(cell),

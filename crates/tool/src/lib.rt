@@ -237,12 +237,8 @@ pub fn helped<R: Env>(rt: &R, usage: &[u8]) -> bool {
     true
 }
 
-pub fn print(t: Text)
-    requires { IsPrefixLen t.len t.bytes }
-{
-    let len = t.len;
-    let bytes = t.bytes;
-    io::write_all(STDOUT_FILENO, &bytes[..len]);
+pub fn print(text: &Text) {
+    io::write_all(STDOUT_FILENO, text.as_bytes());
 }
 
 pub fn print_bytes(s: &[u8]) {
@@ -250,19 +246,19 @@ pub fn print_bytes(s: &[u8]) {
 }
 
 pub fn answer_line(a: Answer) -> Text
-    ensures { IsPrefixLen result.len result.bytes × (take result.len result.bytes ≡ numbers_line a.number a.kind a.position) }
+    ensures { result ≡ numbers_line a.number a.kind a.position }
 {
     text::numbers_line(a.number as u64, a.kind as u64, a.position as u64)
 }
 
 pub fn answer_words(a: Answer) -> Text
-    ensures { IsPrefixLen result.len result.bytes × (take result.len result.bytes ≡ fault_line a.number a.kind a.position) }
+    ensures { result ≡ fault_line a.number a.kind a.position }
 {
     text_answers::fault_line(a.number, a.kind, a.position as u64)
 }
 
 // Two lines: the numbers for programs, the words for people.
 pub fn print_answer(a: Answer) {
-    print(answer_line(a));
-    print(answer_words(a));
+    print(&answer_line(a));
+    print(&answer_words(a));
 }

@@ -34,7 +34,7 @@ fn bare_len(len: usize, e: Error) -> usize
         return len;
     };
     let number = text::decimal(code.unsigned_abs() as u64);
-    len.saturating_sub(12).saturating_sub(number.len)
+    len.saturating_sub(12).saturating_sub(number.len())
 }
 
 // A line on standard error: what failed, and why.

@@ -34,7 +34,7 @@ returns-then-position-count_of c =
     let x = c.count_of.ensures.0 in
     let y = c.count_of-then-position-count_of.ensures.0 in
     let e = position-one a.t.now a.u.now a.kind a.position (omega (arith, x, c.if-position-count_of.true)) (omega (arith, y, c.if-position-count_of-2.false)) in
-    (omega (arith, put.1), put.2 ∙ c.only_line.ensures.1 ∙ sym (line-text _) ∙ ap texts_of (sym e), put.3)
+    (omega (arith, put.1), put.2 ∙ c.only_line.ensures ∙ sym (line-text _) ∙ ap texts_of (sym e), put.3)
 
 pub returns : goal.returns
 returns c =
@@ -42,4 +42,4 @@ returns c =
     let put = c.put_text-2.ensures in
     let x = c.count_of.ensures.0 in
     let e = position-other a.t.now a.u.now a.kind a.position (omega (arith, x, c.if-position-count_of.false)) in
-    (omega (arith, put.1), put.2 ∙ c.only_line-2.ensures.1 ∙ sym (line-text _) ∙ ap texts_of (sym e), put.3)
+    (omega (arith, put.1), put.2 ∙ c.only_line-2.ensures ∙ sym (line-text _) ∙ ap texts_of (sym e), put.3)

@@ -6,9 +6,9 @@ pub returns-then-same : goal.returns-then-same
 returns-then-same c =
     let a = c.args in
     let e : a.one.now ≡ a.other.now = c.same.ensures.0 c.if-same.true in
-    (c.empty.ensures.1, c.empty.ensures.2 ∙ sym (like-text a.one.now a.other.now _ e))
+    c.new.ensures ∙ sym (like-text a.one.now a.other.now _ e)
 
 pub returns : goal.returns
 returns c =
     let a = c.args in
-    (c.field_line.ensures.0, c.field_line.ensures.1 ∙ sym (unlike-text a.one.now a.other.now _ (λ e. one-outcome (c.same.ensures.1 e) c.if-same.false)))
+    c.field_line.ensures ∙ sym (unlike-text a.one.now a.other.now _ (λ e. one-outcome (c.same.ensures.1 e) c.if-same.false))

@@ -10,7 +10,7 @@ use Rattle.changes_records.proofs.TextLaws.{base-most, grown}
 use Rattle.changes_records.proofs.records.image_lines.Goals as goal
 
 pub loop-offset-init : goal.loop-offset-init
-loop-offset-init c = (omega arith, omega arith, omega arith, sym (append-nil _), refl)
+loop-offset-init c = (omega arith, omega arith, sym (append-nil _), refl)
 
 pub offset_text-text-requires : goal.offset_text-text-requires
 offset_text-text-requires c =
@@ -20,7 +20,7 @@ offset_text-text-requires c =
 pub put_text-at-requires : goal.put_text-at-requires
 put_text-at-requires c =
     let inv = c.loop-offset.invariant in
-    (c.offset_text-text.ensures.0, omega (arith, inv.2, inv.4, c.loop-offset-test.true, c.requires.3, c.requires.5, base-most c.args.kind))
+    omega (arith, inv.1, inv.3, c.loop-offset-test.true, c.requires.3, c.requires.5, base-most c.args.kind)
 
 pub loop-offset-preserved : goal.loop-offset-preserved
 loop-offset-preserved c =
@@ -28,11 +28,10 @@ loop-offset-preserved c =
     let a = c.args in
     let inv = c.loop-offset.invariant in
     let offsets = offset_lines a.kind a.position (layout_of a.kind).shape.fields a.one.now a.other.now (plain_lines a.t.now a.u.now a.kind a.position) in (
-      omega (arith, c.loop-offset-test.true),
-      omega (arith, inv.1, put.0),
-      omega (arith, inv.2, put.1),
-      grown (take a.from a.out.now) offsets c.loop-offset.offset inv.3 c.offset_text-text.ensures.1 put.2,
-      put.3 ∙ inv.4,
+      omega (arith, inv.0, put.0),
+      omega (arith, inv.1, put.1),
+      grown (take a.from a.out.now) offsets c.loop-offset.offset inv.2 c.offset_text-text.ensures put.2,
+      put.3 ∙ inv.3,
     )
 
 pub returns : goal.returns
@@ -40,9 +39,9 @@ returns c =
     let a = c.args in
     let inv = c.loop-offset.invariant in
     let offsets = offset_lines a.kind a.position (layout_of a.kind).shape.fields a.one.now a.other.now (plain_lines a.t.now a.u.now a.kind a.position) in
-    let e : c.loop-offset.offset ≡ length (layout_of a.kind).shape.keep = omega (arith, inv.0, c.loop-offset-test.false, c.requires.3) in (
-      inv.1,
-      omega (arith, inv.2, e, base-most a.kind),
-      inv.3 ∙ ap (λ (j : ℕ). take a.from a.out.now ++ texts_of (each offsets 0 j)) e,
-      inv.4,
+    let e : c.loop-offset.offset ≡ length (layout_of a.kind).shape.keep = omega (arith, c.loop-offset.auto.offset-end, c.loop-offset-test.false, c.requires.3) in (
+      inv.0,
+      omega (arith, inv.1, e, base-most a.kind),
+      inv.2 ∙ ap (λ (j : ℕ). take a.from a.out.now ++ texts_of (each offsets 0 j)) e,
+      inv.3,
     )

@@ -9,9 +9,6 @@ use Rattle.changes_records.proofs.records.image_lines.Given as goal
 
 abbrev pub invariant-loop-offset : goal.invariant-loop-offset
 invariant-loop-offset l =
-    (l.offset ≤ length l.one) × (l.from ≤ l.at) × (l.at ≤ l.from + 128 * l.offset)
+    (l.from ≤ l.at) × (l.at ≤ l.from + 128 * l.offset)
     × (take l.at l.out ≡ take l.from l.initial.out ++ texts_of (each (offset_lines l.kind l.position (layout_of l.kind).shape.fields l.one l.other (plain_lines l.t l.u l.kind l.position)) 0 l.offset))
     × (length l.out ≡ length l.initial.out)
-
-abbrev pub decreases-loop-offset : goal.decreases-loop-offset
-decreases-loop-offset l = length l.one - l.offset

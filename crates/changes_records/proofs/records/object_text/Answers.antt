@@ -14,7 +14,7 @@ returns-then-same c =
     let one = c.whole_object-one.ensures.0 in
     let other = c.whole_object-other.ensures.0 in
     let e = sym one ∙ c.same.ensures.0 c.if-same.true ∙ other in
-    (c.empty.ensures.1, c.empty.ensures.2 ∙ sym (like-text _ _ _ e))
+    c.new.ensures ∙ sym (like-text _ _ _ e)
 
 pub object_line-requires : goal.object_line-requires
 object_line-requires c =
@@ -34,10 +34,8 @@ returns c =
     let y : List ℕ = object_in a.u.now a.kind a.position a.offset in
     let one = c.whole_object-one.ensures.0 in
     let other = c.whole_object-other.ensures.0 in
-    let at : c.differ_at-at.result ≡ differ_at x y = c.differ_at-at.ensures.0 ∙ ap₂ differ_at one other in (
-      c.object_line.ensures.0,
-      c.object_line.ensures.1
+    let at : c.differ_at-at.result ≡ differ_at x y = c.differ_at-at.ensures.0 ∙ ap₂ differ_at one other in
+    c.object_line.ensures
           ∙ ap₂ (λ (l m : ℕ). text_of (objects a.kind a.position a.offset l m c.differ_at-at.result)) (ap length one) (ap length other)
           ∙ ap (λ (d : ℕ). text_of (objects a.kind a.position a.offset (length x) (length y) d)) at
-          ∙ sym (unlike-text x y _ (λ e. one-outcome (c.same.ensures.1 (one ∙ e ∙ sym other)) c.if-same.false)),
-    )
+          ∙ sym (unlike-text x y _ (λ e. one-outcome (c.same.ensures.1 (one ∙ e ∙ sym other)) c.if-same.false))

@@ -68,21 +68,19 @@ returns-then-width-ne0 c =
     let w : ℕ = width_at a.offset (layout_of a.kind).shape.fields in
     let e : a.offset + c.field_width-width.result - a.offset ≡ w = omega (arith, c.field_width-width.ensures) in
     let told = plain_lines t u a.kind a.position a.offset in
-    let some : eqb w 0 ≡ false = ne_eqb w 0 (λ o. c.if-width-ne0.true (c.field_width-width.ensures ∙ o)) in (
-      c.field_text.ensures.0,
-      c.field_text.ensures.1
+    let some : eqb w 0 ≡ false = ne_eqb w 0 (λ o. c.if-width-ne0.true (c.field_width-width.ensures ∙ o)) in
+    c.field_text.ensures
           ∙ ap (λ (m : ℕ). texts_of (field_line a.kind a.position a.offset (take m (drop a.offset x)) (take m (drop a.offset z)))) e
-          ∙ ap (λ (b : Bool). texts_of (pick b told (field_line a.kind a.position a.offset (part x a.offset w) (part z a.offset w)))) (sym some),
-    )
+          ∙ ap (λ (b : Bool). texts_of (pick b told (field_line a.kind a.position a.offset (part x a.offset w) (part z a.offset w)))) (sym some)
 
 pub returns-then-has_object : goal.returns-then-has_object
 returns-then-has_object c =
     let a = c.args in
     let has = sym c.has_object.ensures ∙ c.if-has_object.true in
-    (c.object_text.ensures.0, c.object_text.ensures.1 ∙ sym (told-object (goal.at.returns-then-has_object c).After-field_width-width c.if-width-ne0.false true has))
+    c.object_text.ensures ∙ sym (told-object (goal.at.returns-then-has_object c).After-field_width-width c.if-width-ne0.false true has)
 
 pub returns : goal.returns
 returns c =
     let a = c.args in
     let has = sym c.has_object.ensures ∙ c.if-has_object.false in
-    (c.empty.ensures.1, c.empty.ensures.2 ∙ sym (told-object (goal.at.returns c).After-field_width-width c.if-width-ne0.false false has))
+    c.new.ensures ∙ sym (told-object (goal.at.returns c).After-field_width-width c.if-width-ne0.false false has)

@@ -75,7 +75,7 @@ returns-then-one c =
     let e = c.if-one.true in
     let f = c.if-other.false in
     let l = c.level_of-then-one.ensures in
-    let x = c.only_line.ensures.1 ∙ sym (line-text _) in (
+    let x = c.only_line.ensures ∙ sym (line-text _) in (
       l.1 ∙ sym (both_is w e f),
       omega (arith, l.0, put.0),
       omega (arith, l.0, put.1),
@@ -90,7 +90,7 @@ returns-then-other-2 c =
     let e = c.if-one.false in
     let f = c.if-other-2.true in
     let l = c.level_of-then-other-2.ensures in
-    let x = c.only_line-then-other-2.ensures.1 ∙ sym (line-text _) in (
+    let x = c.only_line-then-other-2.ensures ∙ sym (line-text _) in (
       l.1 ∙ sym (both_is w e f),
       omega (arith, l.0, put.0),
       omega (arith, l.0, put.1),

@@ -41,13 +41,13 @@ returns-then-y c =
 pub returns-then-x : goal.returns-then-x
 returns-then-x c =
     let put = c.put_text.ensures in
-    let x = c.used_line.ensures.1 ∙ sym (line-text _) in
+    let x = c.used_line.ensures ∙ sym (line-text _) in
     (omega (arith, put.1), put.2 ∙ x ∙ ap texts_of (sym (pair_is (goal.at.returns-then-x c).After-record_in-y c.if-x.true c.if-y.false)), put.3)
 
 pub returns-then-y-2 : goal.returns-then-y-2
 returns-then-y-2 c =
     let put = c.put_text-then-y-2.ensures in
-    let x = c.used_line-then-y-2.ensures.1 ∙ sym (line-text _) in
+    let x = c.used_line-then-y-2.ensures ∙ sym (line-text _) in
     (omega (arith, put.1), put.2 ∙ x ∙ ap texts_of (sym (pair_is (goal.at.returns-then-y-2 c).After-record_in-y c.if-x.false c.if-y-2.true)), put.3)
 
 pub returns : goal.returns

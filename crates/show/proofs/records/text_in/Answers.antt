@@ -7,7 +7,5 @@ pub returns : goal.returns
 returns c =
     let field = c.field_in-field.ensures in
     let other = c.field_in-other.ensures in
-    let row = c.args.cell.row in (
-      c.field_text.ensures.0,
-      c.field_text.ensures.1 ∙ ap₂ (λ (f g : Field). field_text row.form row.weight f.bytes g.bytes) field other,
-    )
+    let row = c.args.cell.row in
+    c.field_text.ensures ∙ ap₂ (λ (f g : Field). field_text row.form row.weight f.bytes g.bytes) field other
