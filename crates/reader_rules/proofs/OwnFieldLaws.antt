@@ -2,7 +2,7 @@
 use mathlib.Core.Path.{◌≡◌, refl, sym, ap, ◌∙◌}
 use mathlib.Core.Bool.{Bool, true, false, ◌&&◌}
 use mathlib.Core.List.{List}
-use Prim.Native.Nat.{ℕ, ◌+◌}
+use Prim.Native.Nat.{ℕ, zero, suc, ◌+◌, ◌≤◌}
 use native.Mathlib.Nat.{add-zero}
 use native.Mathlib.Omega.{arith}
 use lib.ListN.{get_or, drop}
@@ -34,6 +34,18 @@ right_is k t a pos =
     both false d = refl
 
 -- ---- each kind's own fields
+
+-- records of these kinds have 32 bytes at least
+pub at-least : (k a n : ℕ) → 2 ≤ k → k ≤ 6 → a + base_of (layout_of k) ≤ n → a + 32 ≤ n
+unfolding layout_of host hfi ssns security discovery
+at-least zero a n x y z = absurd (omega arith)
+at-least (suc zero) a n x y z = absurd (omega arith)
+at-least (suc (suc zero)) a n x y z = z
+at-least (suc (suc (suc zero))) a n x y z = z
+at-least (suc (suc (suc (suc zero)))) a n x y z = let w : a + 128 ≤ n = z in omega arith
+at-least (suc (suc (suc (suc (suc zero))))) a n x y z = let w : a + 64 ≤ n = z in omega arith
+at-least (suc (suc (suc (suc (suc (suc zero)))))) a n x y z = z
+at-least (suc (suc (suc (suc (suc (suc (suc k))))))) a n x y z = absurd (omega arith)
 
 -- the record at a of a kind, by its image
 named-at : (l : Layout) (t : List ℕ) (a pos : ℕ) → T (fixed_in l.shape.fixed (base_of l))

@@ -6,7 +6,7 @@ ghost use Rattle.table.specs.FixedLayouts.{layout_of};
 ghost use Rattle.reader_rules.specs.Records.{is_named, named_rule, right_rule};
 
 use layout_kinds::TCP;
-use table::{Discovery, Hfi, Host, Security, Ssns};
+use table::{Hfi, Host, Security, Ssns};
 
 // ID, type and index, by what was read. For a kind without type or index the right one is handed over.
 #[tactic(auto, using(table::proofs::Rules::picks), unfolding(crate::specs::Records::is_named))]
@@ -20,77 +20,19 @@ fn named(kind: u8, id: u8, transport: u8, index: usize, position: usize) -> u8
     }
 }
 
-// The host has no index; it stands at position 0.
-fn host_named(t: &[u8], a: usize, position: usize) -> u8
-    requires { a + 32 ≤ length t.now }
-    ensures { result ≡ named_rule 2 t.now a position }
-{
-    named(Host::ID, t[a], TCP, 0, position)
-}
-
-fn hfi_named(t: &[u8], a: usize, position: usize) -> u8
-    requires { a + 32 ≤ length t.now }
-    ensures { result ≡ named_rule 3 t.now a position }
-{
-    named(
-        Hfi::ID,
-        t[a],
-        t[a + 3],
-        bytes_wire::wide(t[a + 1]),
-        position,
-    )
-}
-
-fn ssns_named(t: &[u8], a: usize, position: usize) -> u8
-    requires { a + 128 ≤ length t.now }
-    ensures { result ≡ named_rule 4 t.now a position }
-{
-    named(
-        Ssns::ID,
-        t[a],
-        t[a + 5],
-        bytes_wire::u16_at(t, a + 1),
-        position,
-    )
-}
-
-fn security_named(t: &[u8], a: usize, position: usize) -> u8
-    requires { a + 64 ≤ length t.now }
-    ensures { result ≡ named_rule 5 t.now a position }
-{
-    named(
-        Security::ID,
-        t[a],
-        TCP,
-        bytes_wire::wide(t[a + 1]),
-        position,
-    )
-}
-
-fn discovery_named(t: &[u8], a: usize, position: usize) -> u8
-    requires { a + 32 ≤ length t.now }
-    ensures { result ≡ named_rule 6 t.now a position }
-{
-    named(
-        Discovery::ID,
-        t[a],
-        TCP,
-        bytes_wire::wide(t[a + 2]),
-        position,
-    )
-}
-
+// That of the record at `a`. A host has no index and stands at position 0.
 fn named_fault(t: &[u8], kind: u8, a: usize, position: usize) -> u8
     requires { (2 ≤ kind) × (kind ≤ 6) × (a + base_of (layout_of kind) ≤ length t.now) }
     ensures { result ≡ named_rule kind t.now a position }
 {
-    match kind {
-        Host::ID => host_named(t, a, position),
-        Hfi::ID => hfi_named(t, a, position),
-        Ssns::ID => ssns_named(t, a, position),
-        Security::ID => security_named(t, a, position),
-        _ => discovery_named(t, a, position),
-    }
+    let (transport, index) = match kind {
+        Host::ID => (TCP, 0),
+        Hfi::ID => (t[a + 3], usize::from(t[a + 1])),
+        Ssns::ID => (t[a + 5], bytes_wire::u16_at(t, a + 1)),
+        Security::ID => (TCP, usize::from(t[a + 1])),
+        _ => (TCP, usize::from(t[a + 2])),
+    };
+    named(kind, t[a], transport, index, position)
 }
 
 // The rule of the fields of the record at `a`, host or one of a list: 0 or 10.

@@ -78,13 +78,6 @@ pub enum Need {
     Required,
 }
 
-// Where the references of a record stand, by ascending offset: the first `count` of `at`.
-#[derive(Clone, Copy)]
-pub struct Offsets {
-    pub at: [usize; 6],
-    pub count: usize,
-}
-
 // What a read of a record gives: its image, references as zero, filled up to 128 bytes.
 #[derive(Clone, Copy)]
 pub struct Image {
