@@ -1,113 +1,65 @@
 // A table built from its description, and what is promised of it.
 #![tactic(auto)]
 
-ghost use Rattle.std.specs.Prelude.{◌≡◌, take};
+ghost use Rattle.std.specs.Prelude.{◌≡◌, take, IfOk};
 ghost use Rattle.io.specs.Counts as io;
 ghost use Rattle.table.specs.Numbers as definition;
 
 use bytes_front::Counts;
-use description_draft::lines::nth_section;
-use description_draft::wrongs::{INCOMPLETE, NOTHING, REFUSED, TOO_MANY};
-use description_sections::walking::{Walk, close, walked};
-use table::Answer;
+use description_draft::lines::{begins, nth_section};
+use description_draft::wrongs::{Fault, Wrong};
+use description_sections::walking::{Walk, walked};
+use table::{Answer, Discovery, Hfi, Security, Ssns};
 
-// What is wrong and in which line; what the builder answers; where nothing is wrong, how many bytes the table has.
-#[derive(Clone, Copy)]
-pub struct Built {
-    pub wrong: u8,
-    pub line: usize,
-    pub answer: Answer,
-    pub len: usize,
-}
-
-fn failed(wrong: u8, line: usize, answer: Answer) -> Built
-    ensures { result.wrong ≡ wrong }
-{
-    Built {
-        wrong: wrong,
-        line: line,
-        answer: answer,
-        len: 0,
-    }
-}
-
-// The line of the 256th section of a kind, if there are so many.
-fn too_many(text: &[u8]) -> usize {
-    let mut kind: u8 = 3;
-    while kind < 7 {
-        let found = nth_section(text, kind, 256);
-        if 255 < found.count {
-            return found.line;
+// How many sections of a kind there are; the 256th is one too many.
+fn count_of(text: &[u8], kind: u8) -> Result<u8, Fault> {
+    let mut count: u8 = 0;
+    for (number, line) in (1..).zip(text.split(|b| *b == b'\n')) {
+        if begins(line, kind) {
+            count = count.checked_add(1).ok_or(Wrong::TooMany.at(number))?;
         }
-        kind += 1;
     }
-    0
+    Ok(count)
 }
 
-fn count_of(text: &[u8], kind: u8) -> u8 {
-    let found = nth_section(text, kind, 0);
-    (found.count % 256) as u8
-}
-
-fn counts_of(text: &[u8]) -> Counts {
-    Counts {
-        hfi: count_of(text, 3),
-        ssns: count_of(text, 4),
-        security: count_of(text, 5),
-        discovery: count_of(text, 6),
-    }
+// How many records each list has.
+fn counts_of(text: &[u8]) -> Result<Counts, Fault> {
+    Ok(Counts {
+        hfi: count_of(text, Hfi::ID)?,
+        ssns: count_of(text, Ssns::ID)?,
+        security: count_of(text, Security::ID)?,
+        discovery: count_of(text, Discovery::ID)?,
+    })
 }
 
 // The line of the section that an answer speaks of, or the last line.
-fn line_of(text: &[u8], a: Answer, last: usize) -> usize {
-    let position = a.position;
-    let mut n: usize = 1;
-    if 0 < position {
-        n = position;
-    }
-    let found = nth_section(text, a.kind, n);
-    if found.count < n {
-        return last;
-    }
-    found.line
+fn line_of(text: &[u8], answer: Answer, last: usize) -> usize {
+    nth_section(text, answer.kind, answer.position.saturating_sub(1)).unwrap_or(last)
 }
 
-// All sections are told: the table's end.
-fn finish(text: &[u8], w: Walk, out: &mut [u8]) -> Built
-    ensures { result.wrong ≡ 0 → io.IsPrefixLen result.len out.new × ((definition.check (take result.len out.new)).number ≡ 0) }
+// All sections are told: the table's end, and how many bytes it has.
+fn finish(text: &[u8], walk: Walk, out: &mut [u8]) -> Result<usize, Fault>
+    ensures { IfOk result (λ n. io.IsPrefixLen n out.new × ((definition.check (take n out.new)).number ≡ 0)) }
 {
-    let last = w.line;
-    let answer = w.answer;
-    if w.wrong != NOTHING {
-        return failed(w.wrong, last, answer);
-    }
-    let state = w.state;
+    let last = walk.line;
+    let state = walk.state;
     if state.turn != 7 {
-        return failed(INCOMPLETE, last, answer);
+        return Err(Wrong::Incomplete.at(last));
     }
     let step = builder::finish(out, state);
     let a = step.answer;
     if a.number != 0 {
-        return failed(REFUSED, line_of(text, a, last), a);
+        return Err(Wrong::Refused(a).at(line_of(text, a, last)));
     }
-    Built {
-        wrong: NOTHING,
-        line: last,
-        answer: a,
-        len: state.used,
-    }
+    Ok(state.used)
 }
 
-// `room` is lent for what the objects of one section say. Whatever the text, a table with nothing wrong is accepted.
-pub fn build(text: &[u8], room: &mut [u8], out: &mut [u8]) -> Built
-    ensures { result.wrong ≡ 0 → io.IsPrefixLen result.len out.new × ((definition.check (take result.len out.new)).number ≡ 0) }
+// `room` is lent for what the objects of one section say. Whatever the text, a table of so many bytes is accepted.
+pub fn build(text: &[u8], room: &mut [u8], out: &mut [u8]) -> Result<usize, Fault>
+    ensures { IfOk result (λ n. io.IsPrefixLen n out.new × ((definition.check (take n out.new)).number ≡ 0)) }
 {
-    let many = too_many(text);
-    if 0 < many {
-        return failed(TOO_MANY, many, table::done());
-    }
-    let c = counts_of(text);
-    let w = walked(text, c, room, out);
-    let closed = close(w, c, room, out);
-    finish(text, closed, out)
+    let counts = counts_of(text)?;
+    let mut walk = walked(text, counts, room, out)?;
+    walk.close(counts, room, out)?;
+    finish(text, walk, out)
 }

@@ -6,15 +6,14 @@ use table::{Discovery, Header, Hfi, Host, Security, Ssns};
 pub mod hfi; // transport info and HFI extended info
 pub mod subsystem; // an SSNS record and its extended info
 
-ghost use Rattle.std.specs.Prelude.{◌+◌, ◌≤◌};
+ghost use Rattle.std.specs.Prelude.{◌+◌, ◌≤◌, IfSome};
 ghost use Rattle.description_words.specs.Placed.{Placed};
 
-use check::same;
 use hfi::hfi_place;
 use subsystem::subsystem_place;
 
 // How a value is written.
-#[derive(Clone, Copy)]
+#[derive(Clone, Copy, PartialEq, Eq)]
 pub enum Form {
     Number,
     Text,
@@ -23,7 +22,6 @@ pub enum Form {
     Function,
     Address,
     List,
-    Unknown,
 }
 
 // Fields and references of a heap record are counted from here on, behind those of the record that names it.
@@ -46,9 +44,9 @@ pub fn field(form: Form, at: usize, width: usize) -> Place
     ensures { Placed result }
 {
     Place {
-        form: form,
-        at: at,
-        width: width,
+        form,
+        at,
+        width,
         slot: 0,
     }
 }
@@ -58,109 +56,69 @@ pub fn object(form: Form, at: usize, slot: usize) -> Place
     ensures { Placed result }
 {
     Place {
-        form: form,
-        at: at,
+        form,
+        at,
         width: 0,
-        slot: slot,
+        slot,
     }
 }
 
-pub fn nowhere() -> Place
-    ensures { Placed result }
+fn header_place(word: &[u8]) -> Option<Place>
+    ensures { IfSome result Placed }
 {
-    field(Form::Unknown, 0, 0)
+    match word {
+        b"oem_id" => Some(field(Form::Text, 10, 6)),
+        b"oem_table_id" => Some(field(Form::Text, 16, 8)),
+        b"oem_revision" => Some(field(Form::Number, 24, 4)),
+        b"creator_id" => Some(field(Form::Text, 28, 4)),
+        b"creator_revision" => Some(field(Form::Number, 32, 4)),
+        b"driver_signature" => Some(object(Form::Text, 44, 0)),
+        _ => None,
+    }
 }
 
-fn header_place(word: &[u8]) -> Place
-    ensures { Placed result }
+fn host_place(word: &[u8]) -> Option<Place>
+    ensures { IfSome result Placed }
 {
-    if same(word, b"oem_id") {
-        return field(Form::Text, 10, 6);
+    match word {
+        b"flags" => Some(field(Form::Number, 1, 1)),
+        b"host_id" => Some(field(Form::Digits, 2, 16)),
+        b"nqn" => Some(object(Form::Text, 18, 0)),
+        _ => None,
     }
-    if same(word, b"oem_table_id") {
-        return field(Form::Text, 16, 8);
-    }
-    if same(word, b"oem_revision") {
-        return field(Form::Number, 24, 4);
-    }
-    if same(word, b"creator_id") {
-        return field(Form::Text, 28, 4);
-    }
-    if same(word, b"creator_revision") {
-        return field(Form::Number, 32, 4);
-    }
-    if same(word, b"driver_signature") {
-        return object(Form::Text, 44, 0);
-    }
-    nowhere()
 }
 
-fn host_place(word: &[u8]) -> Place
-    ensures { Placed result }
+fn security_place(word: &[u8]) -> Option<Place>
+    ensures { IfSome result Placed }
 {
-    if same(word, b"flags") {
-        return field(Form::Number, 1, 1);
+    match word {
+        b"flags" => Some(field(Form::Number, 2, 2)),
+        b"secret_type" => Some(field(Form::Number, 4, 1)),
+        b"channels" => Some(object(Form::Digits, 6, 0)),
+        b"authentications" => Some(object(Form::Digits, 12, 1)),
+        b"ciphers" => Some(object(Form::Digits, 18, 2)),
+        b"groups" => Some(object(Form::Digits, 24, 3)),
+        b"hashes" => Some(object(Form::Digits, 30, 4)),
+        b"keypath" => Some(object(Form::Text, 36, 5)),
+        _ => None,
     }
-    if same(word, b"host_id") {
-        return field(Form::Digits, 2, 16);
-    }
-    if same(word, b"nqn") {
-        return object(Form::Text, 18, 0);
-    }
-    nowhere()
 }
 
-fn security_place(word: &[u8]) -> Place
-    ensures { Placed result }
+fn discovery_place(word: &[u8]) -> Option<Place>
+    ensures { IfSome result Placed }
 {
-    if same(word, b"flags") {
-        return field(Form::Number, 2, 2);
+    match word {
+        b"hfi" => Some(field(Form::Number, 3, 1)),
+        b"security" => Some(field(Form::Number, 4, 1)),
+        b"uri" => Some(object(Form::Text, 6, 0)),
+        b"nqn" => Some(object(Form::Text, 12, 1)),
+        _ => None,
     }
-    if same(word, b"secret_type") {
-        return field(Form::Number, 4, 1);
-    }
-    if same(word, b"channels") {
-        return object(Form::Digits, 6, 0);
-    }
-    if same(word, b"authentications") {
-        return object(Form::Digits, 12, 1);
-    }
-    if same(word, b"ciphers") {
-        return object(Form::Digits, 18, 2);
-    }
-    if same(word, b"groups") {
-        return object(Form::Digits, 24, 3);
-    }
-    if same(word, b"hashes") {
-        return object(Form::Digits, 30, 4);
-    }
-    if same(word, b"keypath") {
-        return object(Form::Text, 36, 5);
-    }
-    nowhere()
-}
-
-fn discovery_place(word: &[u8]) -> Place
-    ensures { Placed result }
-{
-    if same(word, b"hfi") {
-        return field(Form::Number, 3, 1);
-    }
-    if same(word, b"security") {
-        return field(Form::Number, 4, 1);
-    }
-    if same(word, b"uri") {
-        return object(Form::Text, 6, 0);
-    }
-    if same(word, b"nqn") {
-        return object(Form::Text, 12, 1);
-    }
-    nowhere()
 }
 
 // What a word means in a section of a kind.
-pub fn place_of(kind: u8, word: &[u8]) -> Place
-    ensures { Placed result }
+pub fn place_of(kind: u8, word: &[u8]) -> Option<Place>
+    ensures { IfSome result Placed }
 {
     match kind {
         Header::ID => header_place(word),
@@ -169,6 +127,6 @@ pub fn place_of(kind: u8, word: &[u8]) -> Place
         Ssns::ID => subsystem_place(word),
         Security::ID => security_place(word),
         Discovery::ID => discovery_place(word),
-        _ => nowhere(),
+        _ => None,
     }
 }

@@ -1,78 +1,48 @@
 // The words of a subsystem's section: an SSNS record, and under flag 4 its extended info.
+ghost use Rattle.std.specs.Prelude.{IfSome};
 ghost use Rattle.description_words.specs.Placed.{Placed};
 
-use crate::{Form, INNER, Place, field, nowhere, object};
-use check::same;
+use crate::{Form, INNER, Place, field, object};
 
-fn extended_place(word: &[u8]) -> Place
-    ensures { Placed result }
+fn extended_place(word: &[u8]) -> Option<Place>
+    ensures { IfSome result Placed }
 {
-    if same(word, b"extended_flags") {
-        return field(Form::Number, INNER + 4, 4);
+    match word {
+        b"extended_flags" => Some(field(Form::Number, INNER + 4, 4)),
+        b"controller" => Some(field(Form::Number, INNER + 8, 2)),
+        b"queue_size" => Some(field(Form::Number, INNER + 10, 2)),
+        b"dhcp_root_path" => Some(object(Form::Text, INNER + 12, 4)),
+        _ => None,
     }
-    if same(word, b"controller") {
-        return field(Form::Number, INNER + 8, 2);
-    }
-    if same(word, b"queue_size") {
-        return field(Form::Number, INNER + 10, 2);
-    }
-    if same(word, b"dhcp_root_path") {
-        return object(Form::Text, INNER + 12, 4);
-    }
-    nowhere()
 }
 
 // The subsystem's address is 16 bytes where it is an Internet address, and else what a text says.
-fn object_place(word: &[u8]) -> Place
-    ensures { Placed result }
+fn object_place(word: &[u8]) -> Option<Place>
+    ensures { IfSome result Placed }
 {
-    if same(word, b"address") {
-        return object(Form::Address, 10, 0);
+    match word {
+        b"address" => Some(object(Form::Address, 10, 0)),
+        b"address_text" => Some(object(Form::Text, 10, 0)),
+        b"service_id" => Some(object(Form::Text, 16, 1)),
+        b"other_hfis" => Some(object(Form::List, 48, 2)),
+        b"nqn" => Some(object(Form::Text, 54, 3)),
+        _ => extended_place(word),
     }
-    if same(word, b"address_text") {
-        return object(Form::Text, 10, 0);
-    }
-    if same(word, b"service_id") {
-        return object(Form::Text, 16, 1);
-    }
-    if same(word, b"other_hfis") {
-        return object(Form::List, 48, 2);
-    }
-    if same(word, b"nqn") {
-        return object(Form::Text, 54, 3);
-    }
-    extended_place(word)
 }
 
-pub fn subsystem_place(word: &[u8]) -> Place
-    ensures { Placed result }
+pub fn subsystem_place(word: &[u8]) -> Option<Place>
+    ensures { IfSome result Placed }
 {
-    if same(word, b"flags") {
-        return field(Form::Number, 3, 2);
+    match word {
+        b"flags" => Some(field(Form::Number, 3, 2)),
+        b"transport_flags" => Some(field(Form::Number, 6, 2)),
+        b"discovery" => Some(field(Form::Number, 8, 1)),
+        b"port_id" => Some(field(Form::Number, 22, 2)),
+        b"nsid" => Some(field(Form::Number, 24, 4)),
+        b"nid_type" => Some(field(Form::Number, 28, 1)),
+        b"nid" => Some(field(Form::Digits, 29, 16)),
+        b"security" => Some(field(Form::Number, 45, 1)),
+        b"hfi" => Some(field(Form::Number, 46, 1)),
+        _ => object_place(word),
     }
-    if same(word, b"transport_flags") {
-        return field(Form::Number, 6, 2);
-    }
-    if same(word, b"discovery") {
-        return field(Form::Number, 8, 1);
-    }
-    if same(word, b"port_id") {
-        return field(Form::Number, 22, 2);
-    }
-    if same(word, b"nsid") {
-        return field(Form::Number, 24, 4);
-    }
-    if same(word, b"nid_type") {
-        return field(Form::Number, 28, 1);
-    }
-    if same(word, b"nid") {
-        return field(Form::Digits, 29, 16);
-    }
-    if same(word, b"security") {
-        return field(Form::Number, 45, 1);
-    }
-    if same(word, b"hfi") {
-        return field(Form::Number, 46, 1);
-    }
-    object_place(word)
 }

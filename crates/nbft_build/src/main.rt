@@ -3,7 +3,7 @@
 #![tactic(auto)]
 
 use description::build;
-use description_draft::wrongs::{NOTHING, REFUSED, write_words};
+use description_draft::wrongs::{Fault, Wrong, write_words};
 use std::env::Env;
 use std::fs::Files;
 use tool::{STDERR_FILENO, complain};
@@ -12,14 +12,17 @@ use tool::{STDERR_FILENO, complain};
 const LONGEST: usize = 300000;
 
 // As compilers say it: the file, the line, and what is wrong there.
-fn print_wrong<R: Env>(rt: &R, argument: usize, wrong: u8, line: usize) {
+fn print_fault<R: Env>(rt: &R, argument: usize, fault: Fault) {
     let mut path = io::buffer();
     let n = tool::argument_bytes(rt, argument, &mut path);
     complain(&path[..n], b":");
-    io::print_decimal(STDERR_FILENO, line as u64);
+    io::print_decimal(STDERR_FILENO, fault.line as u64);
     io::write_all(STDERR_FILENO, b": ");
-    write_words(STDERR_FILENO, wrong);
+    write_words(STDERR_FILENO, fault.wrong);
     io::write_all(STDERR_FILENO, b"\n");
+    if let Wrong::Refused(answer) = fault.wrong {
+        tool::print_answer(answer);
+    }
 }
 
 fn build_file<R: Env + Files>(rt: &R, from: usize, to: usize) {
@@ -31,14 +34,9 @@ fn build_file<R: Env + Files>(rt: &R, from: usize, to: usize) {
     if !got.whole {
         return;
     }
-    let built = build(&spec[..n], &mut room, &mut out);
-    if built.wrong == NOTHING {
-        write_table(rt, to, &out, built.len);
-        return;
-    }
-    print_wrong(rt, from, built.wrong, built.line);
-    if built.wrong == REFUSED {
-        tool::print_answer(built.answer);
+    match build(&spec[..n], &mut room, &mut out) {
+        Ok(len) => write_table(rt, to, &out, len),
+        Err(fault) => print_fault(rt, from, fault),
     }
 }
 

@@ -11,9 +11,11 @@ use Rattle.description.proofs.finish.Goals as goal
 
 pub returns : goal.returns
 returns c =
-    λ z. let s = c.args.w.state in let b = c.args.out.now in let f = finish-accepted s b
-    (sym (ap (λ (x : Step). x.answer.number) c.finish-step.ensures.0) ∙ c.if-a-ne0.false) in let l : s.used ≤ length
-    c.finish-step.new.out = omega (arith, f.0, c.finish-step.auto.out) in (
+    let s = c.args.walk.state in
+    let b = c.args.out.now in
+    let accepted = sym (ap (λ (x : Step). x.answer.number) c.finish-step.ensures.0) ∙ c.if-a-ne0.false in
+    let f = finish-accepted s b accepted in
+    let l : s.used ≤ length c.finish-step.new.out = omega (arith, f.0, c.finish-step.auto.out) in (
       (l, sym (length-take-le s.used c.finish-step.new.out l)),
       ap (λ (x : List ℕ). (check (take s.used x)).number) c.finish-step.ensures.1 ∙ f.1,
     )
