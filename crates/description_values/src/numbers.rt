@@ -1,5 +1,5 @@
 // Numbers of at most 32 bits, in decimal or, behind `0x`, in hexadecimal.
-ghost use Rattle.std.specs.Prelude.{◌≤◌, ◌<◌, length, IfSome};
+ghost use Rattle.std.specs.Prelude.{◌≤◌, length, IfSome};
 
 // The greatest number that a field has room for.
 const GREATEST: u64 = 4294967295;

@@ -24,7 +24,7 @@ fn character(text: &[u8]) -> Option<(u8, &[u8])>
     }
 }
 
-// One byte in either way of writing, and the text behind it.
+// One byte in either way of writing, and the text behind it. A switch: a closure for the step would need what is ensured here at both of its calls.
 fn next_byte(text: &[u8], digits: bool) -> Option<(u8, &[u8])>
     ensures { IfSome result (λ w. length w.1.now < length text.now) }
 {
