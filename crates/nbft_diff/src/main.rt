@@ -15,10 +15,8 @@ fn complain_of<R: Env>(rt: &R, argument: usize, a: Answer) {
     let mut path = io::buffer();
     let n = tool::argument_bytes(rt, argument, &mut path);
     let words = tool::answer_words(a);
-    let len = words.len;
-    let bytes = words.bytes;
     tool::complain(&path[..n], b": ");
-    tool::complain(&bytes[..len], b"");
+    tool::complain(&words.bytes[..words.len], b"");
 }
 
 fn print_refusal<R: Env>(rt: &R, argument: usize, a: Answer) {
@@ -62,12 +60,8 @@ fn compare_files<R: Env + Files>(rt: &R) {
     let mut theirs = [0u8; MOST];
     let one = tool::read_file(rt, 1, &mut ours);
     let other = tool::read_file(rt, 2, &mut theirs);
-    let m = one.len;
-    let n = other.len;
-    if one.whole {
-        if other.whole {
-            print_compared(rt, &ours[..m], &theirs[..n]);
-        }
+    if let (Some(m), Some(n)) = (one, other) {
+        print_compared(rt, &ours[..m], &theirs[..n]);
     }
 }
 
