@@ -29,11 +29,9 @@ fn build_file<R: Env + Files>(rt: &R, from: usize, to: usize) {
     let mut spec = [0u8; LONGEST];
     let mut room = io::large_buffer();
     let mut out = io::large_buffer();
-    let got = tool::read_file(rt, from, &mut spec);
-    let n = got.len;
-    if !got.whole {
+    let Some(n) = tool::read_file(rt, from, &mut spec) else {
         return;
-    }
+    };
     match build(&spec[..n], &mut room, &mut out) {
         Ok(len) => write_table(rt, to, &out, len),
         Err(fault) => print_fault(rt, from, fault),

@@ -8,10 +8,8 @@ use tool::MOST;
 
 fn check_file<R: Env + Files>(rt: &R, argument: usize) {
     let mut table = [0u8; MOST];
-    let got = tool::read_file(rt, argument, &mut table);
-    let n = got.len;
-    if got.whole {
-        tool::print_answer(reader::check(&table[..n]));
+    if let Some(len) = tool::read_file(rt, argument, &mut table) {
+        tool::print_answer(reader::check(&table[..len]));
     }
 }
 

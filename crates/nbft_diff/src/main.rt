@@ -60,12 +60,8 @@ fn compare_files<R: Env + Files>(rt: &R) {
     let mut theirs = [0u8; MOST];
     let one = tool::read_file(rt, 1, &mut ours);
     let other = tool::read_file(rt, 2, &mut theirs);
-    let m = one.len;
-    let n = other.len;
-    if one.whole {
-        if other.whole {
-            print_compared(rt, &ours[..m], &theirs[..n]);
-        }
+    if let (Some(m), Some(n)) = (one, other) {
+        print_compared(rt, &ours[..m], &theirs[..n]);
     }
 }
 

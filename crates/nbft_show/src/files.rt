@@ -59,9 +59,7 @@ fn show_table(name: &[u8], t: &[u8], a: Asked, none: bool) -> bool {
 
 fn show_input<R: Input>(rt: &R, a: Asked, none: bool) -> bool {
     let mut table = [0u8; MOST];
-    let got = tool::read_input(rt, &mut table);
-    let n = got.len;
-    if got.whole {
+    if let Some(n) = tool::read_input(rt, &mut table) {
         return show_table(b"-", &table[..n], a, none);
     }
     none
@@ -69,9 +67,7 @@ fn show_input<R: Input>(rt: &R, a: Asked, none: bool) -> bool {
 
 fn show_file<R: Files>(rt: &R, path: &[u8], a: Asked, none: bool) -> bool {
     let mut table = [0u8; MOST];
-    let got = tool::read_named(rt, path, &mut table);
-    let n = got.len;
-    if got.whole {
+    if let Some(n) = tool::read_named(rt, path, &mut table) {
         return show_table(path, &table[..n], a, none);
     }
     none

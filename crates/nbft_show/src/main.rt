@@ -20,11 +20,9 @@ fn show_argument<R: Env + Files + Input>(rt: &R, argument: usize, a: Asked, none
         return none;
     }
     let mut path = io::buffer();
-    let name = tool::file_name(rt, argument, &mut path);
-    let length = name.len;
-    if !name.whole {
+    let Some(length) = tool::file_name(rt, argument, &mut path) else {
         return none;
-    }
+    };
     show_name(rt, &path[..length], a, none)
 }
 

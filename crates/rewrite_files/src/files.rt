@@ -13,11 +13,9 @@ fn print_length(len: usize) {
 // The form of one file's table into another file, and its length; of a table that is refused the answer alone.
 pub fn rewrite_file<R: Env + Files>(rt: &R, from: usize, to: usize) {
     let mut table = [0u8; MOST];
-    let got = tool::read_file(rt, from, &mut table);
-    let n = got.len;
-    if !got.whole {
+    let Some(n) = tool::read_file(rt, from, &mut table) else {
         return;
-    }
+    };
     let form = form_of(&table[..n]);
     let answer = form.answer;
     if answer.number != 0 {
@@ -64,11 +62,7 @@ pub fn compare_files<R: Env + Files>(rt: &R, first: usize, second: usize) {
     let mut theirs = [0u8; MOST];
     let one = tool::read_file(rt, first, &mut ours);
     let other = tool::read_file(rt, second, &mut theirs);
-    let m = one.len;
-    let n = other.len;
-    if one.whole {
-        if other.whole {
-            print_compared(&ours[..m], &theirs[..n]);
-        }
+    if let (Some(m), Some(n)) = (one, other) {
+        print_compared(&ours[..m], &theirs[..n]);
     }
 }

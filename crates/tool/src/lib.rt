@@ -25,13 +25,6 @@ pub const STDERR_FILENO: i32 = 2;
 // A table has at most 65,536 bytes, and a file may go on behind its table.
 pub const MOST: usize = 70000;
 
-// What stands in front of the file's bytes, and whether they are all of it.
-#[derive(Clone, Copy)]
-pub struct Got {
-    pub whole: bool,
-    pub len: usize,
-}
-
 pub fn complain(what: &[u8], why: &[u8]) {
     io::write_all(STDERR_FILENO, what);
     io::write_all(STDERR_FILENO, why);
@@ -56,32 +49,30 @@ fn ends_here<R: Read>(file: &mut R, path: &[u8], most: usize) -> bool {
     }
 }
 
-// Reads until the buffer is full, the input ends or a read fails.
+// Reads until the buffer is full, the input ends or a read fails. The loop is by hand: a read may return fewer bytes than there is room for, and
+// `read_exact` does not say how many came before the end.
 fn read_full<R: Read>(file: &mut R, into: &mut [u8]) -> usize
     ensures { IsPrefixLen result into.new }
 {
     let mut done = 0;
     while done < into.len() {
-        let n = match file.read(&mut into[done..]) {
-            Ok(n) => n,
-            Err(_) => 0,
-        };
-        if n == 0 {
-            break;
+        match file.read(&mut into[done..]) {
+            Ok(0) | Err(_) => break,
+            Ok(n) => done += n,
         }
-        done += n;
     }
     done
 }
 
-fn read_open<R: Read>(file: &mut R, path: &[u8], into: &mut [u8]) -> Got
-    ensures { IsPrefixLen result.len into.new }
+// The length of an open file, if it is read whole.
+fn read_open<R: Read>(file: &mut R, path: &[u8], into: &mut [u8]) -> Option<usize>
+    ensures { IfSome result (λ len. IsPrefixLen len into.new) }
 {
-    let n = read_full(file, into);
-    let whole = ends_here(file, path, into.len());
-    Got {
-        whole: whole,
-        len: n,
+    let len = read_full(file, into);
+    if ends_here(file, path, into.len()) {
+        Some(len)
+    } else {
+        None
     }
 }
 
@@ -98,29 +89,23 @@ fn name_text(path: &[u8]) -> Option<&str>
     }
 }
 
-// The file with this name; where it is not read whole, a line on standard error says why.
-pub fn read_named<R: Files>(rt: &R, path: &[u8], into: &mut [u8]) -> Got
-    ensures { IsPrefixLen result.len into.new }
+// The file with this name; its length, or none and a line on standard error that says why it is not read whole.
+pub fn read_named<R: Files>(rt: &R, path: &[u8], into: &mut [u8]) -> Option<usize>
+    ensures { IfSome result (λ len. IsPrefixLen len into.new) }
 {
-    let nothing = Got {
-        whole: false,
-        len: 0,
-    };
-    let Some(name) = name_text(path) else {
-        return nothing;
-    };
+    let name = name_text(path)?;
     match File::open(rt, name) {
         Ok(mut file) => read_open(&mut file, path, into),
         Err(e) => {
             fail(path, e);
-            nothing
+            None
         }
     }
 }
 
 // Standard input, in the same way.
-pub fn read_input<R: Input>(rt: &R, into: &mut [u8]) -> Got
-    ensures { IsPrefixLen result.len into.new }
+pub fn read_input<R: Input>(rt: &R, into: &mut [u8]) -> Option<usize>
+    ensures { IfSome result (λ len. IsPrefixLen len into.new) }
 {
     let mut input = rt.reader();
     read_open(&mut input, b"standard input", into)
@@ -165,31 +150,23 @@ fn error_of(e: FillError) -> Error {
     }
 }
 
-// An argument of the program; nothing where there is none, or where it is longer than what is lent.
+// An argument of the program; nothing where there is none, or where it is longer than what is lent. The length is no `Option`, since every caller takes
+// an argument that is not had for an empty one.
 pub fn argument_bytes<R: Env>(rt: &R, argument: usize, into: &mut [u8]) -> usize
     ensures { IsPrefixLen result into.new }
 {
-    match rt.arg(argument, into) {
-        Ok(n) => n,
-        Err(_) => 0,
-    }
+    rt.arg(argument, into).unwrap_or(0)
 }
 
 // The name of a file that an argument of the program is; where it is not had, a line on standard error says why.
-pub fn file_name<R: Env>(rt: &R, argument: usize, into: &mut [u8]) -> Got
-    ensures { IsPrefixLen result.len into.new }
+pub fn file_name<R: Env>(rt: &R, argument: usize, into: &mut [u8]) -> Option<usize>
+    ensures { IfSome result (λ len. IsPrefixLen len into.new) }
 {
     match rt.arg(argument, into) {
-        Ok(n) => Got {
-            whole: true,
-            len: n,
-        },
+        Ok(len) => Some(len),
         Err(e) => {
             fail(b"the file's name", error_of(e));
-            Got {
-                whole: false,
-                len: 0,
-            }
+            None
         }
     }
 }
@@ -205,36 +182,27 @@ pub fn argument_count<R: Env>(rt: &R) -> usize {
 }
 
 // The file that an argument of the program names.
-pub fn read_file<R: Env + Files>(rt: &R, argument: usize, into: &mut [u8]) -> Got
-    ensures { IsPrefixLen result.len into.new }
+pub fn read_file<R: Env + Files>(rt: &R, argument: usize, into: &mut [u8]) -> Option<usize>
+    ensures { IfSome result (λ len. IsPrefixLen len into.new) }
 {
     let mut path = io::buffer();
-    let name = file_name(rt, argument, &mut path);
-    if !name.whole {
-        return Got {
-            whole: false,
-            len: 0,
-        };
-    }
-    read_named(rt, &path[..name.len], into)
+    let len = file_name(rt, argument, &mut path)?;
+    read_named(rt, &path[..len], into)
 }
 
 pub fn argument_is<R: Env>(rt: &R, argument: usize, word: &[u8]) -> bool {
     let mut given = io::buffer();
     let n = argument_bytes(rt, argument, &mut given);
-    check::same(&given[..n], word)
+    &given[..n] == word
 }
 
 // `--help` alone: the usage on standard output, where it was asked for.
 pub fn helped<R: Env>(rt: &R, usage: &[u8]) -> bool {
-    if argument_count(rt) != 2 {
-        return false;
+    let asked = argument_count(rt) == 2 && argument_is(rt, 1, b"--help");
+    if asked {
+        io::write_all(STDOUT_FILENO, usage);
     }
-    if !argument_is(rt, 1, b"--help") {
-        return false;
-    }
-    io::write_all(STDOUT_FILENO, usage);
-    true
+    asked
 }
 
 pub fn print(text: &Text) {
@@ -248,7 +216,7 @@ pub fn print_bytes(s: &[u8]) {
 pub fn answer_line(a: Answer) -> Text
     ensures { result ≡ numbers_line a.number a.kind a.position }
 {
-    text::numbers_line(a.number as u64, a.kind as u64, a.position as u64)
+    text::numbers_line(u64::from(a.number), u64::from(a.kind), a.position as u64)
 }
 
 pub fn answer_words(a: Answer) -> Text

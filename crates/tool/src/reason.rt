@@ -16,10 +16,9 @@ struct Words {
 impl fmt::Write for Words {
     fn write_str(&mut self, s: &str) -> fmt::Result {
         for b in s.as_bytes() {
-            let at = self.len;
-            if at < 128 {
-                self.bytes[at] = *b;
-                self.len = at + 1;
+            if self.len < 128 {
+                self.bytes[self.len] = *b;
+                self.len += 1;
             }
         }
         Ok(())
@@ -33,7 +32,7 @@ fn bare_len(len: usize, e: Error) -> usize
     let Some(code) = e.raw_os_error() else {
         return len;
     };
-    let number = text::decimal(code.unsigned_abs() as u64);
+    let number = text::decimal(u64::from(code.unsigned_abs()));
     len.saturating_sub(12).saturating_sub(number.len())
 }
 

@@ -1,5 +1,5 @@
 // A file written whole or not at all: under a name of its own beside the file's, then renamed.
-ghost use Rattle.std.specs.Prelude.{◌≡◌, ◌++◌, ◌+◌, ◌≤◌, length, take, drop};
+ghost use Rattle.std.specs.Prelude.{◌≡◌, ◌++◌, ◌+◌, ◌≤◌, length, take};
 ghost use Rattle.io.specs.Counts.{IsPrefixLen};
 
 use crate::reason::fail;
@@ -7,18 +7,10 @@ use crate::{complain, file_name, name_text};
 use std::env::Env;
 use std::fs;
 use std::fs::{File, Files, OpenFile, OpenOptions};
-use std::io::{ErrorKind, Write};
+use std::io::{Error, ErrorKind, Write};
 
 // Room for the longest argument and `.part`. A name that is longer than paths may be is refused where it is used.
 const NAME_MAX: usize = 4101;
-
-// Puts bytes at the start of others.
-fn copy(from: &[u8], to: &mut [u8])
-    requires { length from.now ≤ length to.old }
-    ensures { to.new ≡ from.now ++ drop (length from.now) to.old }
-{
-    to[..from.len()].copy_from_slice(from);
-}
 
 // A path with an ending behind it; how long both are.
 pub fn put_name(path: &[u8], ending: &[u8], name: &mut [u8]) -> usize
@@ -27,8 +19,8 @@ pub fn put_name(path: &[u8], ending: &[u8], name: &mut [u8]) -> usize
 {
     let n = path.len();
     let end = n + ending.len();
-    copy(path, name);
-    copy(ending, &mut name[n..end]);
+    name[..n].copy_from_slice(path);
+    name[n..end].copy_from_slice(ending);
     end
 }
 
@@ -39,16 +31,9 @@ fn remove<R: Files>(rt: &R, name: &str) {
 }
 
 // Errors may come as late as when the bytes reach the device. The file is closed behind them, so that it may be removed.
-fn fill_open<F: Write + OpenFile + Drop>(mut file: F, path: &[u8], content: &[u8]) -> bool {
-    if let Err(e) = file.write_all(content) {
-        fail(path, e);
-        return false;
-    }
-    if let Err(e) = file.sync_all() {
-        fail(path, e);
-        return false;
-    }
-    true
+fn fill_open<F: Write + OpenFile + Drop>(mut file: F, content: &[u8]) -> Result<(), Error> {
+    file.write_all(content)?;
+    file.sync_all()
 }
 
 // A file that is there already is left alone: it may be another program's.
@@ -64,11 +49,14 @@ fn write_new<R: Files>(rt: &R, name: &str, content: &[u8]) -> bool {
             return false;
         }
     };
-    if fill_open(file, name.as_bytes(), content) {
-        return true;
+    match fill_open(file, content) {
+        Ok(()) => true,
+        Err(e) => {
+            fail(name.as_bytes(), e);
+            remove(rt, name);
+            false
+        }
     }
-    remove(rt, name);
-    false
 }
 
 fn write_beside<R: Files>(rt: &R, path: &str, content: &[u8]) -> bool
@@ -113,10 +101,8 @@ fn may_take<R: Files>(rt: &R, name: &str) -> bool {
     }
     let file = match OpenOptions::new().read(true).write(true).open(rt, name) {
         Ok(file) => file,
+        Err(e) if e.kind() == ErrorKind::NotFound => return true,
         Err(e) => {
-            if e.kind() == ErrorKind::NotFound {
-                return true;
-            }
             fail(path, e);
             return false;
         }
@@ -131,15 +117,11 @@ fn may_take<R: Files>(rt: &R, name: &str) -> bool {
 // The file that an argument of the program names; where it is not written, it is as it was, and a line on standard error says why.
 pub fn write_file<R: Env + Files>(rt: &R, argument: usize, content: &[u8]) -> bool {
     let mut path = io::buffer();
-    let got = file_name(rt, argument, &mut path);
-    if !got.whole {
-        return false;
-    }
-    let Some(name) = name_text(&path[..got.len]) else {
+    let Some(len) = file_name(rt, argument, &mut path) else {
         return false;
     };
-    if !may_take(rt, name) {
+    let Some(name) = name_text(&path[..len]) else {
         return false;
-    }
-    write_beside(rt, name, content)
+    };
+    may_take(rt, name) && write_beside(rt, name, content)
 }
