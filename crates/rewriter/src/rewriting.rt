@@ -58,10 +58,7 @@ fn lay_form(out: &mut [u8], t: &[u8], size: usize, heap: usize) -> usize
 fn refused(answer: Answer) -> Rewritten
     ensures { (result.answer ≡ answer) × (result.len ≡ 0) }
 {
-    Rewritten {
-        answer,
-        len: 0,
-    }
+    Rewritten { answer, len: 0 }
 }
 
 // The table's one form in the first bytes of `out`, and its length. Any bytes may be handed in.

@@ -1,7 +1,6 @@
 // Lists of positions: one that leads, if one does, and behind it those of a list that are not the same.
 use crate::bytes::{print_line_start, put, wider};
-use text::Text;
-use text::decimals;
+use text::{Text, decimals};
 use tool::{print, print_bytes};
 
 // Goes over the one that leads and over the others, in their order.

@@ -36,6 +36,6 @@ returns c =
     let other = c.whole_object-other.ensures.0 in
     let at : c.differ_at-at.result ≡ differ_at x y = c.differ_at-at.ensures.0 ∙ ap₂ differ_at one other in
     c.object_line.ensures
-          ∙ ap₂ (λ (l m : ℕ). text_of (objects a.kind a.position a.offset l m c.differ_at-at.result)) (ap length one) (ap length other)
-          ∙ ap (λ (d : ℕ). text_of (objects a.kind a.position a.offset (length x) (length y) d)) at
-          ∙ sym (unlike-text x y _ (λ e. one-outcome (c.same.ensures.1 (one ∙ e ∙ sym other)) c.if-same.false))
+    ∙ ap₂ (λ (l m : ℕ). text_of (objects a.kind a.position a.offset l m c.differ_at-at.result)) (ap length one) (ap length other)
+    ∙ ap (λ (d : ℕ). text_of (objects a.kind a.position a.offset (length x) (length y) d)) at
+    ∙ sym (unlike-text x y _ (λ e. one-outcome (c.same.ensures.1 (one ∙ e ∙ sym other)) c.if-same.false))

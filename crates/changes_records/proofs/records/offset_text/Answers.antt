@@ -70,8 +70,8 @@ returns-then-width-ne0 c =
     let told = plain_lines t u a.kind a.position a.offset in
     let some : eqb w 0 ≡ false = ne_eqb w 0 (λ o. c.if-width-ne0.true (c.field_width-width.ensures ∙ o)) in
     c.field_text.ensures
-          ∙ ap (λ (m : ℕ). texts_of (field_line a.kind a.position a.offset (take m (drop a.offset x)) (take m (drop a.offset z)))) e
-          ∙ ap (λ (b : Bool). texts_of (pick b told (field_line a.kind a.position a.offset (part x a.offset w) (part z a.offset w)))) (sym some)
+    ∙ ap (λ (m : ℕ). texts_of (field_line a.kind a.position a.offset (take m (drop a.offset x)) (take m (drop a.offset z)))) e
+    ∙ ap (λ (b : Bool). texts_of (pick b told (field_line a.kind a.position a.offset (part x a.offset w) (part z a.offset w)))) (sym some)
 
 pub returns-then-has_object : goal.returns-then-has_object
 returns-then-has_object c =
