@@ -1,6 +1,6 @@
 use Rattle.std.proofs.Common.{◌≡◌, [], ◌∷◌, ◌++◌, ◌<◌, refl, arith, rules}
-use Rattle.core.specs.Slice.Iter.{iter_rest}
-use Rattle.core.specs.Iterator.Adapters.{rev_source}
+use Rattle.std.specs.Slice.Iter.{iter_rest}
+use Rattle.std.specs.Iterator.Adapters.{rev_source}
 use Rattle.bytes_positions.proofs.Laws.{marks-none, met-next, marks-more, marked-first, marked-twice}
 use Rattle.bytes_positions.proofs.is_once.Goals.{After-from-value}
 use Rattle.bytes_positions.proofs.is_once.Goals as goal

@@ -1,6 +1,6 @@
 use Rattle.std.proofs.Common.{◌≡◌, true, List, ℕ, ◌++◌, length}
-use Rattle.core.specs.Slice.Iter.{iter_rest}
-use Rattle.core.specs.Iterator.Adapters.{rev_source}
+use Rattle.std.specs.Slice.Iter.{iter_rest}
+use Rattle.std.specs.Iterator.Adapters.{rev_source}
 use Rattle.table.specs.Bytes.{once}
 use Rattle.bytes_positions.proofs.Laws.{Marks}
 use Rattle.bytes_positions.proofs.is_once.Given as goal

@@ -1,5 +1,5 @@
 use Rattle.std.proofs.Common.{ℕ, List, ◌++◌, sym, ap, ◌∙◌, not, append_assoc, arith}
-use Rattle.core.specs.Slice.Iter.{chunks_exact_rest}
+use Rattle.std.specs.Slice.Iter.{chunks_exact_rest}
 use Rattle.bytes_text.proofs.Laws.{past-seen, last-seen}
 use Rattle.bytes_text.proofs.zero_by_blocks.Goals as goal
 

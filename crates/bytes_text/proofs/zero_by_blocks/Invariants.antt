@@ -1,5 +1,5 @@
 use Rattle.std.proofs.Common.{◌≡◌, true, List, ℕ, ◌++◌}
-use Rattle.core.specs.Slice.Iter.{chunks_exact_rest, chunks_exact_size}
+use Rattle.std.specs.Slice.Iter.{chunks_exact_rest, chunks_exact_size}
 use Rattle.laws.specs.TextLaws.{no_zero}
 use Rattle.bytes_text.proofs.zero_by_blocks.Given as goal
 
