@@ -6,6 +6,7 @@ pub returns : goal.returns
 returns c =
     let a = c.args in
     cc (
+      c.from.ensures,
       c.put_column.ensures.1,
       c.push.ensures,
       c.append.ensures,
