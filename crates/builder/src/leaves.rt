@@ -20,7 +20,7 @@ pub fn leave(out: &mut [u8], state: State) -> Step
     let answer = table::done();
     let after = builder_state::next(state, 0, false);
     Step {
-        answer: answer,
+        answer,
         state: after,
     }
 }

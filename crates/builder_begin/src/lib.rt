@@ -41,7 +41,7 @@ fn begun_state(counts: Counts, used: usize) -> State
         ssns: counts.ssns,
         security: counts.security,
         discovery: counts.discovery,
-        used: used,
+        used,
         minor: 0,
     }
 }

@@ -55,7 +55,7 @@ pub fn finish(out: &mut [u8], state: State) -> Step
         return refused(answer, state);
     }
     Step {
-        answer: answer,
+        answer,
         state: finished,
     }
 }

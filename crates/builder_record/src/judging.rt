@@ -35,7 +35,7 @@ pub fn refused(answer: Answer, state: State) -> Step
     ensures { (result.answer ≡ answer) × (result.state ≡ state) }
 {
     Step {
-        answer: answer,
-        state: state,
+        answer,
+        state,
     }
 }

@@ -57,7 +57,7 @@ pub fn stepped(answer: Answer, state: State, written: usize, newer: bool) -> Ste
 {
     let after = builder_state::next(state, written, newer);
     Step {
-        answer: answer,
+        answer,
         state: after,
     }
 }

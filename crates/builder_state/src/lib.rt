@@ -135,13 +135,10 @@ fn moved_to(state: State, kind: u16, position: u16, used: usize, minor: usize) -
 {
     State {
         turn: kind,
-        position: position,
-        hfi: state.hfi,
-        ssns: state.ssns,
-        security: state.security,
-        discovery: state.discovery,
-        used: used,
-        minor: minor,
+        position,
+        used,
+        minor,
+        ..state
     }
 }
 

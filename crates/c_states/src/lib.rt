@@ -26,8 +26,8 @@ fn state_in(b: &[u8]) -> State
         ssns: b[5],
         security: b[6],
         discovery: b[7],
-        used: used,
-        minor: minor,
+        used,
+        minor,
     }
 }
 

@@ -25,8 +25,8 @@ fn walk_of(list: u8, position: usize) -> Walk
     ensures { result ≡ walk list position }
 {
     Walk {
-        list: list,
-        position: position,
+        list,
+        position,
     }
 }
 

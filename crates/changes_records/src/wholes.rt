@@ -29,7 +29,7 @@ fn is_there(t: &[u8], kind: u8, position: usize) -> bool
 fn level_of(at: usize, both: bool) -> Level
     ensures { (result.at ≡ at) × (result.both ≡ both) }
 {
-    Level { at: at, both: both }
+    Level { at, both }
 }
 
 // The heap record of a kind, behind the first `from` bytes of `out`, without what it names in its turn.

@@ -37,7 +37,7 @@ pub extern "C" fn nbft_host(
 {
     let before = *state;
     let bytes = *told;
-    let step = builder::host(out, state_of(before), Host { bytes: bytes }, nqn);
+    let step = builder::host(out, state_of(before), Host { bytes }, nqn);
     show(state, step)
 }
 
@@ -63,7 +63,7 @@ pub extern "C" fn nbft_hfi(
     let step = builder::hfi(
         out,
         state_of(before),
-        Hfi { bytes: bytes },
+        Hfi { bytes },
         Info { bytes: own },
         name,
         extended_told != 0,
@@ -95,7 +95,7 @@ pub extern "C" fn nbft_ssns(
     let step = builder::ssns(
         out,
         state_of(before),
-        Ssns { bytes: bytes },
+        Ssns { bytes },
         address,
         service,
         others,
@@ -122,7 +122,7 @@ pub extern "C" fn nbft_security(
 {
     let before = *state;
     let bytes = *told;
-    let x = Security { bytes: bytes };
+    let x = Security { bytes };
     let step = builder::security(
         out,
         state_of(before),
@@ -149,7 +149,7 @@ pub extern "C" fn nbft_discovery(
 {
     let before = *state;
     let bytes = *told;
-    let x = Discovery { bytes: bytes };
+    let x = Discovery { bytes };
     let step = builder::discovery(out, state_of(before), x, address, nqn);
     show(state, step)
 }

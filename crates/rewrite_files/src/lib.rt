@@ -25,9 +25,9 @@ pub fn form_of(t: &[u8]) -> Form
     let made = rewriter::rewrite(t, &mut bytes);
     let answer = made.answer;
     Form {
-        answer: answer,
+        answer,
         len: made.len,
-        bytes: bytes,
+        bytes,
     }
 }
 
@@ -54,6 +54,6 @@ pub fn compare(t: &[u8], u: &[u8]) -> Compared
     Compared {
         first: a,
         second: b,
-        same: same,
+        same,
     }
 }

@@ -23,7 +23,8 @@ pub const FRONT: usize = Header::SIZE + Control::SIZE;
 // With the host: where the lists start in the one form, and the least Length.
 pub const SHORTEST: usize = FRONT + Host::SIZE;
 
-// What every call answers: a number of Rules 4.2 (docs/RULES.md), and the kind and position of the record at fault.
+// What every call answers: a number of Rules 4.2 (docs/RULES.md), and the kind and position of the record at fault. Numbers and no enums or `Result`:
+// the definitions answer so (`answer` and `first_fail` in Rules.antt), the theorems of `laws` speak of them, and C's callers get them.
 #[derive(Clone, Copy)]
 pub struct Answer {
     pub number: u8,
@@ -43,13 +44,13 @@ pub fn refuse(number: u8, kind: u8, position: usize) -> Answer
     ensures { result ≡ answer number kind position }
 {
     Answer {
-        number: number,
-        kind: kind,
-        position: position,
+        number,
+        kind,
+        position,
     }
 }
 
-// What the rules of a record find: a number of Rules 4.2 or 0, and how many looks at records it took to say so.
+// What the rules of a record find: a number of Rules 4.2 or 0, as the definitions of the rules have it, and how many looks at records it took to say so.
 #[derive(Clone, Copy)]
 pub struct Found {
     pub number: u8,

@@ -1,5 +1,6 @@
 // The record kinds: what each is called in a table (ID) and how long it is there (SIZE). Code elsewhere names these constants and writes no such number.
-// A record is held by its bytes in table layout, so that a caller's bytes can be taken as they are.
+// A record is held by its bytes in table layout, so that a caller's bytes can be taken as they are. A kind is its number and no enum: the definitions
+// (`layout_of`, `read_record`) take any number, C's callers ask with any, and one that is no kind has an answer of its own, 16.
 
 // The table's first bytes. It has no ID of its own; reads ask for it by kind 0.
 #[derive(Clone, Copy)]
