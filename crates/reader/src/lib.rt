@@ -12,18 +12,26 @@ ghost use Rattle.reader_rules.specs.Rules.{IsHeap};
 ghost use Rattle.reader.specs.Stages.{host_fault, host_looks, lists_fault, lists_looks, numbered};
 
 use reader_lists::{list_fault, refs_fault, used_fault};
-use table::{Answer, Control, Discovery, Header, Hfi, Host, Looked, Security, Ssns};
+use reader_references::Heap;
+use table::{Answer, Control, Discovery, Header, Hfi, Host, Looked, Region, Security, Ssns};
 
 // The heap, lent to the readers of records as the part of the table that it is; an empty one has no place.
-fn heap_of(t: &[u8], at: usize, len: usize) -> &[u8]
-    requires { (0 < len → at + len ≤ length t.now) × (at < 4294967296) × (len < 4294967296) }
-    ensures { result.now ≡ part t.now at len }
+fn heap_of(t: &[u8], place: Region) -> Heap<'_>
+    requires { (0 < place.len → place.at + place.len ≤ length t.now) × (place.at < 4294967296) × (place.len < 4294967296) }
+    ensures { (result.bytes.now ≡ part t.now place.at place.len) × (result.from ≡ place.at) }
 {
-    if len == 0 {
-        return &t[..0];
+    let from = place.at;
+    if place.len == 0 {
+        return Heap {
+            bytes: &t[..0],
+            from,
+        };
     }
-    let end = at + len;
-    &t[at..end]
+    let end = from + place.len;
+    Heap {
+        bytes: &t[from..end],
+        from,
+    }
 }
 
 fn answer_of(number: u8, kind: u8) -> Answer
@@ -47,9 +55,9 @@ fn behind(looks: usize, rest: Looked) -> Looked
     }
 }
 
-fn host_fault(t: &[u8], heap: &[u8], from: usize) -> Looked
-    requires { LaidOut t.now × IsHeap t.now heap.now from }
-    ensures { (result.answer ≡ host_fault (region from (length heap.now)) t.now) × (result.looks ≡ host_looks (region from (length heap.now)) t.now) × (result.looks ≤ 8589934596) }
+fn host_fault(t: &[u8], heap: Heap<'_>) -> Looked
+    requires { LaidOut t.now × IsHeap t.now heap.bytes.now heap.from }
+    ensures { (result.answer ≡ host_fault (region heap.entry.from (length heap.entry.bytes.now)) t.now) × (result.looks ≡ host_looks (region heap.entry.from (length heap.entry.bytes.now)) t.now) × (result.looks ≤ 8589934596) }
 {
     let r = bytes_wire::reference_at(t, Control::HOST);
     let a = r.at;
@@ -60,58 +68,55 @@ fn host_fault(t: &[u8], heap: &[u8], from: usize) -> Looked
             looks: 1,
         };
     }
-    let used = used_fault(t, Host::ID, a, 0, heap, from);
+    let used = used_fault(t, Host::ID, a, 0, heap);
     Looked {
         answer: answer_of(used.number, Host::ID),
         looks: used.looks,
     }
 }
 
-fn lists_fault(t: &[u8], heap: &[u8], from: usize) -> Looked
-    requires { LaidOut t.now × IsHeap t.now heap.now from }
-    ensures { (result.answer ≡ lists_fault (region from (length heap.now)) t.now) × (result.looks ≡ lists_looks (region from (length heap.now)) t.now) × (result.looks ≤ 8796093022208) }
+fn lists_fault(t: &[u8], heap: Heap<'_>) -> Looked
+    requires { LaidOut t.now × IsHeap t.now heap.bytes.now heap.from }
+    ensures { (result.answer ≡ lists_fault (region heap.entry.from (length heap.entry.bytes.now)) t.now) × (result.looks ≡ lists_looks (region heap.entry.from (length heap.entry.bytes.now)) t.now) × (result.looks ≤ 8796093022208) }
 {
-    let hfi = list_fault(t, Hfi::ID, Control::HFI_LIST, heap, from);
+    let hfi = list_fault(t, Hfi::ID, Control::HFI_LIST, heap);
     if hfi.answer.number != 0 {
         return hfi;
     }
-    let second = list_fault(t, Ssns::ID, Control::SSNS_LIST, heap, from);
+    let second = list_fault(t, Ssns::ID, Control::SSNS_LIST, heap);
     let ssns = behind(hfi.looks, second);
     if ssns.answer.number != 0 {
         return ssns;
     }
-    let third = list_fault(t, Security::ID, Control::SECURITY_LIST, heap, from);
+    let third = list_fault(t, Security::ID, Control::SECURITY_LIST, heap);
     let security = behind(ssns.looks, third);
     if security.answer.number != 0 {
         return security;
     }
-    let last = list_fault(t, Discovery::ID, Control::DISCOVERY_LIST, heap, from);
+    let last = list_fault(t, Discovery::ID, Control::DISCOVERY_LIST, heap);
     behind(security.looks, last)
 }
 
-fn parts_fault(t: &[u8], heap: &[u8], from: usize) -> Looked
-    requires { LaidOut t.now × IsHeap t.now heap.now from × (from ≡ num t.now 36 4) × (length heap.now ≡ num t.now 40 4) }
+fn parts_fault(t: &[u8], heap: Heap<'_>) -> Looked
+    requires { LaidOut t.now × IsHeap t.now heap.bytes.now heap.from × (heap.from ≡ num t.now 36 4) × (length heap.bytes.now ≡ num t.now 40 4) }
     ensures { (result.answer ≡ records t.now (meaning t.now)) × (result.looks ≡ looks_records t.now (meaning t.now)) }
 {
-    let answer = answer_of(refs_fault(t, Header::ID, 0, 0, heap, from), Header::ID);
+    let answer = answer_of(refs_fault(t, Header::ID, 0, 0, heap), Header::ID);
     if answer.number != 0 {
         return Looked { answer, looks: 0 };
     }
-    let host = host_fault(t, heap, from);
+    let host = host_fault(t, heap);
     if host.answer.number != 0 {
         return host;
     }
-    behind(host.looks, lists_fault(t, heap, from))
+    behind(host.looks, lists_fault(t, heap))
 }
 
 fn records_fault(t: &[u8]) -> Looked
     requires { LaidOut t.now }
     ensures { (result.answer ≡ records t.now (meaning t.now)) × (result.looks ≡ looks_records t.now (meaning t.now)) }
 {
-    let region = reader_head::region_at(t, 36);
-    let from = region.at;
-    let len = region.len;
-    parts_fault(t, heap_of(t, from, len), from)
+    parts_fault(t, heap_of(t, reader_head::region_at(t, 36)))
 }
 
 // The answer to any bytes, and how many looks at records it took: none where the frame has a fault.

@@ -1,7 +1,7 @@
 // Heap records by their own bytes: the transport info of an HFI, the HFI extended info that it may name, and the extended info of an SSNS.
 #![tactic(auto)]
 
-ghost use Rattle.std.specs.Prelude.{◌≡◌, ◌||◌, [], ◌+◌, ◌≤◌, ◌<◌, length, get_or, eqb};
+ghost use Rattle.std.specs.Prelude.{◌≡◌, ◌||◌, [], ◌+◌, ◌≤◌, length, get_or, eqb};
 ghost use Rattle.table.specs.Bytes.{pick};
 ghost use Rattle.table.specs.Layout.{base_of};
 ghost use Rattle.table.specs.FixedLayouts.{layout_of, info, extended, hfi_extended};
@@ -11,7 +11,7 @@ ghost use Rattle.reader_heap_records.specs.HeapRecords.{sound_by, info_right, id
 use layout_fields::texts::holds_text;
 use layout_kinds::TCP;
 use layout_needs::{identity_need, plain_need};
-use reader_references::{part_at, plain_fault, text_fault};
+use reader_references::{Heap, part_at, plain_fault, text_fault};
 use table::{Extended, HfiExtended, Info, Need};
 
 // Valid, with the right ID, version, type and index, by what was read, and what else its kind asks for. For a kind without type the right one is
@@ -82,25 +82,25 @@ fn own_need(x: &[u8], kind: u8, off: usize) -> Need
 }
 
 // A reference of its own, to an object.
-fn own_ref(x: &[u8], kind: u8, off: usize, heap: &[u8], from: usize) -> u8
-    requires { (base_of (layout_of kind) ≤ length x.now) × (off + 6 ≤ length x.now) × (from + length heap.now < 8589934592) }
-    ensures { result ≡ own_fault kind heap.now from x.now off }
+fn own_ref(x: &[u8], kind: u8, off: usize, heap: Heap<'_>) -> u8
+    requires { (base_of (layout_of kind) ≤ length x.now) × (off + 6 ≤ length x.now) }
+    ensures { result ≡ own_fault kind heap.entry.bytes.now heap.entry.from x.now off }
 {
     let need = own_need(x, kind, off);
     if holds_text(kind, off) {
-        return text_fault(x, off, need, heap, from);
+        return text_fault(x, off, need, heap);
     }
-    plain_fault(x, off, need, from, heap.len())
+    plain_fault(x, off, need, heap)
 }
 
 // The first fault of its references, by ascending field offset.
 #[tactic(auto, unfolding(crate::specs::HeapRecords::own_faults))]
-fn own_fault(x: &[u8], kind: u8, heap: &[u8], from: usize) -> u8
-    requires { (base_of (layout_of kind) ≤ length x.now) × (from + length heap.now < 8589934592) }
-    ensures { result ≡ own_faults kind heap.now from x.now }
+fn own_fault(x: &[u8], kind: u8, heap: Heap<'_>) -> u8
+    requires { base_of (layout_of kind) ≤ length x.now }
+    ensures { result ≡ own_faults kind heap.entry.bytes.now heap.entry.from x.now }
 {
     for &off in layout_kinds::reference_offsets(kind) {
-        let fault = own_ref(x, kind, off, heap, from);
+        let fault = own_ref(x, kind, off, heap);
         if fault != 0 {
             return fault;
         }
@@ -109,9 +109,9 @@ fn own_fault(x: &[u8], kind: u8, heap: &[u8], from: usize) -> u8
 }
 
 // HFI extended info by its own bytes and those of the info that names it: long enough, sound, then its references.
-fn identity_fault(owner: &[u8], x: &[u8], position: usize, heap: &[u8], from: usize) -> u8
-    requires { (128 ≤ length owner.now) × (from + length heap.now < 8589934592) }
-    ensures { result ≡ flat_part heap.now from position hfi_extended.shape hfi_extended.refs (image_in info owner.now 0) x.now }
+fn identity_fault(owner: &[u8], x: &[u8], position: usize, heap: Heap<'_>) -> u8
+    requires { 128 ≤ length owner.now }
+    ensures { result ≡ flat_part heap.entry.bytes.now heap.entry.from position hfi_extended.shape hfi_extended.refs (image_in info owner.now 0) x.now }
 {
     if x.len() < HfiExtended::SIZE {
         return 12;
@@ -130,51 +130,51 @@ fn identity_fault(owner: &[u8], x: &[u8], position: usize, heap: &[u8], from: us
     if fault != 0 {
         return fault;
     }
-    own_fault(x, HfiExtended::ID, heap, from)
+    own_fault(x, HfiExtended::ID, heap)
 }
 
 // The reference of an info to its extended info, which counts under version 2 alone. It is handed on as the part of the heap that it is.
-fn identity_ref(x: &[u8], position: usize, heap: &[u8], from: usize) -> u8
-    requires { (128 ≤ length x.now) × (from + length heap.now < 8589934592) }
-    ensures { result ≡ identity_fault heap.now from position x.now }
+fn identity_ref(x: &[u8], position: usize, heap: Heap<'_>) -> u8
+    requires { 128 ≤ length x.now }
+    ensures { result ≡ identity_fault heap.entry.bytes.now heap.entry.from position x.now }
 {
     if x[3] != 2 {
         return 0;
     }
-    let fault = plain_fault(x, 110, Need::Optional, from, heap.len());
+    let fault = plain_fault(x, 110, Need::Optional, heap);
     if fault != 0 {
         return fault;
     }
-    let named = part_at(x, 110, heap, from);
+    let named = part_at(x, 110, heap);
     if named.is_empty() {
         return 0;
     }
-    identity_fault(x, named, position, heap, from)
+    identity_fault(x, named, position, heap)
 }
 
 // A reference of an info: its extended info, or an object.
-fn info_ref(x: &[u8], position: usize, off: usize, heap: &[u8], from: usize) -> u8
-    requires { (128 ≤ length x.now) × (off + 6 ≤ length x.now) × (from + length heap.now < 8589934592) }
-    ensures { result ≡ info_fault heap.now from position x.now off }
+fn info_ref(x: &[u8], position: usize, off: usize, heap: Heap<'_>) -> u8
+    requires { (128 ≤ length x.now) × (off + 6 ≤ length x.now) }
+    ensures { result ≡ info_fault heap.entry.bytes.now heap.entry.from position x.now off }
 {
     if off == 110 {
-        return identity_ref(x, position, heap, from);
+        return identity_ref(x, position, heap);
     }
     let need = plain_need(Info::ID, off);
     if holds_text(Info::ID, off) {
-        return text_fault(x, off, need, heap, from);
+        return text_fault(x, off, need, heap);
     }
-    plain_fault(x, off, need, from, heap.len())
+    plain_fault(x, off, need, heap)
 }
 
 // The first fault of them, by ascending field offset.
 #[tactic(auto, unfolding(crate::specs::HeapRecords::info_faults, table::specs::FixedLayouts::layout_of))]
-fn info_refs(x: &[u8], position: usize, heap: &[u8], from: usize) -> u8
-    requires { (128 ≤ length x.now) × (from + length heap.now < 8589934592) }
-    ensures { result ≡ info_faults heap.now from position x.now }
+fn info_refs(x: &[u8], position: usize, heap: Heap<'_>) -> u8
+    requires { 128 ≤ length x.now }
+    ensures { result ≡ info_faults heap.entry.bytes.now heap.entry.from position x.now }
 {
     for &off in layout_kinds::reference_offsets(Info::ID) {
-        let fault = info_ref(x, position, off, heap, from);
+        let fault = info_ref(x, position, off, heap);
         if fault != 0 {
             return fault;
         }
@@ -183,9 +183,8 @@ fn info_refs(x: &[u8], position: usize, heap: &[u8], from: usize) -> u8
 }
 
 // HFI transport info by its own bytes: long enough, sound, then its references.
-pub fn info_fault(x: &[u8], position: usize, heap: &[u8], from: usize) -> u8
-    requires { from + length heap.now < 8589934592 }
-    ensures { result ≡ info_part heap.now from position x.now }
+pub fn info_fault(x: &[u8], position: usize, heap: Heap<'_>) -> u8
+    ensures { result ≡ info_part heap.entry.bytes.now heap.entry.from position x.now }
 {
     if x.len() < Info::SIZE {
         return 12;
@@ -204,13 +203,12 @@ pub fn info_fault(x: &[u8], position: usize, heap: &[u8], from: usize) -> u8
     if fault != 0 {
         return fault;
     }
-    info_refs(x, position, heap, from)
+    info_refs(x, position, heap)
 }
 
 // SSNS extended info, which names one object and asks for nothing else.
-pub fn extended_fault(x: &[u8], position: usize, heap: &[u8], from: usize) -> u8
-    requires { from + length heap.now < 8589934592 }
-    ensures { result ≡ flat_part heap.now from position extended.shape extended.refs [] x.now }
+pub fn extended_fault(x: &[u8], position: usize, heap: Heap<'_>) -> u8
+    ensures { result ≡ flat_part heap.entry.bytes.now heap.entry.from position extended.shape extended.refs [] x.now }
 {
     if x.len() < Extended::SIZE {
         return 12;
@@ -228,5 +226,5 @@ pub fn extended_fault(x: &[u8], position: usize, heap: &[u8], from: usize) -> u8
     if fault != 0 {
         return fault;
     }
-    own_fault(x, Extended::ID, heap, from)
+    own_fault(x, Extended::ID, heap)
 }

@@ -12,6 +12,7 @@ ghost use Rattle.reader_frame.specs.Bounds.{ListIn, LaidOut};
 ghost use Rattle.reader_rules.specs.Rules.{IsHeap};
 ghost use Rattle.reader_indexes.specs.Indexes.{RefsPass};
 
+use reader_references::Heap;
 use table::{Control, Discovery, Found, Hfi, Security, Ssns};
 
 // Position n of a list is one of it, and its valid bit is set.
@@ -111,9 +112,9 @@ fn secondaries_fault(x: &[u8], t: &[u8]) -> Found
 }
 
 // The secondary list is a part of the heap, whose reference has passed.
-pub fn secondary_names(t: &[u8], a: usize, position: usize, heap: &[u8], from: usize) -> Found
-    requires { LaidOut t.now × (a + 128 ≤ length t.now) × IsHeap t.now heap.now from × RefsPass 4 (region from (length heap.now)) t.now a position }
+pub fn secondary_names(t: &[u8], a: usize, position: usize, heap: Heap<'_>) -> Found
+    requires { LaidOut t.now × (a + 128 ≤ length t.now) × IsHeap t.now heap.bytes.now heap.from × RefsPass 4 (region heap.from (length heap.bytes.now)) t.now a position }
     ensures { (result ≡ found_by (valid_in t.now) (each 3 (named_at t.now (a + 48)))) × (result.looks ≤ 8589934592) }
 {
-    secondaries_fault(reader_references::part_at(t, a + 48, heap, from), t)
+    secondaries_fault(reader_references::part_at(t, a + 48, heap), t)
 }

@@ -9,6 +9,7 @@ ghost use Rattle.reader_rules.specs.Rules.{IsHeap};
 ghost use Rattle.reader_indexes.specs.Indexes.{names_found, security_index, RefsPass};
 
 use crate::{NOTHING, behind, index_fault, optional_index, secondary_names};
+use reader_references::Heap;
 use table::{Discovery, Found, Hfi, Security, Ssns};
 
 fn discovery_names(t: &[u8], a: usize) -> Found
@@ -34,8 +35,8 @@ fn security_index(t: &[u8], a: usize) -> Found
     index_fault(t, Security::ID, bytes_wire::wide(t[a + 45]))
 }
 
-fn ssns_names(t: &[u8], a: usize, position: usize, heap: &[u8], from: usize) -> Found
-    requires { LaidOut t.now × (a + 128 ≤ length t.now) × IsHeap t.now heap.now from × RefsPass 4 (region from (length heap.now)) t.now a position }
+fn ssns_names(t: &[u8], a: usize, position: usize, heap: Heap<'_>) -> Found
+    requires { LaidOut t.now × (a + 128 ≤ length t.now) × IsHeap t.now heap.bytes.now heap.from × RefsPass 4 (region heap.from (length heap.bytes.now)) t.now a position }
     ensures { (result ≡ names_found 4 t.now a) × (result.looks ≤ 8589934595) }
 {
     let discovery = optional_index(t, Discovery::ID, bytes_wire::wide(t[a + 8]));
@@ -51,16 +52,16 @@ fn ssns_names(t: &[u8], a: usize, position: usize, heap: &[u8], from: usize) -> 
     if primary.number != 0 {
         return primary;
     }
-    behind(primary.looks, secondary_names(t, a, position, heap, from))
+    behind(primary.looks, secondary_names(t, a, position, heap))
 }
 
 // The indexes of the record at `a`, whose references have passed: 0 or 13.
-pub fn names_fault(t: &[u8], kind: u8, a: usize, position: usize, heap: &[u8], from: usize) -> Found
-    requires { LaidOut t.now × (a + base_of (layout_of kind) ≤ length t.now) × IsHeap t.now heap.now from × RefsPass kind (region from (length heap.now)) t.now a position }
+pub fn names_fault(t: &[u8], kind: u8, a: usize, position: usize, heap: Heap<'_>) -> Found
+    requires { LaidOut t.now × (a + base_of (layout_of kind) ≤ length t.now) × IsHeap t.now heap.bytes.now heap.from × RefsPass kind (region heap.from (length heap.bytes.now)) t.now a position }
     ensures { (result ≡ names_found kind t.now a) × (result.looks ≤ 8589934595) }
 {
     match kind {
-        Ssns::ID => ssns_names(t, a, position, heap, from),
+        Ssns::ID => ssns_names(t, a, position, heap),
         Discovery::ID => discovery_names(t, a),
         _ => NOTHING,
     }

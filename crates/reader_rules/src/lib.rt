@@ -14,91 +14,83 @@ use bytes_wire::wide;
 use layout_fields::texts::holds_text;
 use layout_flags::ssns_flags;
 use layout_needs::{plain_need, security_need, ssns_need};
-use reader_references::{part_at, plain_fault, positions_fault, text_fault};
+use reader_references::{Heap, part_at, plain_fault, positions_fault, text_fault};
 use table::{Control, Discovery, Hfi, Host, Need, Security, Ssns};
 
 // The heap record that the reference names is handed on as the part of the heap that it is. It is required: none is a fault.
-fn info_ref(t: &[u8], a: usize, position: usize, heap: &[u8], from: usize) -> u8
-    requires { (a + 32 ≤ length t.now) × IsHeap t.now heap.now from }
-    ensures { result ≡ ref_fault 3 (region from (length heap.now)) t.now a position 16 }
+fn info_ref(t: &[u8], a: usize, position: usize, heap: Heap<'_>) -> u8
+    requires { (a + 32 ≤ length t.now) × IsHeap t.now heap.bytes.now heap.from }
+    ensures { result ≡ ref_fault 3 (region heap.entry.from (length heap.entry.bytes.now)) t.now a position 16 }
 {
-    let x = part_at(t, a + 16, heap, from);
+    let x = part_at(t, a + 16, heap);
     if x.len() == 0 {
         return 11;
     }
-    reader_heap_records::info_fault(x, position, heap, from)
+    reader_heap_records::info_fault(x, position, heap)
 }
 
-fn extended_ref(t: &[u8], a: usize, position: usize, heap: &[u8], from: usize) -> u8
-    requires { (a + 128 ≤ length t.now) × IsHeap t.now heap.now from }
-    ensures { result ≡ ref_fault 4 (region from (length heap.now)) t.now a position 60 }
+fn extended_ref(t: &[u8], a: usize, position: usize, heap: Heap<'_>) -> u8
+    requires { (a + 128 ≤ length t.now) × IsHeap t.now heap.bytes.now heap.from }
+    ensures { result ≡ ref_fault 4 (region heap.entry.from (length heap.entry.bytes.now)) t.now a position 60 }
 {
     if ssns_flags(t, a) / 16 % 2 == 0 {
         return 0;
     }
-    let x = part_at(t, a + 60, heap, from);
+    let x = part_at(t, a + 60, heap);
     if x.len() == 0 {
         return 11;
     }
-    reader_heap_records::extended_fault(x, position, heap, from)
+    reader_heap_records::extended_fault(x, position, heap)
 }
 
-fn hfi_ref(t: &[u8], a: usize, position: usize, off: usize, heap: &[u8], from: usize) -> u8
-    requires { (a + 32 ≤ length t.now) × IsHeap t.now heap.now from }
-    ensures { result ≡ ref_fault 3 (region from (length heap.now)) t.now a position off }
+fn hfi_ref(t: &[u8], a: usize, position: usize, off: usize, heap: Heap<'_>) -> u8
+    requires { (a + 32 ≤ length t.now) × IsHeap t.now heap.bytes.now heap.from }
+    ensures { result ≡ ref_fault 3 (region heap.entry.from (length heap.entry.bytes.now)) t.now a position off }
 {
     if off == 16 {
-        return info_ref(t, a, position, heap, from);
+        return info_ref(t, a, position, heap);
     }
     0
 }
 
 // The secondary list of the SSNS record at `a`: it has no more positions than the table states HFIs, unused ones too.
-fn secondary_ref(t: &[u8], a: usize, heap: &[u8], from: usize) -> u8
-    requires { (a + 128 ≤ length t.now) × IsHeap t.now heap.now from }
-    ensures { result ≡ asked_rule Need.Optional (positions_rule (get_or t.now 87 0)) heap.now from (reference_at t.now (a + 48)) }
+fn secondary_ref(t: &[u8], a: usize, heap: Heap<'_>) -> u8
+    requires { (a + 128 ≤ length t.now) × IsHeap t.now heap.bytes.now heap.from }
+    ensures { result ≡ asked_rule Need.Optional (positions_rule (get_or t.now 87 0)) heap.entry.bytes.now heap.entry.from (reference_at t.now (a + 48)) }
 {
     let most = wide(t[Control::HFI_LIST + 7]);
-    positions_fault(t, a + 48, most, heap, from)
+    positions_fault(t, a + 48, most, heap)
 }
 
-fn ssns_ref(t: &[u8], a: usize, position: usize, off: usize, heap: &[u8], from: usize) -> u8
-    requires { (a + 128 ≤ length t.now) × (a + off + 6 ≤ length t.now) × IsHeap t.now heap.now from }
-    ensures { result ≡ ref_fault 4 (region from (length heap.now)) t.now a position off }
+fn ssns_ref(t: &[u8], a: usize, position: usize, off: usize, heap: Heap<'_>) -> u8
+    requires { (a + 128 ≤ length t.now) × (a + off + 6 ≤ length t.now) × IsHeap t.now heap.bytes.now heap.from }
+    ensures { result ≡ ref_fault 4 (region heap.entry.from (length heap.entry.bytes.now)) t.now a position off }
 {
     if off == 60 {
-        return extended_ref(t, a, position, heap, from);
+        return extended_ref(t, a, position, heap);
     }
     if off == 48 {
-        return secondary_ref(t, a, heap, from);
+        return secondary_ref(t, a, heap);
     }
     let need = ssns_need(ssns_flags(t, a), off);
     if holds_text(Ssns::ID, off) {
-        return text_fault(t, a + off, need, heap, from);
+        return text_fault(t, a + off, need, heap);
     }
-    plain_fault(t, a + off, need, from, heap.len())
+    plain_fault(t, a + off, need, heap)
 }
 
 // The reference at a field offset of the record at `a`, with its heap record and that one's own reference: 0, 11, 12, 18 or 20.
-pub fn ref_fault(
-    t: &[u8],
-    kind: u8,
-    a: usize,
-    position: usize,
-    off: usize,
-    heap: &[u8],
-    from: usize,
-) -> u8
-    requires { (kind ≤ 6) × (a + base_of (layout_of kind) ≤ length t.now) × (a + off + 6 ≤ length t.now) × IsHeap t.now heap.now from }
-    ensures { result ≡ ref_fault kind (region from (length heap.now)) t.now a position off }
+pub fn ref_fault(t: &[u8], kind: u8, a: usize, position: usize, off: usize, heap: Heap<'_>) -> u8
+    requires { (kind ≤ 6) × (a + base_of (layout_of kind) ≤ length t.now) × (a + off + 6 ≤ length t.now) × IsHeap t.now heap.bytes.now heap.from }
+    ensures { result ≡ ref_fault kind (region heap.entry.from (length heap.entry.bytes.now)) t.now a position off }
 {
     match kind {
-        Hfi::ID => hfi_ref(t, a, position, off, heap, from),
-        Ssns::ID => ssns_ref(t, a, position, off, heap, from),
-        Security::ID => plain_fault(t, a + off, security_need(t, a, off), from, heap.len()),
+        Hfi::ID => hfi_ref(t, a, position, off, heap),
+        Ssns::ID => ssns_ref(t, a, position, off, heap),
+        Security::ID => plain_fault(t, a + off, security_need(t, a, off), heap),
         // All that a host or a discovery controller names is text.
-        Host::ID => text_fault(t, a + off, plain_need(Host::ID, off), heap, from),
-        Discovery::ID => text_fault(t, a + off, plain_need(Discovery::ID, off), heap, from),
-        _ => plain_fault(t, a + off, plain_need(kind, off), from, heap.len()),
+        Host::ID => text_fault(t, a + off, plain_need(Host::ID, off), heap),
+        Discovery::ID => text_fault(t, a + off, plain_need(Discovery::ID, off), heap),
+        _ => plain_fault(t, a + off, plain_need(kind, off), heap),
     }
 }

@@ -32,7 +32,7 @@ returns-then-t-a-ne1 c =
     let a = c.args in
     let g : c.flags_at-flag.result ≡ 1 = c.flags_at-flag.ensures in
     let e : c.reference_at-r.result.at ≡ num a.t.now 72 4 = ap (λ (x : Region). x.at) c.reference_at-r.ensures.0 in
-    let heap = region a.from (length a.heap.now) in
+    let heap = region a.heap.from (length a.heap.bytes.now) in
     let at = c.reference_at-r.result.at in (
       c.refuse.ensures ∙ host-off heap a.t.now at e (rw g at c.if-t-a-ne1.true),
       looks-off heap a.t.now at e (rw g at c.if-t-a-ne1.true),
@@ -53,7 +53,7 @@ returns c =
     let a = c.args in
     let g : c.flags_at-flag.result ≡ 1 = c.flags_at-flag.ensures in
     let e : c.reference_at-r.result.at ≡ num a.t.now 72 4 = ap (λ (x : Region). x.at) c.reference_at-r.ensures.0 in
-    let heap = region a.from (length a.heap.now) in
+    let heap = region a.heap.from (length a.heap.bytes.now) in
     let at = c.reference_at-r.result.at in
     let used = c.used_fault-used in (
       c.answer_of.ensures ∙ host-on heap a.t.now at used.result.number e (rw g at c.if-t-a-ne1.false) used.ensures.0,

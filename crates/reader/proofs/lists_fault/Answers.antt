@@ -17,7 +17,7 @@ list_fault-hfi-requires c =
 pub returns-then-hfi-ne0 : goal.returns-then-hfi-ne0
 returns-then-hfi-ne0 c =
     let a = c.args in
-    let heap = region a.from (length a.heap.now) in
+    let heap = region a.heap.from (length a.heap.bytes.now) in
     let e3 = c.list_fault-hfi.ensures in (
       answer-stop _ e3.0 c.if-hfi-ne0.true ∙ body_is a.t.now heap,
       look_stop e3.0 e3.1 _ c.if-hfi-ne0.true ∙ body-looks a.t.now heap,
@@ -32,7 +32,7 @@ list_fault-second-requires c =
 pub returns-then-ssns-ne0 : goal.returns-then-ssns-ne0
 returns-then-ssns-ne0 c =
     let a = c.args in
-    let heap = region a.from (length a.heap.now) in
+    let heap = region a.heap.from (length a.heap.bytes.now) in
     let e3 = c.list_fault-hfi.ensures in
     let e4 = c.list_fault-second.ensures in
     let s = c.behind-ssns.ensures in
@@ -55,7 +55,7 @@ behind-security-requires c = let s = c.behind-ssns.ensures in omega (arith, s.1,
 pub returns-then-security-ne0 : goal.returns-then-security-ne0
 returns-then-security-ne0 c =
     let a = c.args in
-    let heap = region a.from (length a.heap.now) in
+    let heap = region a.heap.from (length a.heap.bytes.now) in
     let e3 = c.list_fault-hfi.ensures in
     let e4 = c.list_fault-second.ensures in
     let e5 = c.list_fault-third.ensures in
@@ -90,7 +90,7 @@ behind-requires c =
 pub returns : goal.returns
 returns c =
     let a = c.args in
-    let heap = region a.from (length a.heap.now) in
+    let heap = region a.heap.from (length a.heap.bytes.now) in
     let e3 = c.list_fault-hfi.ensures in
     let e4 = c.list_fault-second.ensures in
     let e5 = c.list_fault-third.ensures in

@@ -20,8 +20,8 @@ pub returns-then-answer-ne0 : goal.returns-then-answer-ne0
 returns-then-answer-ne0 c =
     let a = c.args in
     let t = a.t.now in
-    let heap = region a.from (length a.heap.now) in
-    let same = heap-at t a.from (length a.heap.now) c.requires.2 c.requires.3 in
+    let heap = region a.heap.from (length a.heap.bytes.now) in
+    let same = heap-at t a.heap.from (length a.heap.bytes.now) c.requires.2 c.requires.3 in
     let driver = c.answer_of-answer.ensures ∙ ap (λ (v : ℕ). numbered v 0) c.refs_fault.ensures in (
       answer-stop _ driver c.if-answer-ne0.true ∙ parts_are t heap same,
       sym (behind-stop _ _ (λ z. c.if-answer-ne0.true (ap (λ (x : Answer). x.number) driver ∙ z))) ∙ parts-look t heap same,
@@ -31,8 +31,8 @@ pub returns-then-host-ne0 : goal.returns-then-host-ne0
 returns-then-host-ne0 c =
     let a = c.args in
     let t = a.t.now in
-    let heap = region a.from (length a.heap.now) in
-    let same = heap-at t a.from (length a.heap.now) c.requires.2 c.requires.3 in
+    let heap = region a.heap.from (length a.heap.bytes.now) in
+    let same = heap-at t a.heap.from (length a.heap.bytes.now) c.requires.2 c.requires.3 in
     let driver = c.answer_of-answer.ensures ∙ ap (λ (v : ℕ). numbered v 0) c.refs_fault.ensures in
     let signed = c.if-answer-ne0.false in
     let host = c.host_fault-host.ensures in (
@@ -44,8 +44,8 @@ pub returns : goal.returns
 returns c =
     let a = c.args in
     let t = a.t.now in
-    let heap = region a.from (length a.heap.now) in
-    let same = heap-at t a.from (length a.heap.now) c.requires.2 c.requires.3 in
+    let heap = region a.heap.from (length a.heap.bytes.now) in
+    let same = heap-at t a.heap.from (length a.heap.bytes.now) c.requires.2 c.requires.3 in
     let driver = c.answer_of-answer.ensures ∙ ap (λ (v : ℕ). numbered v 0) c.refs_fault.ensures in
     let signed = c.if-answer-ne0.false in
     let host = c.host_fault-host.ensures in

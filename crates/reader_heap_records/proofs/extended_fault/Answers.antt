@@ -33,7 +33,7 @@ returns-then-fault-ne0 c =
 pub own_fault-requires : goal.own_fault-requires
 unfolding layout_of extended
 own_fault-requires c =
-    (omega (arith, c.if-x-lt-SIZE.false), c.requires)
+    omega (arith, c.if-x-lt-SIZE.false)
 
 pub returns : goal.returns
 unfolding extended flat_part
@@ -41,4 +41,4 @@ returns c =
     let s = c.args in
     sound-on s.position extended.shape [] s.x.now c.sound-fault.result _ (omega (arith, c.if-x-lt-SIZE.false)) (judged (goal.at.returns c).After-sound-fault)
     c.own_fault.result c.if-fault-ne0.false
-    (c.own_fault.ensures ∙ extended-own s.heap.now s.from s.x.now)
+    (c.own_fault.ensures ∙ extended-own s.heap.bytes.now s.heap.from s.x.now)

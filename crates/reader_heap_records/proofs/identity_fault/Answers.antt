@@ -37,11 +37,11 @@ returns-then-fault-ne0 c =
 pub own_fault-requires : goal.own_fault-requires
 unfolding layout_of hfi_extended
 own_fault-requires c =
-    (omega (arith, c.if-x-lt-SIZE.false), c.requires.1)
+    omega (arith, c.if-x-lt-SIZE.false)
 
 pub returns : goal.returns
 unfolding hfi_extended flat_part
 returns c =
     let a = c.args in
     sound-on a.position hfi_extended.shape (image_in info a.owner.now 0) a.x.now c.sound-fault.result _ (omega (arith, c.if-x-lt-SIZE.false)) (judged (goal.at.returns c).After-sound-fault)
-    c.own_fault.result c.if-fault-ne0.false (c.own_fault.ensures ∙ identity-own a.heap.now a.from a.x.now)
+    c.own_fault.result c.if-fault-ne0.false (c.own_fault.ensures ∙ identity-own a.heap.bytes.now a.heap.from a.x.now)

@@ -15,7 +15,7 @@ unfolding info_fault layout_of
 returns-then-holds_text c =
     let a = c.args in
     rw (ne_eqb a.off 110 c.if-off-eq110.false)
-    (as-text _ _ _ _ a.heap.now a.from (reference_at a.x.now a.off) c.text_fault.result c.plain_need-need.ensures c.holds_text.ensures
+    (as-text _ _ _ _ a.heap.bytes.now a.heap.from (reference_at a.x.now a.off) c.text_fault.result c.plain_need-need.ensures c.holds_text.ensures
     c.if-holds_text.true c.text_fault.ensures)
 
 pub returns : goal.returns
@@ -23,5 +23,5 @@ unfolding info_fault layout_of
 returns c =
     let a = c.args in
     rw (ne_eqb a.off 110 c.if-off-eq110.false)
-    (as_bytes _ _ _ _ a.heap.now a.from (reference_at a.x.now a.off) c.plain_fault.result c.plain_need-need.ensures c.holds_text.ensures
+    (as_bytes _ _ _ _ a.heap.bytes.now a.heap.from (reference_at a.x.now a.off) c.plain_fault.result c.plain_need-need.ensures c.holds_text.ensures
     c.if-holds_text.false c.plain_fault.ensures)

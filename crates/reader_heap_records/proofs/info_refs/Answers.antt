@@ -8,4 +8,4 @@ unfolding layout_of info
 info_ref-fault-requires c =
     let o = c.reference_offsets-off-items.ensures.0 in
     let w = refs-within 7 c.loop-off.off-index (rw o at c.loop-off-test.true) in
-    (c.requires.0, rw o (omega (arith, w, c.requires.0)), c.requires.1)
+    (c.requires, rw o (omega (arith, w, c.requires)))

@@ -8,4 +8,5 @@ use Rattle.reader_heap_records.proofs.info_refs.Given as goal
 
 abbrev pub invariant-loop-off : goal.invariant-loop-off
 invariant-loop-off l =
-    first_over (info_fault l.heap l.from l.position l.x) (drop l.off-index (offsets info.refs)) ≡ first_over (info_fault l.heap l.from l.position l.x) (offsets info.refs)
+    first_over (info_fault l.heap.bytes.now l.heap.from l.position l.x) (drop l.off-index (offsets info.refs))
+    ≡ first_over (info_fault l.heap.bytes.now l.heap.from l.position l.x) (offsets info.refs)

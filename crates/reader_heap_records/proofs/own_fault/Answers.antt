@@ -6,4 +6,4 @@ pub own_ref-fault-requires : goal.own_ref-fault-requires
 own_ref-fault-requires c =
     let o = c.reference_offsets-off-items.ensures.0 in
     let w = refs-within c.args.kind c.loop-off.off-index (rw o at c.loop-off-test.true) in
-    (c.requires.0, rw o (omega (arith, w, c.requires.0)), c.requires.1)
+    (c.requires, rw o (omega (arith, w, c.requires)))

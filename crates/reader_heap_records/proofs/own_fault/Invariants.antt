@@ -8,4 +8,5 @@ use Rattle.reader_heap_records.proofs.own_fault.Given as goal
 
 abbrev pub invariant-loop-off : goal.invariant-loop-off
 invariant-loop-off l =
-    first_over (own_fault l.kind l.heap l.from l.x) (drop l.off-index (offsets (layout_of l.kind).refs)) ≡ first_over (own_fault l.kind l.heap l.from l.x) (offsets (layout_of l.kind).refs)
+    first_over (own_fault l.kind l.heap.bytes.now l.heap.from l.x) (drop l.off-index (offsets (layout_of l.kind).refs))
+    ≡ first_over (own_fault l.kind l.heap.bytes.now l.heap.from l.x) (offsets (layout_of l.kind).refs)

@@ -31,7 +31,7 @@ overflow_add-looks c =
 pub returns-then-found-ne0 : goal.returns-then-found-ne0
 returns-then-found-ne0 c =
     let a = c.args in
-    let heap = region a.from (length a.heap.now) in
+    let heap = region a.heap.from (length a.heap.bytes.now) in
     let h = c.loop-i-test.true in
     let e = c.record_fault-found.ensures in
     let stopped = turn-stop a.kind heap a.t.now a.step c.loop-i.base c.loop-i.i a.count c.requires.laid_out.1 c.requires.laid_out.2 h e.0 c.if-found-ne0.true in
@@ -53,7 +53,7 @@ overflow_add-base c =
 pub loop-i-preserved : goal.loop-i-preserved
 loop-i-preserved c =
     let a = c.args in
-    let heap = region a.from (length a.heap.now) in
+    let heap = region a.heap.from (length a.heap.bytes.now) in
     let h = c.loop-i-test.true in
     let e = c.record_fault-found.ensures in
     let more = turn_more a.kind heap a.t.now a.step c.loop-i.base c.loop-i.i a.count h e.0 c.if-found-ne0.false in
@@ -68,7 +68,7 @@ pub returns : goal.returns
 returns c =
     let a = c.args in
     let l = c.loop-i in
-    let heap = region a.from (length a.heap.now) in
+    let heap = region a.heap.from (length a.heap.bytes.now) in
     let left = c.loop-i-test.false in (
       c.done.ensures ∙ sym (sym l.invariant.1 ∙ turn-none a.kind heap a.t.now a.step l.base l.i a.count left),
       omega (arith, took-none a.kind heap a.t.now a.step l.base l.i a.count left, l.invariant.2),

@@ -26,7 +26,7 @@ bounds-t-a c =
 pub returns-then-t-a-ne1 : goal.returns-then-t-a-ne1
 returns-then-t-a-ne1 c =
     let a = c.args in
-    let heap = region a.from (length a.heap.now) in
+    let heap = region a.heap.from (length a.heap.bytes.now) in
     let flag = c.flags_at-flag.ensures in (
       rw (← record-by a.kind heap a.t.now a.a a.position c.requires.1 c.requires.2, ← flag) (search picks),
       rw (← looks-by a.kind heap a.t.now a.a a.position c.requires.1 c.requires.2, ← flag) (search picks),
@@ -36,7 +36,7 @@ returns-then-t-a-ne1 c =
 pub returns : goal.returns
 returns c =
     let a = c.args in
-    let heap = region a.from (length a.heap.now) in
+    let heap = region a.heap.from (length a.heap.bytes.now) in
     let e : odd (get_or a.t.now (a.a + (layout_of a.kind).shape.flags.at) 0) ≡ true = rw (← c.flags_at-flag.ensures) (search picks) in (
       rw (← record-by a.kind heap a.t.now a.a a.position c.requires.1 c.requires.2, e) c.used_fault.ensures.0,
       rw (← looks-by a.kind heap a.t.now a.a a.position c.requires.1 c.requires.2, e) c.used_fault.ensures.1,

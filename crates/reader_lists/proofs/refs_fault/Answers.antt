@@ -15,9 +15,9 @@ ref_fault-fault-requires c =
 pub returns-then-fault-ne0 : goal.returns-then-fault-ne0
 returns-then-fault-ne0 c =
     let a = c.args in
-    rw (refs-are a.kind (region a.from (length a.heap.now)) a.t.now a.a a.position) (grind (arith, common_steps))
+    rw (refs-are a.kind (region a.heap.from (length a.heap.bytes.now)) a.t.now a.a a.position) (grind (arith, common_steps))
 
 pub returns : goal.returns
 returns c =
     let a = c.args in
-    rw (refs-are a.kind (region a.from (length a.heap.now)) a.t.now a.a a.position) (grind (arith, common_steps))
+    rw (refs-are a.kind (region a.heap.from (length a.heap.bytes.now)) a.t.now a.a a.position) (grind (arith, common_steps))

@@ -8,5 +8,5 @@ use Rattle.reader_lists.proofs.refs_fault.Given as goal
 
 abbrev pub invariant-loop-off : goal.invariant-loop-off
 invariant-loop-off l =
-    first_over (ref_fault l.kind (region l.from (length l.heap)) l.t l.a l.position) (drop l.off-index (offsets (layout_of l.kind).refs)) ≡ first_over
-    (ref_fault l.kind (region l.from (length l.heap)) l.t l.a l.position) (offsets (layout_of l.kind).refs)
+    first_over (ref_fault l.kind (region l.heap.from (length l.heap.bytes.now)) l.t l.a l.position) (drop l.off-index (offsets (layout_of l.kind).refs)) ≡ first_over
+    (ref_fault l.kind (region l.heap.from (length l.heap.bytes.now)) l.t l.a l.position) (offsets (layout_of l.kind).refs)

@@ -12,7 +12,7 @@ use Rattle.reader_lists.proofs.used_fault.Goals as goal
 pub returns-then-wrong-ne0 : goal.returns-then-wrong-ne0
 returns-then-wrong-ne0 c =
     let a = c.args in
-    let heap = region a.from (length a.heap.now) in
+    let heap = region a.heap.from (length a.heap.bytes.now) in
     let used = used-is a.kind heap a.t.now a.a a.position in
     let wrong = c.right_fault-wrong.ensures in (
       stop _ wrong c.if-wrong-ne0.true ∙ used,
@@ -23,7 +23,7 @@ returns-then-wrong-ne0 c =
 pub returns-then-fault-ne0 : goal.returns-then-fault-ne0
 returns-then-fault-ne0 c =
     let a = c.args in
-    let heap = region a.from (length a.heap.now) in
+    let heap = region a.heap.from (length a.heap.bytes.now) in
     let used = used-is a.kind heap a.t.now a.a a.position in
     let fault = c.refs_fault-fault.ensures in (
       more c.right_fault-wrong.ensures c.if-wrong-ne0.false (stop _ fault c.if-fault-ne0.true) ∙ used,
@@ -34,7 +34,7 @@ returns-then-fault-ne0 c =
 pub returns : goal.returns
 returns c =
     let a = c.args in
-    let heap = region a.from (length a.heap.now) in
+    let heap = region a.heap.from (length a.heap.bytes.now) in
     let used = used-is a.kind heap a.t.now a.a a.position in
     let wrong = c.right_fault-wrong.ensures in
     let fault = c.refs_fault-fault.ensures in

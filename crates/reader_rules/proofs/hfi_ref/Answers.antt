@@ -9,5 +9,5 @@ returns-then-off-eq16 c = rw c.if-off-eq16.true c.info_ref.ensures
 
 pub returns : goal.returns
 returns c =
-    hfi-other (region c.args.from (length c.args.heap.now)) c.args.t.now c.args.a
+    hfi-other (region c.args.heap.from (length c.args.heap.bytes.now)) c.args.t.now c.args.a
     c.args.position c.args.off (ne_eqb _ 16 c.if-off-eq16.false)

@@ -32,30 +32,30 @@ pub returns-in-5 : goal.returns-in-5
 returns-in-5 c =
     let a = c.args in
     rw c.in-5.is
-    (as_bytes _ _ false false a.heap.now a.from (reference_at a.t.now (a.a + a.off)) c.plain_fault.result c.security_need.ensures refl refl
+    (as_bytes _ _ false false a.heap.bytes.now a.heap.from (reference_at a.t.now (a.a + a.off)) c.plain_fault.result c.security_need.ensures refl refl
     c.plain_fault.ensures
-    ∙ security-plain a.t.now a.heap.now a.from a.a a.position c.requires.3 a.off)
+    ∙ security-plain a.t.now a.heap.bytes.now a.heap.from a.a a.position c.requires.3 a.off)
 
 pub returns-in-2 : goal.returns-in-2
 returns-in-2 c =
     let a = c.args in
     rw c.in-2.is
-    (as-text _ _ true true a.heap.now a.from (reference_at a.t.now (a.a + a.off)) c.text_fault.result c.plain_need.ensures refl refl
+    (as-text _ _ true true a.heap.bytes.now a.heap.from (reference_at a.t.now (a.a + a.off)) c.text_fault.result c.plain_need.ensures refl refl
     c.text_fault.ensures
-    ∙ host-texts a.t.now a.heap.now a.from a.a a.position c.requires.3 a.off)
+    ∙ host-texts a.t.now a.heap.bytes.now a.heap.from a.a a.position c.requires.3 a.off)
 
 pub returns-in-6 : goal.returns-in-6
 returns-in-6 c =
     let a = c.args in
     rw c.in-6.is
-    (as-text _ _ true true a.heap.now a.from (reference_at a.t.now (a.a + a.off)) c.text_fault-in-6.result c.plain_need-in-6.ensures refl refl
+    (as-text _ _ true true a.heap.bytes.now a.heap.from (reference_at a.t.now (a.a + a.off)) c.text_fault-in-6.result c.plain_need-in-6.ensures refl refl
     c.text_fault-in-6.ensures
-    ∙ discovery-texts a.t.now a.heap.now a.from a.a a.position c.requires.3 a.off)
+    ∙ discovery-texts a.t.now a.heap.bytes.now a.heap.from a.a a.position c.requires.3 a.off)
 
 pub returns-in_default : goal.returns-in_default
 returns-in_default c =
     let a = c.args in
-    as_bytes _ _ false false a.heap.now a.from (reference_at a.t.now (a.a + a.off)) c.plain_fault-in_default.result c.plain_need-in_default.ensures refl refl
+    as_bytes _ _ false false a.heap.bytes.now a.heap.from (reference_at a.t.now (a.a + a.off)) c.plain_fault-in_default.result c.plain_need-in_default.ensures refl refl
     c.plain_fault-in_default.ensures
-    ∙ plain-left a.t.now a.heap.now a.from a.a a.position c.requires.3 a.off a.kind c.requires.0
+    ∙ plain-left a.t.now a.heap.bytes.now a.heap.from a.a a.position c.requires.3 a.off a.kind c.requires.0
     (search picks) (search picks) (search picks) (search picks) (search picks)

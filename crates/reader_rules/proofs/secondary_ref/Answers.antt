@@ -9,4 +9,4 @@ pub returns : goal.returns
 returns c =
     let a = c.args in
     c.positions_fault.ensures
-    ∙ ap (λ (n : ℕ). asked_rule Optional (positions_rule n) a.heap.now a.from (reference_at a.t.now (a.a + 48))) c.wide-most.ensures.0
+    ∙ ap (λ (n : ℕ). asked_rule Optional (positions_rule n) a.heap.bytes.now a.heap.from (reference_at a.t.now (a.a + 48))) c.wide-most.ensures.0
