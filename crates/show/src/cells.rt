@@ -7,10 +7,7 @@ use crate::records::{
     Cell, field_of, is_present, is_there, number_of, object_of, other_number, text_in,
 };
 use crate::values::is_object_form;
-use show_table::forms::{
-    AVAILABILITY, BYTES, BYTES_TEXT, CHOSEN, FLAG, HFIS, NAME, OR_OUT, POSITION, PRIMARY, REACHED,
-    SERVICE, TEXT, WANTED,
-};
+use show_table::forms::Form;
 use show_values::choices::bits_of;
 use show_values::kinds::is_null;
 use table::Field;
@@ -68,10 +65,10 @@ fn put_service(x: &[u8], out: bool) -> usize {
 fn put_object(cell: Cell<'_>, out: bool) -> usize {
     let x = object_of(cell);
     match cell.row.form {
-        REACHED => put_reached(x, out),
-        SERVICE => put_service(x, out),
-        BYTES => put_bytes(x, Style::Digits, out),
-        HFIS => put_numbers(Some(other_number(cell)), x, out),
+        Form::Reached => put_reached(x, out),
+        Form::Service => put_service(x, out),
+        Form::Bytes => put_bytes(x, Style::Digits, out),
+        Form::Hfis => put_numbers(Some(other_number(cell)), x, out),
         _ => put_numbers(None, x, out),
     }
 }
@@ -82,7 +79,7 @@ fn put_field(cell: Cell<'_>, out: bool) -> usize {
     if is_null(cell.row.form, n, is_there(cell)) {
         return put_word(b"none", out);
     }
-    if cell.row.form == OR_OUT && n == 0 {
+    if cell.row.form == Form::OrOut && n == 0 {
         return put_word(b"none", out);
     }
     put(&text_in(cell), out)
@@ -93,16 +90,16 @@ pub fn put_cell(cell: Cell<'_>, out: bool) -> usize {
         return put_object(cell, out);
     }
     match cell.row.form {
-        POSITION => put(&text::decimal(cell.position as u64), out),
-        FLAG => put_flag(is_set(cell, 2), out),
-        NAME => put_name(field_of(cell), out),
-        TEXT | BYTES_TEXT => put_characters(cell, out),
+        Form::Position => put(&text::decimal(cell.position as u64), out),
+        Form::Flag => put_flag(is_set(cell, 2), out),
+        Form::Name => put_name(field_of(cell), out),
+        Form::Text | Form::BytesText => put_characters(cell, out),
         _ => put_field(cell, out),
     }
 }
 
-fn is_object_or_text(form: u64) -> bool {
-    matches!(form, TEXT | BYTES_TEXT) || is_object_form(form)
+fn is_object_or_text(form: Form) -> bool {
+    matches!(form, Form::Text | Form::BytesText) || is_object_form(form)
 }
 
 // Nothing, 0, and the address of zeros.
@@ -116,8 +113,8 @@ pub fn says_something(cell: Cell<'_>) -> bool {
         return put_cell(cell, false) != 0;
     }
     match cell.row.form {
-        FLAG => is_set(cell, 2),
-        PRIMARY | AVAILABILITY | WANTED | CHOSEN => is_set(cell, 4),
+        Form::Flag => is_set(cell, 2),
+        Form::Primary | Form::Availability | Form::Wanted | Form::Chosen => is_set(cell, 4),
         _ => !is_silent(&text_in(cell)),
     }
 }

@@ -6,7 +6,7 @@ use crate::bytes::{print_line_start, print_quoted};
 use crate::numbers::{print_list_end, print_part_start};
 use crate::records::{cell_at, is_used, kind_of, last_position};
 use crate::values::{is_absent, print_value};
-use show_table::forms::{LISTED, SINGLE};
+use show_table::forms::Form;
 use show_table::names::key_at;
 use show_table::{end_row, first_row, row_at};
 use table::{Answer, Control};
@@ -101,7 +101,7 @@ fn print_all_unused(t: &[u8])
     let mut none = true;
     for i in first_row(Control::ID)..end_row(Control::ID) {
         let row = row_at(i);
-        if row.form == LISTED {
+        if row.form == Form::Listed {
             print_key(i, none, INNER);
             print_unused(t, kind_of(row.weight));
             none = false;
@@ -117,8 +117,8 @@ fn print_part(t: &[u8], i: usize)
     let row = row_at(i);
     print_key(i, false, OUTER);
     match row.form {
-        SINGLE => print_record(t, row.kind, 0, INNER),
-        LISTED => print_list(t, kind_of(row.weight)),
+        Form::Single => print_record(t, row.kind, 0, INNER),
+        Form::Listed => print_list(t, kind_of(row.weight)),
         _ => print_all_unused(t),
     }
 }

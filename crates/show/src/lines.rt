@@ -3,15 +3,15 @@ ghost use Rattle.reader.specs.Accepted.{Accepted};
 
 use crate::cells::{put_cell, says_something};
 use crate::records::{Cell, cell_at, first_position, is_used, last_position};
-use show_table::forms::{DETAIL, LINE};
+use show_table::forms::View;
 use show_table::names::{key_at, title_at};
 use show_table::{end_row, first_row};
 use tool::{print, print_bytes};
 
 fn has_line(cell: Cell<'_>, all: bool) -> bool {
     match cell.row.view {
-        DETAIL => all,
-        LINE => all || says_something(cell),
+        View::Detail => all,
+        View::Lines => all || says_something(cell),
         _ => false,
     }
 }

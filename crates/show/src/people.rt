@@ -6,7 +6,7 @@ use crate::bytes::{pad, print_rule, put};
 use crate::cells::put_cell;
 use crate::lines::print_records;
 use crate::records::{cell_at, first_position, is_used, kind_of, last_position};
-use show_table::forms::{COLUMN, LISTED, SINGLE};
+use show_table::forms::{Form, View};
 use show_table::names::title_at;
 use show_table::{end_row, first_row, row_at};
 use table::Control;
@@ -27,7 +27,7 @@ enum Line {
 fn column_row(section: u8, k: usize) -> Option<usize>
     requires { k < 16 }
 {
-    (first_row(section)..end_row(section)).find(|i| row_at(*i).view == COLUMN + k as u64)
+    (first_row(section)..end_row(section)).find(|i| row_at(*i).view == View::Column(k))
 }
 
 fn cell_width(t: &[u8], section: u8, position: usize, i: usize) -> usize
@@ -126,8 +126,8 @@ fn print_table(t: &[u8], section: u8)
 fn section_of(i: usize) -> Option<u8> {
     let row = row_at(i);
     match row.form {
-        SINGLE => Some(row.kind),
-        LISTED => Some(kind_of(row.weight)),
+        Form::Single => Some(row.kind),
+        Form::Listed => Some(kind_of(row.weight)),
         _ => None,
     }
 }

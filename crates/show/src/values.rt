@@ -5,9 +5,7 @@ use crate::numbers::{count_numbers, print_numbers};
 use crate::records::{
     Cell, field_of, is_present, is_there, number_of, object_of, other_number, text_in,
 };
-use show_table::forms::{
-    BYTES, BYTES_TEXT, HFI_COUNT, HFIS, NAME, POSITION, POSITIONS, REACHED, SERVICE, TEXT,
-};
+use show_table::forms::Form;
 use show_values::kinds::{is_left_out, is_null, is_quoted};
 use table::Field;
 use text::Text;
@@ -15,7 +13,7 @@ use tool::{print, print_bytes};
 
 // Whether the key of a row is left out.
 pub fn is_absent(cell: Cell<'_>) -> bool {
-    if cell.row.form == TEXT {
+    if cell.row.form == Form::Text {
         return !is_present(cell);
     }
     is_left_out(cell.row.form, number_of(cell))
@@ -84,20 +82,20 @@ fn print_object(cell: Cell<'_>, depth: usize) {
     let x = object_of(cell);
     let lead = Some(other_number(cell));
     match cell.row.form {
-        REACHED => print_reached(x),
-        SERVICE => print_service(x),
-        BYTES => print_digits(x),
-        HFIS => print_numbers(lead, x, depth),
-        HFI_COUNT => print(&text::decimal(count_numbers(lead, x) as u64)),
+        Form::Reached => print_reached(x),
+        Form::Service => print_service(x),
+        Form::Bytes => print_digits(x),
+        Form::Hfis => print_numbers(lead, x, depth),
+        Form::HfiCount => print(&text::decimal(count_numbers(lead, x) as u64)),
         _ => print_numbers(None, x, depth),
     }
 }
 
 // Whether a way of printing is one of objects that are no characters.
-pub fn is_object_form(form: u64) -> bool {
+pub fn is_object_form(form: Form) -> bool {
     matches!(
         form,
-        REACHED | SERVICE | BYTES | HFIS | HFI_COUNT | POSITIONS
+        Form::Reached | Form::Service | Form::Bytes | Form::Hfis | Form::HfiCount | Form::Positions
     )
 }
 
@@ -107,9 +105,9 @@ pub fn print_value(cell: Cell<'_>, depth: usize) {
         return;
     }
     match cell.row.form {
-        POSITION => print(&text::decimal(cell.position as u64)),
-        NAME => print_name(field_of(cell)),
-        TEXT | BYTES_TEXT => print_characters(cell),
+        Form::Position => print(&text::decimal(cell.position as u64)),
+        Form::Name => print_name(field_of(cell)),
+        Form::Text | Form::BytesText => print_characters(cell),
         _ => print_field(cell),
     }
 }

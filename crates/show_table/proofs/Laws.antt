@@ -15,7 +15,7 @@ use Rattle.table.specs.Bytes.{same}
 use Rattle.laws.specs.ByteLaws.{same-eq}
 use Rattle.text.specs.Ascii.{ascii}
 use Rattle.show_table.specs.Names.{bars_in, behind_bars, until_bar, name_at}
-use Rattle.show_table.specs.Shown.{Line, no_line, packed_of, packed_all, unpacked}
+use Rattle.show_table.specs.Shown.{Line, no_line}
 use Rattle.show_table.specs.declared.Row.{Row}
 
 pub behind-nothing : (n : ℕ) → behind_bars n [] ≡ []
@@ -109,28 +109,11 @@ names-right f bs (l ∷ ls) t (suc n) h =
 
 -- ---- rows of lines
 
-abbrev numbers_of : Row → List ℕ
-numbers_of r = r.kind ∷ r.off ∷ r.form ∷ r.weight ∷ r.by ∷ r.view ∷ []
+abbrev pub rows_of : List Line → List Row
+rows_of [] = []
+rows_of (l ∷ ls) = l.row ∷ rows_of ls
 
-abbrev row_from : List ℕ → Row
-row_from xs = record {
-  kind = get_or xs 0 0;
-  off = get_or xs 1 0;
-  form = get_or xs 2 0;
-  weight = get_or xs 3 0;
-  by = get_or xs 4 0;
-  view = get_or xs 5 0;
-}
-
--- each row is what its number is taken apart to
-abbrev pub packed_right : List Line → Bool
-packed_right [] = true
-packed_right (l ∷ ls) = same (numbers_of (unpacked (packed_of l))) (numbers_of l.row) && packed_right ls
-
-pub packed-at : (ls : List Line) → T (packed_right ls) → (n : ℕ) → n < length ls → unpacked (get_or (packed_all ls) n 0) ≡ (get_or ls n no_line).row
-packed-at [] t n h = absurd (omega (arith, h))
-packed-at (l ∷ ls) t zero h =
-    let u = and_yes (same (numbers_of (unpacked (packed_of l))) (numbers_of l.row)) (packed_right ls) t in
-    ap row_from (same-eq (numbers_of (unpacked (packed_of l))) (numbers_of l.row) u.0)
-packed-at (l ∷ ls) t (suc n) h =
-    packed-at ls (and_yes (same (numbers_of (unpacked (packed_of l))) (numbers_of l.row)) (packed_right ls) t).1 n (le_of_suc-le-suc h)
+pub row-of : (ls : List Line) (n : ℕ) → get_or (rows_of ls) n no_line.row ≡ (get_or ls n no_line).row
+row-of [] n = refl
+row-of (l ∷ ls) zero = refl
+row-of (l ∷ ls) (suc n) = row-of ls n

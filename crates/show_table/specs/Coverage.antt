@@ -5,28 +5,39 @@ use Rattle.table.specs.declared.Region.{Region}
 use Rattle.table.specs.Bytes.{pick, every, Edit}
 use Rattle.table.specs.Layout.{Shape, Refs, none, plain, nest}
 use Rattle.table.specs.FixedLayouts.{layout_of, header, control, host, hfi, ssns, security, discovery, info, extended, hfi_extended, no_kind}
-use Rattle.show_table.specs.Forms.{listed, number, uuid, hex, address, server, mac, pci, name, or_null, or_out, if_there, text, bytes_text, bytes, positions}
+use Rattle.show_table.specs.declared.forms.Form.{Form}
+use Rattle.show_table.specs.declared.forms.Form.TheVariants.{Listed, Number, Uuid, Hex, Address, Server, Mac, Pci, Name, OrNull, OrOut, IfThere, Text, BytesText, Bytes, Positions}
 use Rattle.show_table.specs.Shown.{Line, lines, lines_of, first_of}
 
-abbrev pub among : ℕ → List ℕ → Bool
-among v [] = false
-among v (x ∷ xs) = eqb v x || among v xs
-
 -- how many bytes of a field can be told from a way of printing
-abbrev told : ℕ → ℕ
-told f =
-    pick (among f (listed ∷ number ∷ pci ∷ or_null ∷ or_out ∷ if_there ∷ [])) 4
-    (pick (eqb f mac) 6 (pick (among f (uuid ∷ hex ∷ address ∷ server ∷ name ∷ [])) 16 0))
+abbrev told : Form → ℕ
+told Listed = 4
+told Number = 4
+told Pci = 4
+told OrNull = 4
+told OrOut = 4
+told IfThere = 4
+told Mac = 6
+told Uuid = 16
+told Hex = 16
+told Address = 16
+told Server = 16
+told Name = 16
+told f = 0
 
 -- from a way of printing all n bytes of a field can be told, or all bytes of an object
-abbrev whole : ℕ → ℕ → Bool
+abbrev whole : ℕ → Form → Bool
 whole n f = leb n (told f)
 
-abbrev whole_object : ℕ → Bool
-whole_object f = among f (text ∷ bytes_text ∷ bytes ∷ positions ∷ [])
+abbrev whole_object : Form → Bool
+whole_object Text = true
+whole_object BytesText = true
+whole_object Bytes = true
+whole_object Positions = true
+whole_object f = false
 
 -- a line shows what a record of kind k has at q, in a way that passes
-abbrev shown : ℕ → ℕ → (ℕ → Bool) → List Line → Bool
+abbrev shown : ℕ → ℕ → (Form → Bool) → List Line → Bool
 shown k q passes [] = false
 shown k q passes (l ∷ ls) = ((eqb l.row.kind k && eqb l.row.off q) && passes l.row.form) || shown k q passes ls
 

@@ -1,4 +1,3 @@
-pub mod Forms
 pub mod Shown
 pub mod Names
 pub mod Coverage

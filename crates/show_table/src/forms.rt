@@ -1,81 +1,91 @@
-// The ways in which a value is made from what a row reads; the definitions say what each gives.
-pub const SINGLE: u64 = 1;
+// The ways in which a value is made from what a row reads, and where people see it. `Values` (show_values) says what each way gives.
 
-pub const LISTED: u64 = 2;
+#[derive(Clone, Copy, PartialEq, Eq)]
+pub enum Form {
+    // nothing is read
+    Nothing,
+    // the header or the host, an object of its own
+    Single,
+    // the records of a list, by their count
+    Listed,
+    // the positions of the lists that are not used
+    Unused,
+    // the record's position
+    Position,
+    // a number of up to four bytes
+    Number,
+    // the same as a signed number of 32 bits
+    Signed,
+    // one bit: 0 or 1
+    Flag,
+    // whether two bits are 2: 0 or 1
+    IsTwo,
+    // two bits: whether this is the primary administrative host
+    Primary,
+    // two bits: whether the namespace is available
+    Availability,
+    // two bits: whether something is wanted
+    Wanted,
+    // two bits: who chose a list
+    Chosen,
+    // the transport type
+    Transport,
+    // sixteen bytes as a UUID
+    Uuid,
+    // sixteen bytes, two digits each
+    Hex,
+    // an internet address of sixteen bytes
+    Address,
+    // such an address where a bit of another field is set, else empty
+    Server,
+    // the address of a network interface
+    Mac,
+    // bus, device and function, without zeros in front and without the segment
+    ShortPci,
+    // segment, bus, device and function
+    Pci,
+    // what nvme-cli prints whatever the bits are
+    NotIndicated,
+    // the type of a namespace identifier, left out where it has no name
+    NidType,
+    // the identifier as its type, another field, has it, else empty
+    Nid,
+    // a number where a bit of another field is set, else 0
+    NumberIf,
+    // a field's bytes as characters
+    Name,
+    // a number, null where it is 0
+    OrNull,
+    // a number, left out where it is 0
+    OrOut,
+    // a number, null where the record is absent
+    IfThere,
+    // an object's bytes as characters, left out where it is absent
+    Text,
+    // the same, null where it is absent
+    BytesText,
+    // an object's first sixteen bytes as an address; where it has fewer, its characters
+    Reached,
+    // an object's characters before the first zero
+    Service,
+    // an object's bytes, two digits each, null where it is absent
+    Bytes,
+    // the HFI of another field, then those of a list that are not the same
+    Hfis,
+    // how many these are
+    HfiCount,
+    // the positions that an object lists
+    Positions,
+}
 
-pub const UNUSED: u64 = 3;
-
-pub const POSITION: u64 = 4;
-
-pub const NUMBER: u64 = 5;
-
-pub const SIGNED: u64 = 6;
-
-pub const FLAG: u64 = 7;
-
-pub const IS_TWO: u64 = 8;
-
-pub const PRIMARY: u64 = 9;
-
-pub const AVAILABILITY: u64 = 10;
-
-pub const WANTED: u64 = 11;
-
-pub const CHOSEN: u64 = 12;
-
-pub const TRANSPORT: u64 = 13;
-
-pub const UUID: u64 = 14;
-
-pub const HEX: u64 = 15;
-
-pub const ADDRESS: u64 = 16;
-
-pub const SERVER: u64 = 17;
-
-pub const MAC: u64 = 18;
-
-pub const SHORT_PCI: u64 = 19;
-
-pub const PCI: u64 = 20;
-
-pub const NOT_INDICATED: u64 = 21;
-
-pub const NID_TYPE: u64 = 22;
-
-pub const NID: u64 = 23;
-
-pub const NUMBER_IF: u64 = 24;
-
-pub const NAME: u64 = 25;
-
-pub const OR_NULL: u64 = 26;
-
-pub const OR_OUT: u64 = 27;
-
-pub const IF_THERE: u64 = 28;
-
-pub const TEXT: u64 = 29;
-
-pub const BYTES_TEXT: u64 = 30;
-
-pub const REACHED: u64 = 31;
-
-pub const SERVICE: u64 = 32;
-
-pub const BYTES: u64 = 33;
-
-pub const HFIS: u64 = 34;
-
-pub const HFI_COUNT: u64 = 35;
-
-pub const POSITIONS: u64 = 36;
-
-// Where people see it: nowhere, in the record's lines, there where all is asked for, or in a column, the first of which has this number.
-pub const JSON: u64 = 0;
-
-pub const LINE: u64 = 1;
-
-pub const DETAIL: u64 = 2;
-
-pub const COLUMN: u64 = 10;
+#[derive(Clone, Copy, PartialEq, Eq)]
+pub enum View {
+    // nowhere, since another line says it better
+    Json,
+    // below the tables, in the record's own lines, where it says something
+    Lines,
+    // there too, but only where all is asked for
+    Detail,
+    // in a column of the tables, by its number
+    Column(usize),
+}

@@ -4,17 +4,13 @@
 pub mod forms; // the ways of printing
 pub mod names; // the rows' keys and titles
 
-ghost use Rattle.std.specs.Prelude.{◌≡◌, ◌<◌, ◌/◌, ◌%◌};
-ghost use Rattle.show_table.specs.Shown.{end_of, first_of, line_at, unpacked};
+ghost use Rattle.std.specs.Prelude.{◌≡◌};
+ghost use Rattle.show_table.specs.Shown.{end_of, first_of, line_at};
 
-use forms::{
-    ADDRESS, AVAILABILITY, BYTES, BYTES_TEXT, CHOSEN, COLUMN, DETAIL, FLAG, HEX, HFI_COUNT, HFIS,
-    IF_THERE, IS_TWO, LINE, LISTED, MAC, NAME, NID, NID_TYPE, NOT_INDICATED, NUMBER, NUMBER_IF,
-    OR_NULL, OR_OUT, PCI, POSITION, POSITIONS, PRIMARY, REACHED, SERVER, SERVICE, SHORT_PCI,
-    SIGNED, SINGLE, TEXT, TRANSPORT, UNUSED, UUID, WANTED,
-};
+use forms::View::{Column, Detail, Json, Lines};
+use forms::{Form, View};
 use std::ops::Range;
-use table::{Control, Discovery, Header, Hfi, Host, Security, Ssns};
+use table::{Control, Discovery, Extended, Header, Hfi, HfiExtended, Host, Info, Security, Ssns};
 
 // Kind and offset of what is read, the way it is printed, the weight of a bit (or the kind of a list's records), the offset of another field, and
 // where people see it.
@@ -22,188 +18,148 @@ use table::{Control, Discovery, Header, Hfi, Host, Security, Ssns};
 pub struct Row {
     pub kind: u8,
     pub off: usize,
-    pub form: u64,
+    pub form: Form,
     pub weight: u64,
     pub by: usize,
-    pub view: u64,
+    pub view: View,
 }
 
-// What each part of a row's number counts by; the kind has the lowest byte.
-const OFF: u64 = 0x100;
+// A row that reads nothing.
+const NO_ROW: Row = Row {
+    kind: Header::ID,
+    off: 0,
+    form: Form::Nothing,
+    weight: 0,
+    by: 0,
+    view: View::Json,
+};
 
-const FORM: u64 = 0x1_0000;
+// A row by kind, offset, form and view; weight and the other field's offset are 0 where they are not given.
+macro_rules! row {
+    ($kind:expr, $off:expr, $form:ident, $view:expr $(, weight: $weight:expr)? $(, by: $by:expr)?) => {
+        Row { kind: $kind, off: $off, form: Form::$form, view: $view, $(weight: $weight,)? $(by: $by,)? ..NO_ROW }
+    };
+}
 
-const WEIGHT: u64 = 0x100_0000;
-
-const BY: u64 = 0x1_0000_0000;
-
-const VIEW: u64 = 0x100_0000_0000;
-
-const HEADER: u64 = 0;
-
-const CONTROL: u64 = 1;
-
-const HOST: u64 = 2;
-
-const HFI: u64 = 3;
-
-const SSNS: u64 = 4;
-
-const SECURITY: u64 = 5;
-
-const DISCOVERY: u64 = 6;
-
-const INFO: u64 = 7;
-
-const EXTENDED: u64 = 9;
-
-const HFI_EXTENDED: u64 = 10;
-
-// Section by section, in the order in which they are shown.
-const ROWS: [u64; 100] = [
+// Section by section, in the order in which they are shown. A static: with a constant in its place the check of `row_at` runs out of memory.
+static ROWS: [Row; 100] = [
     // table
-    HEADER + 0 * OFF + SINGLE * FORM + LINE * VIEW,
-    HOST + 0 * OFF + SINGLE * FORM + LINE * VIEW,
-    CONTROL + 95 * OFF + LISTED * FORM + 4 * WEIGHT + LINE * VIEW,
-    CONTROL + 87 * OFF + LISTED * FORM + 3 * WEIGHT + LINE * VIEW,
-    CONTROL + 111 * OFF + LISTED * FORM + 6 * WEIGHT + LINE * VIEW,
-    CONTROL + 103 * OFF + LISTED * FORM + 5 * WEIGHT + LINE * VIEW,
-    CONTROL + 0 * OFF + UNUSED * FORM,
+    row!(Header::ID, 0, Single, Lines),
+    row!(Host::ID, 0, Single, Lines),
+    row!(Control::ID, 95, Listed, Lines, weight: 4),
+    row!(Control::ID, 87, Listed, Lines, weight: 3),
+    row!(Control::ID, 111, Listed, Lines, weight: 6),
+    row!(Control::ID, 103, Listed, Lines, weight: 5),
+    row!(Control::ID, 0, Unused, Json),
     // header
-    HEADER + 10 * OFF + NAME * FORM + (COLUMN + 0) * VIEW,
-    HEADER + 16 * OFF + NAME * FORM + (COLUMN + 1) * VIEW,
-    HEADER + 24 * OFF + NUMBER * FORM + (COLUMN + 2) * VIEW,
-    HEADER + 28 * OFF + NAME * FORM + (COLUMN + 3) * VIEW,
-    HEADER + 32 * OFF + NUMBER * FORM + (COLUMN + 4) * VIEW,
-    HEADER + 44 * OFF + BYTES_TEXT * FORM + (COLUMN + 5) * VIEW,
+    row!(Header::ID, 10, Name, Column(0)),
+    row!(Header::ID, 16, Name, Column(1)),
+    row!(Header::ID, 24, Number, Column(2)),
+    row!(Header::ID, 28, Name, Column(3)),
+    row!(Header::ID, 32, Number, Column(4)),
+    row!(Header::ID, 44, BytesText, Column(5)),
     // host
-    HOST + 18 * OFF + TEXT * FORM + (COLUMN + 1) * VIEW,
-    HOST + 2 * OFF + UUID * FORM + (COLUMN + 0) * VIEW,
-    HOST + 1 * OFF + FLAG * FORM + 2 * WEIGHT + LINE * VIEW,
-    HOST + 1 * OFF + FLAG * FORM + 4 * WEIGHT + LINE * VIEW,
-    HOST + 1 * OFF + NOT_INDICATED * FORM,
-    HOST + 1 * OFF + NUMBER * FORM + DETAIL * VIEW,
-    HOST + 1 * OFF + PRIMARY * FORM + 8 * WEIGHT + LINE * VIEW,
+    row!(Host::ID, 18, Text, Column(1)),
+    row!(Host::ID, 2, Uuid, Column(0)),
+    row!(Host::ID, 1, Flag, Lines, weight: 2),
+    row!(Host::ID, 1, Flag, Lines, weight: 4),
+    row!(Host::ID, 1, NotIndicated, Json),
+    row!(Host::ID, 1, Number, Detail),
+    row!(Host::ID, 1, Primary, Lines, weight: 8),
     // subsystem
-    SSNS + 1 * OFF + POSITION * FORM + (COLUMN + 0) * VIEW,
-    SSNS + 48 * OFF + HFI_COUNT * FORM + 46 * BY,
-    SSNS + 48 * OFF + HFIS * FORM + 46 * BY + (COLUMN + 5) * VIEW,
-    SSNS + 5 * OFF + TRANSPORT * FORM + (COLUMN + 2) * VIEW,
-    SSNS + 10 * OFF + REACHED * FORM + (COLUMN + 3) * VIEW,
-    SSNS + 16 * OFF + SERVICE * FORM + (COLUMN + 4) * VIEW,
-    SSNS + 22 * OFF + NUMBER * FORM + LINE * VIEW,
-    SSNS + 24 * OFF + SIGNED * FORM,
-    SSNS + 28 * OFF + NID_TYPE * FORM + LINE * VIEW,
-    SSNS + 29 * OFF + NID * FORM + 28 * BY + LINE * VIEW,
-    SSNS + 54 * OFF + TEXT * FORM + (COLUMN + 1) * VIEW,
-    EXTENDED + 8 * OFF + NUMBER * FORM + LINE * VIEW,
-    EXTENDED + 10 * OFF + NUMBER_IF * FORM + 2 * WEIGHT + 4 * BY + LINE * VIEW,
-    EXTENDED + 12 * OFF + TEXT * FORM + LINE * VIEW,
-    SSNS + 6 * OFF + FLAG * FORM + 2 * WEIGHT + LINE * VIEW,
-    SSNS + 6 * OFF + FLAG * FORM + 4 * WEIGHT + LINE * VIEW,
-    SSNS + 3 * OFF + FLAG * FORM + 64 * WEIGHT + LINE * VIEW,
-    SSNS + 3 * OFF + IS_TWO * FORM + 128 * WEIGHT,
-    SSNS + 3 * OFF + NUMBER * FORM + DETAIL * VIEW,
-    SSNS + 6 * OFF + NUMBER * FORM + DETAIL * VIEW,
-    SSNS + 3 * OFF + FLAG * FORM + 2 * WEIGHT + LINE * VIEW,
-    SSNS + 3 * OFF + FLAG * FORM + 8 * WEIGHT + LINE * VIEW,
-    SSNS + 3 * OFF + FLAG * FORM + 32 * WEIGHT + LINE * VIEW,
-    SSNS + 3 * OFF + AVAILABILITY * FORM + 128 * WEIGHT + LINE * VIEW,
-    SSNS + 6 * OFF + FLAG * FORM + 1 * WEIGHT + LINE * VIEW,
-    SSNS + 8 * OFF + OR_NULL * FORM + LINE * VIEW,
-    SSNS + 45 * OFF + OR_NULL * FORM + LINE * VIEW,
-    SSNS + 46 * OFF + NUMBER * FORM + DETAIL * VIEW,
-    SSNS + 48 * OFF + POSITIONS * FORM + DETAIL * VIEW,
-    SSNS + 10 * OFF + BYTES * FORM + DETAIL * VIEW,
-    SSNS + 16 * OFF + BYTES * FORM + DETAIL * VIEW,
-    SSNS + 24 * OFF + NUMBER * FORM + LINE * VIEW,
-    SSNS + 28 * OFF + NUMBER * FORM + DETAIL * VIEW,
-    SSNS + 29 * OFF + HEX * FORM + DETAIL * VIEW,
-    EXTENDED + 4 * OFF + IF_THERE * FORM + DETAIL * VIEW,
-    EXTENDED + 8 * OFF + IF_THERE * FORM + DETAIL * VIEW,
-    EXTENDED + 10 * OFF + IF_THERE * FORM + DETAIL * VIEW,
+    row!(Ssns::ID, 1, Position, Column(0)),
+    row!(Ssns::ID, 48, HfiCount, Json, by: 46),
+    row!(Ssns::ID, 48, Hfis, Column(5), by: 46),
+    row!(Ssns::ID, 5, Transport, Column(2)),
+    row!(Ssns::ID, 10, Reached, Column(3)),
+    row!(Ssns::ID, 16, Service, Column(4)),
+    row!(Ssns::ID, 22, Number, Lines),
+    row!(Ssns::ID, 24, Signed, Json),
+    row!(Ssns::ID, 28, NidType, Lines),
+    row!(Ssns::ID, 29, Nid, Lines, by: 28),
+    row!(Ssns::ID, 54, Text, Column(1)),
+    row!(Extended::ID, 8, Number, Lines),
+    row!(Extended::ID, 10, NumberIf, Lines, weight: 2, by: 4),
+    row!(Extended::ID, 12, Text, Lines),
+    row!(Ssns::ID, 6, Flag, Lines, weight: 2),
+    row!(Ssns::ID, 6, Flag, Lines, weight: 4),
+    row!(Ssns::ID, 3, Flag, Lines, weight: 64),
+    row!(Ssns::ID, 3, IsTwo, Json, weight: 128),
+    row!(Ssns::ID, 3, Number, Detail),
+    row!(Ssns::ID, 6, Number, Detail),
+    row!(Ssns::ID, 3, Flag, Lines, weight: 2),
+    row!(Ssns::ID, 3, Flag, Lines, weight: 8),
+    row!(Ssns::ID, 3, Flag, Lines, weight: 32),
+    row!(Ssns::ID, 3, Availability, Lines, weight: 128),
+    row!(Ssns::ID, 6, Flag, Lines, weight: 1),
+    row!(Ssns::ID, 8, OrNull, Lines),
+    row!(Ssns::ID, 45, OrNull, Lines),
+    row!(Ssns::ID, 46, Number, Detail),
+    row!(Ssns::ID, 48, Positions, Detail),
+    row!(Ssns::ID, 10, Bytes, Detail),
+    row!(Ssns::ID, 16, Bytes, Detail),
+    row!(Ssns::ID, 24, Number, Lines),
+    row!(Ssns::ID, 28, Number, Detail),
+    row!(Ssns::ID, 29, Hex, Detail),
+    row!(Extended::ID, 4, IfThere, Detail),
+    row!(Extended::ID, 8, IfThere, Detail),
+    row!(Extended::ID, 10, IfThere, Detail),
     // hfi
-    HFI + 1 * OFF + POSITION * FORM + (COLUMN + 0) * VIEW,
-    HFI + 3 * OFF + TRANSPORT * FORM + (COLUMN + 1) * VIEW,
-    INFO + 7 * OFF + SHORT_PCI * FORM,
-    INFO + 11 * OFF + MAC * FORM + (COLUMN + 3) * VIEW,
-    INFO + 17 * OFF + NUMBER * FORM + LINE * VIEW,
-    INFO + 19 * OFF + NUMBER * FORM + LINE * VIEW,
-    INFO + 20 * OFF + ADDRESS * FORM + (COLUMN + 5) * VIEW,
-    INFO + 36 * OFF + NUMBER * FORM + (COLUMN + 6) * VIEW,
-    INFO + 37 * OFF + ADDRESS * FORM + (COLUMN + 7) * VIEW,
-    INFO + 54 * OFF + NUMBER * FORM + LINE * VIEW,
-    INFO + 56 * OFF + ADDRESS * FORM + (COLUMN + 8) * VIEW,
-    INFO + 72 * OFF + ADDRESS * FORM + LINE * VIEW,
-    INFO + 88 * OFF + SERVER * FORM + 4 * WEIGHT + 6 * BY + LINE * VIEW,
-    INFO + 104 * OFF + TEXT * FORM + LINE * VIEW,
-    INFO + 6 * OFF + FLAG * FORM + 2 * WEIGHT + LINE * VIEW,
-    INFO + 6 * OFF + FLAG * FORM + 4 * WEIGHT + (COLUMN + 4) * VIEW,
-    INFO + 7 * OFF + PCI * FORM + (COLUMN + 2) * VIEW,
-    INFO + 3 * OFF + NUMBER * FORM + DETAIL * VIEW,
-    INFO + 6 * OFF + NUMBER * FORM + DETAIL * VIEW,
-    INFO + 6 * OFF + FLAG * FORM + 8 * WEIGHT + LINE * VIEW,
-    HFI + 2 * OFF + NUMBER * FORM + DETAIL * VIEW,
-    HFI_EXTENDED + 4 * OFF + IF_THERE * FORM + DETAIL * VIEW,
-    HFI_EXTENDED + 8 * OFF + BYTES * FORM + LINE * VIEW,
-    HFI_EXTENDED + 14 * OFF + BYTES * FORM + LINE * VIEW,
+    row!(Hfi::ID, 1, Position, Column(0)),
+    row!(Hfi::ID, 3, Transport, Column(1)),
+    row!(Info::ID, 7, ShortPci, Json),
+    row!(Info::ID, 11, Mac, Column(3)),
+    row!(Info::ID, 17, Number, Lines),
+    row!(Info::ID, 19, Number, Lines),
+    row!(Info::ID, 20, Address, Column(5)),
+    row!(Info::ID, 36, Number, Column(6)),
+    row!(Info::ID, 37, Address, Column(7)),
+    row!(Info::ID, 54, Number, Lines),
+    row!(Info::ID, 56, Address, Column(8)),
+    row!(Info::ID, 72, Address, Lines),
+    row!(Info::ID, 88, Server, Lines, weight: 4, by: 6),
+    row!(Info::ID, 104, Text, Lines),
+    row!(Info::ID, 6, Flag, Lines, weight: 2),
+    row!(Info::ID, 6, Flag, Column(4), weight: 4),
+    row!(Info::ID, 7, Pci, Column(2)),
+    row!(Info::ID, 3, Number, Detail),
+    row!(Info::ID, 6, Number, Detail),
+    row!(Info::ID, 6, Flag, Lines, weight: 8),
+    row!(Hfi::ID, 2, Number, Detail),
+    row!(HfiExtended::ID, 4, IfThere, Detail),
+    row!(HfiExtended::ID, 8, Bytes, Lines),
+    row!(HfiExtended::ID, 14, Bytes, Lines),
     // discovery
-    DISCOVERY + 2 * OFF + POSITION * FORM + (COLUMN + 0) * VIEW,
-    DISCOVERY + 4 * OFF + OR_OUT * FORM + LINE * VIEW,
-    DISCOVERY + 3 * OFF + NUMBER * FORM + LINE * VIEW,
-    DISCOVERY + 6 * OFF + TEXT * FORM + (COLUMN + 1) * VIEW,
-    DISCOVERY + 12 * OFF + TEXT * FORM + (COLUMN + 2) * VIEW,
-    DISCOVERY + 1 * OFF + NUMBER * FORM + DETAIL * VIEW,
+    row!(Discovery::ID, 2, Position, Column(0)),
+    row!(Discovery::ID, 4, OrOut, Lines),
+    row!(Discovery::ID, 3, Number, Lines),
+    row!(Discovery::ID, 6, Text, Column(1)),
+    row!(Discovery::ID, 12, Text, Column(2)),
+    row!(Discovery::ID, 1, Number, Detail),
     // security
-    SECURITY + 1 * OFF + POSITION * FORM + (COLUMN + 0) * VIEW,
-    SECURITY + 2 * OFF + NUMBER * FORM + (COLUMN + 1) * VIEW,
-    SECURITY + 4 * OFF + NUMBER * FORM + LINE * VIEW,
-    SECURITY + 2 * OFF + WANTED * FORM + 2 * WEIGHT + LINE * VIEW,
-    SECURITY + 2 * OFF + WANTED * FORM + 32 * WEIGHT + LINE * VIEW,
-    SECURITY + 2 * OFF + CHOSEN * FORM + 8 * WEIGHT + LINE * VIEW,
-    SECURITY + 12 * OFF + BYTES * FORM + (COLUMN + 3) * VIEW,
-    SECURITY + 2 * OFF + CHOSEN * FORM + 128 * WEIGHT + LINE * VIEW,
-    SECURITY + 6 * OFF + BYTES * FORM + (COLUMN + 2) * VIEW,
-    SECURITY + 18 * OFF + BYTES * FORM + (COLUMN + 4) * VIEW,
-    SECURITY + 24 * OFF + BYTES * FORM + (COLUMN + 5) * VIEW,
-    SECURITY + 30 * OFF + BYTES * FORM + (COLUMN + 6) * VIEW,
-    SECURITY + 36 * OFF + BYTES_TEXT * FORM + (COLUMN + 7) * VIEW,
+    row!(Security::ID, 1, Position, Column(0)),
+    row!(Security::ID, 2, Number, Column(1)),
+    row!(Security::ID, 4, Number, Lines),
+    row!(Security::ID, 2, Wanted, Lines, weight: 2),
+    row!(Security::ID, 2, Wanted, Lines, weight: 32),
+    row!(Security::ID, 2, Chosen, Lines, weight: 8),
+    row!(Security::ID, 12, Bytes, Column(3)),
+    row!(Security::ID, 2, Chosen, Lines, weight: 128),
+    row!(Security::ID, 6, Bytes, Column(2)),
+    row!(Security::ID, 18, Bytes, Column(4)),
+    row!(Security::ID, 24, Bytes, Column(5)),
+    row!(Security::ID, 30, Bytes, Column(6)),
+    row!(Security::ID, 36, BytesText, Column(7)),
 ];
-
-fn part_of(n: u64, unit: u64) -> u64
-    requires { 0 < unit }
-    ensures { (result ≡ n / unit % 256) × (result < 256) }
-{
-    n / unit % 256
-}
-
-fn row_of(n: u64) -> Row
-    ensures { result ≡ unpacked n }
-{
-    let kind = part_of(n, 1);
-    let off = part_of(n, OFF);
-    let form = part_of(n, FORM);
-    let weight = part_of(n, WEIGHT);
-    let by = part_of(n, BY);
-    let view = part_of(n, VIEW);
-    Row {
-        kind: kind as u8,
-        off: off as usize,
-        form,
-        weight,
-        by: by as usize,
-        view,
-    }
-}
 
 // Row `i`; behind the last one a row that reads nothing.
 pub fn row_at(i: usize) -> Row
     ensures { result ≡ (line_at i).row }
 {
     if 100 <= i {
-        return row_of(0);
+        return NO_ROW;
     }
-    row_of(ROWS[i])
+    ROWS[i]
 }
 
 // The rows of a section. Its number is the kind of its record, and the table itself has that of the control record.

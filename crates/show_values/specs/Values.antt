@@ -1,4 +1,4 @@
--- What is printed of a field: its text by the way of printing (show_table's Forms), the weight of a bit, and the sixteen bytes of the field and of the other one
+-- What is printed of a field: its text by the way of printing (show_table's Form), the weight of a bit, and the sixteen bytes of the field and of the other one
 -- that the way looks at, each with zeros behind it. Assumes nothing.
 use Rattle.std.specs.Prelude.{Bool, true, false, not, ◌&&◌, List, [], ◌∷◌, ℕ, ◌/◌, ◌%◌, ◌≡◌, refl, take, replicate, eqb, leb}
 use Prim.Native.String.{String}
@@ -7,9 +7,9 @@ use Rattle.text.specs.Ascii.{ascii}
 use Rattle.text.specs.Numerals.{digits_of, numeral, signed_numeral}
 use Rattle.text_hex.specs.Hexadecimal.{hex_digit, hex_of, hexes_of, uuid_of, mac_of, pci_of, short_pci_of}
 use Rattle.text_addresses.specs.Addresses.{address_of}
-use Rattle.show_table.specs.Coverage.{among}
-use Rattle.show_table.specs.Forms.{position, number, signed, flag, is_two, primary, availability, wanted, chosen, transport, uuid, hex, address, server, mac}
-use Rattle.show_table.specs.Forms.{short_pci, pci, not_indicated, nid_type, nid, number_if, or_null, or_out, if_there, hfi_count}
+use Rattle.show_table.specs.declared.forms.Form.{Form}
+use Rattle.show_table.specs.declared.forms.Form.TheVariants.{Position, Number, Signed, Flag, IsTwo, Primary, Availability, Wanted, Chosen, Transport, Uuid, Hex}
+use Rattle.show_table.specs.declared.forms.Form.TheVariants.{Address, Server, Mac, ShortPci, Pci, NotIndicated, NidType, Nid, NumberIf, OrNull, OrOut, IfThere, HfiCount}
 
 -- the number of a field of up to four bytes
 abbrev pub number_of : List ℕ → ℕ
@@ -56,99 +56,111 @@ unfoldable pub is_two_of : ℕ → List ℕ → List ℕ
 is_two_of w x = numeral (pick (eqb (bits_of w 4 (number_of x)) 2) 1 0)
 
 -- any other way prints the number
-unfoldable pub field_text : ℕ → ℕ → List ℕ → List ℕ → List ℕ
-field_text f w x y =
-    pick (eqb f signed) (signed_numeral (number_of x))
-    (pick (eqb f flag) (numeral (bits_of w 2 (number_of x)))
-    (pick (eqb f is_two) (is_two_of w x)
-    (pick (eqb f primary) (primary_of (bits_of w 4 (number_of x)))
-    (pick (eqb f availability) (availability_of (bits_of w 4 (number_of x)))
-    (pick (eqb f wanted) (wanted_of (bits_of w 4 (number_of x)))
-    (pick (eqb f chosen) (chosen_of (bits_of w 4 (number_of x)))
-    (pick (eqb f transport) (transport_of (number_of x))
-    (pick (eqb f uuid) (uuid_of x)
-    (pick (eqb f hex) (hexes_of x)
-    (pick (eqb f address) (address_of x)
-    (pick (eqb f server) (server_of w x y)
-    (pick (eqb f mac) (mac_of (take 6 x))
-    (pick (eqb f short_pci) (short_pci_of (number_of x))
-    (pick (eqb f pci) (pci_of (number_of x))
-    (pick (eqb f not_indicated) (ascii "not indicated")
-    (pick (eqb f nid_type) (nid_type_of (number_of x))
-    (pick (eqb f nid) (nid_of (number_of y) x) (pick (eqb f number_if) (number_if_of w x y) (numeral (number_of x))))))))))))))))))))
+unfoldable pub field_text : Form → ℕ → List ℕ → List ℕ → List ℕ
+field_text Signed w x y = signed_numeral (number_of x)
+field_text Flag w x y = numeral (bits_of w 2 (number_of x))
+field_text IsTwo w x y = is_two_of w x
+field_text Primary w x y = primary_of (bits_of w 4 (number_of x))
+field_text Availability w x y = availability_of (bits_of w 4 (number_of x))
+field_text Wanted w x y = wanted_of (bits_of w 4 (number_of x))
+field_text Chosen w x y = chosen_of (bits_of w 4 (number_of x))
+field_text Transport w x y = transport_of (number_of x)
+field_text Uuid w x y = uuid_of x
+field_text Hex w x y = hexes_of x
+field_text Address w x y = address_of x
+field_text Server w x y = server_of w x y
+field_text Mac w x y = mac_of (take 6 x)
+field_text ShortPci w x y = short_pci_of (number_of x)
+field_text Pci w x y = pci_of (number_of x)
+field_text NotIndicated w x y = ascii "not indicated"
+field_text NidType w x y = nid_type_of (number_of x)
+field_text Nid w x y = nid_of (number_of y) x
+field_text NumberIf w x y = number_if_of w x y
+field_text f w x y = numeral (number_of x)
 
 -- ---- in JSON
 
 -- numbers stand without quotation marks
-abbrev pub is_number : List ℕ
-is_number = position ∷ number ∷ signed ∷ flag ∷ is_two ∷ number_if ∷ or_null ∷ or_out ∷ if_there ∷ hfi_count ∷ []
-
-unfoldable pub quoted : ℕ → Bool
-quoted f = not (among f is_number)
+unfoldable pub quoted : Form → Bool
+quoted Position = false
+quoted Number = false
+quoted Signed = false
+quoted Flag = false
+quoted IsTwo = false
+quoted NumberIf = false
+quoted OrNull = false
+quoted OrOut = false
+quoted IfThere = false
+quoted HfiCount = false
+quoted f = true
 
 -- the key is left out, by the field's number
-unfoldable pub left_out : ℕ → ℕ → Bool
-left_out f n = pick (eqb f or_out) (eqb n 0) (pick (eqb f nid_type) (not (leb 1 n && leb n 3)) false)
+unfoldable pub left_out : Form → ℕ → Bool
+left_out OrOut n = eqb n 0
+left_out NidType n = not (leb 1 n && leb n 3)
+left_out f n = false
 
 -- the value is null: of a number that is 0, or of a record that is not there
-unfoldable pub is_null : ℕ → ℕ → Bool → Bool
-is_null f n there = pick (eqb f or_null) (eqb n 0) (pick (eqb f if_there) (not there) false)
+unfoldable pub is_null : Form → ℕ → Bool → Bool
+is_null OrNull n there = eqb n 0
+is_null IfThere n there = not there
+is_null f n there = false
 
 -- ---- computed
 
 -- bit 2 of 6 is 1, and bit 3 is not
-pub a-flag : field_text flag 4 (6 ∷ replicate 15 0) [] ≡ ascii "1"
+pub a-flag : field_text Flag 4 (6 ∷ replicate 15 0) [] ≡ ascii "1"
 unfolding field_text numeral digits_of
 a-flag = refl
 
-pub no_flag : field_text flag 8 (6 ∷ replicate 15 0) [] ≡ ascii "0"
+pub no_flag : field_text Flag 8 (6 ∷ replicate 15 0) [] ≡ ascii "0"
 unfolding field_text numeral digits_of
 no_flag = refl
 
 -- 2 in bits 8:7 of bytes 0 and 1
-pub unavailable : field_text is_two 128 (0 ∷ 1 ∷ replicate 14 0) [] ≡ ascii "1"
+pub unavailable : field_text IsTwo 128 (0 ∷ 1 ∷ replicate 14 0) [] ≡ ascii "1"
 unfolding field_text is_two_of numeral digits_of
 unavailable = refl
 
-pub unavailable-word : field_text availability 128 (0 ∷ 1 ∷ replicate 14 0) [] ≡ ascii "unavailable"
+pub unavailable-word : field_text Availability 128 (0 ∷ 1 ∷ replicate 14 0) [] ≡ ascii "unavailable"
 unfolding field_text availability_of
 unavailable-word = refl
 
 -- by the types 3 and 1
-pub a-uuid : field_text nid 0 (0x46 ∷ replicate 15 1) (3 ∷ []) ≡ ascii "46010101-0101-0101-0101-010101010101"
+pub a-uuid : field_text Nid 0 (0x46 ∷ replicate 15 1) (3 ∷ []) ≡ ascii "46010101-0101-0101-0101-010101010101"
 unfolding field_text nid_of uuid_of hex_of hex_digit
 a-uuid = refl
 
-pub an-eui64 : field_text nid 0 (0x46 ∷ replicate 15 1) (1 ∷ []) ≡ ascii "4601010101010101"
+pub an-eui64 : field_text Nid 0 (0x46 ∷ replicate 15 1) (1 ∷ []) ≡ ascii "4601010101010101"
 unfolding field_text nid_of hex_of hex_digit
 an-eui64 = refl
 
 -- bit 1 of the other field is clear
-pub no-server : field_text server 2 (replicate 16 1) (5 ∷ []) ≡ []
+pub no-server : field_text Server 2 (replicate 16 1) (5 ∷ []) ≡ []
 unfolding field_text server_of
 no-server = refl
 
-pub a-port : field_text number_if 1 (80 ∷ []) (1 ∷ []) ≡ ascii "80"
+pub a-port : field_text NumberIf 1 (80 ∷ []) (1 ∷ []) ≡ ascii "80"
 unfolding field_text number_if_of numeral digits_of
 a-port = refl
 
-pub minus_one : field_text signed 0 (255 ∷ 255 ∷ 255 ∷ 255 ∷ []) [] ≡ ascii "-1"
+pub minus_one : field_text Signed 0 (255 ∷ 255 ∷ 255 ∷ 255 ∷ []) [] ≡ ascii "-1"
 unfolding field_text signed_numeral numeral digits_of
 minus_one = refl
 
 -- a flag is a number, a MAC address is not
-pub number-plain : quoted flag ≡ false
+pub number-plain : quoted Flag ≡ false
 unfolding quoted
 number-plain = refl
 
-pub mac-quoted : quoted mac ≡ true
+pub mac-quoted : quoted Mac ≡ true
 unfolding quoted
 mac-quoted = refl
 
-pub a-null : is_null or_null 0 true ≡ true
+pub a-null : is_null OrNull 0 true ≡ true
 unfolding is_null
 a-null = refl
 
-pub no-type : left_out nid_type 4 ≡ true
+pub no-type : left_out NidType 4 ≡ true
 unfolding left_out
 no-type = refl

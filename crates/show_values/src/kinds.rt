@@ -2,28 +2,24 @@
 ghost use Rattle.std.specs.Prelude.{◌≡◌, ◌&&◌, leb};
 ghost use Rattle.show_values.specs.Values.{is_null, left_out, quoted};
 
-use show_table::forms::{
-    FLAG, HFI_COUNT, IF_THERE, IS_TWO, NID_TYPE, NUMBER, NUMBER_IF, OR_NULL, OR_OUT, POSITION,
-    SIGNED,
-};
+use show_table::forms::Form;
 
-// An arm for each: of arms in one `|` pattern the goals are over ranges of numbers, which `search` and `grind` leave open.
-pub fn is_quoted(form: u64) -> bool
+pub fn is_quoted(form: Form) -> bool
     ensures { result ≡ quoted form }
 {
-    match form {
-        POSITION => false,
-        NUMBER => false,
-        SIGNED => false,
-        FLAG => false,
-        IS_TWO => false,
-        NUMBER_IF => false,
-        OR_NULL => false,
-        OR_OUT => false,
-        IF_THERE => false,
-        HFI_COUNT => false,
-        _ => true,
-    }
+    !matches!(
+        form,
+        Form::Position
+            | Form::Number
+            | Form::Signed
+            | Form::Flag
+            | Form::IsTwo
+            | Form::NumberIf
+            | Form::OrNull
+            | Form::OrOut
+            | Form::IfThere
+            | Form::HfiCount
+    )
 }
 
 // Whether a number is the type of a namespace identifier that has a name.
@@ -33,22 +29,22 @@ fn is_named_type(n: u64) -> bool
     matches!(n, 1..=3)
 }
 
-pub fn is_left_out(form: u64, n: u64) -> bool
+pub fn is_left_out(form: Form, n: u64) -> bool
     ensures { result ≡ left_out form n }
 {
     match form {
-        OR_OUT => n == 0,
-        NID_TYPE => !is_named_type(n),
+        Form::OrOut => n == 0,
+        Form::NidType => !is_named_type(n),
         _ => false,
     }
 }
 
-pub fn is_null(form: u64, n: u64, there: bool) -> bool
+pub fn is_null(form: Form, n: u64, there: bool) -> bool
     ensures { result ≡ is_null form n there }
 {
     match form {
-        OR_NULL => n == 0,
-        IF_THERE => !there,
+        Form::OrNull => n == 0,
+        Form::IfThere => !there,
         _ => false,
     }
 }

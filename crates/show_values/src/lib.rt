@@ -12,10 +12,7 @@ use choices::{
     availability_text, bits_of, chosen_text, is_two_text, nid_text, nid_type_text,
     not_indicated_text, number_if_text, primary_text, server_text, transport_text, wanted_text,
 };
-use show_table::forms::{
-    ADDRESS, AVAILABILITY, CHOSEN, FLAG, HEX, IS_TWO, MAC, NID, NID_TYPE, NOT_INDICATED, NUMBER_IF,
-    PCI, PRIMARY, SERVER, SHORT_PCI, SIGNED, TRANSPORT, UUID, WANTED,
-};
+use show_table::forms::Form;
 use text::Text;
 
 pub fn number_of(x: &[u8]) -> u64
@@ -33,30 +30,30 @@ fn bits_in(x: &[u8], weight: u64, modulus: u64) -> u64
     bits_of(number_of(x), weight, modulus)
 }
 
-pub fn field_text(form: u64, weight: u64, x: &[u8], y: &[u8]) -> Text
+pub fn field_text(form: Form, weight: u64, x: &[u8], y: &[u8]) -> Text
     requires { (length x.now ≡ 16) × (length y.now ≡ 16) }
     ensures { result ≡ field_text form weight x.now y.now }
 {
     match form {
-        SIGNED => text::signed_decimal(number_of(x)),
-        FLAG => text::decimal(bits_in(x, weight, 2)),
-        IS_TWO => is_two_text(weight, x),
-        PRIMARY => primary_text(bits_in(x, weight, 4)),
-        AVAILABILITY => availability_text(bits_in(x, weight, 4)),
-        WANTED => wanted_text(bits_in(x, weight, 4)),
-        CHOSEN => chosen_text(bits_in(x, weight, 4)),
-        TRANSPORT => transport_text(number_of(x)),
-        UUID => text_hex::uuid(x),
-        HEX => text_hex::hexes(x),
-        ADDRESS => text_addresses::address(x),
-        SERVER => server_text(weight, x, y),
-        MAC => text_hex::mac(&x[0..6]),
-        SHORT_PCI => text_hex::short_pci(number_of(x)),
-        PCI => text_hex::pci(number_of(x)),
-        NOT_INDICATED => not_indicated_text(),
-        NID_TYPE => nid_type_text(number_of(x)),
-        NID => nid_text(number_of(y), x),
-        NUMBER_IF => number_if_text(weight, x, y),
+        Form::Signed => text::signed_decimal(number_of(x)),
+        Form::Flag => text::decimal(bits_in(x, weight, 2)),
+        Form::IsTwo => is_two_text(weight, x),
+        Form::Primary => primary_text(bits_in(x, weight, 4)),
+        Form::Availability => availability_text(bits_in(x, weight, 4)),
+        Form::Wanted => wanted_text(bits_in(x, weight, 4)),
+        Form::Chosen => chosen_text(bits_in(x, weight, 4)),
+        Form::Transport => transport_text(number_of(x)),
+        Form::Uuid => text_hex::uuid(x),
+        Form::Hex => text_hex::hexes(x),
+        Form::Address => text_addresses::address(x),
+        Form::Server => server_text(weight, x, y),
+        Form::Mac => text_hex::mac(&x[0..6]),
+        Form::ShortPci => text_hex::short_pci(number_of(x)),
+        Form::Pci => text_hex::pci(number_of(x)),
+        Form::NotIndicated => not_indicated_text(),
+        Form::NidType => nid_type_text(number_of(x)),
+        Form::Nid => nid_text(number_of(y), x),
+        Form::NumberIf => number_if_text(weight, x, y),
         _ => text::decimal(number_of(x)),
     }
 }

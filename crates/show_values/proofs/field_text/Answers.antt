@@ -1,89 +1,93 @@
-use mathlib.Core.Path.{ap, ◌∙◌}
+use mathlib.Core.Path.{ap, sym, ◌∙◌}
 use Prim.Native.Nat.{ℕ}
 use Rattle.show_values.specs.Values.{field_text, primary_of, availability_of, wanted_of, chosen_of, transport_of, nid_type_of, nid_of}
 use Rattle.text.specs.Numerals.{numeral, signed_numeral}
 use Rattle.text_hex.specs.Hexadecimal.{pci_of, short_pci_of}
-use borrow.Author.Tests.{ne_eqb}
+use Rattle.show_values.proofs.FormLaws.{field_text-other}
 use Rattle.show_values.proofs.field_text.Goals as goal
 
-pub returns-in-6 : goal.returns-in-6
+pub returns-in-Signed : goal.returns-in-Signed
 unfolding field_text
-returns-in-6 c = rw c.in-6.is (c.signed_decimal.ensures ∙ ap signed_numeral c.number_of.ensures.0)
+returns-in-Signed c = rw c.in-Signed.is (c.signed_decimal.ensures ∙ ap signed_numeral c.number_of.ensures.0)
 
-pub returns-in-7 : goal.returns-in-7
+pub returns-in-Flag : goal.returns-in-Flag
 unfolding field_text
-returns-in-7 c = rw c.in-7.is (c.decimal.ensures.1 ∙ ap numeral c.bits_in.ensures)
+returns-in-Flag c = rw c.in-Flag.is (c.decimal.ensures.1 ∙ ap numeral c.bits_in.ensures)
 
-pub returns-in-8 : goal.returns-in-8
+pub returns-in-IsTwo : goal.returns-in-IsTwo
 unfolding field_text
-returns-in-8 c = rw c.in-8.is c.is_two_text.ensures
+returns-in-IsTwo c = rw c.in-IsTwo.is c.is_two_text.ensures
 
-pub returns-in-9 : goal.returns-in-9
+pub returns-in-Primary : goal.returns-in-Primary
 unfolding field_text
-returns-in-9 c = rw c.in-9.is (c.primary_text.ensures ∙ ap primary_of c.bits_in-in-9.ensures)
+returns-in-Primary c = rw c.in-Primary.is (c.primary_text.ensures ∙ ap primary_of c.bits_in-in-Primary.ensures)
 
-pub returns-in-10 : goal.returns-in-10
+pub returns-in-Availability : goal.returns-in-Availability
 unfolding field_text
-returns-in-10 c = rw c.in-10.is (c.availability_text.ensures ∙ ap availability_of c.bits_in-in-10.ensures)
+returns-in-Availability c = rw c.in-Availability.is (c.availability_text.ensures ∙ ap availability_of c.bits_in-in-Availability.ensures)
 
-pub returns-in-11 : goal.returns-in-11
+pub returns-in-Wanted : goal.returns-in-Wanted
 unfolding field_text
-returns-in-11 c = rw c.in-11.is (c.wanted_text.ensures ∙ ap wanted_of c.bits_in-in-11.ensures)
+returns-in-Wanted c = rw c.in-Wanted.is (c.wanted_text.ensures ∙ ap wanted_of c.bits_in-in-Wanted.ensures)
 
-pub returns-in-12 : goal.returns-in-12
+pub returns-in-Chosen : goal.returns-in-Chosen
 unfolding field_text
-returns-in-12 c = rw c.in-12.is (c.chosen_text.ensures ∙ ap chosen_of c.bits_in-in-12.ensures)
+returns-in-Chosen c = rw c.in-Chosen.is (c.chosen_text.ensures ∙ ap chosen_of c.bits_in-in-Chosen.ensures)
 
-pub returns-in-13 : goal.returns-in-13
+pub returns-in-Transport : goal.returns-in-Transport
 unfolding field_text
-returns-in-13 c = rw c.in-13.is (c.transport_text.ensures ∙ ap transport_of c.number_of-in-13.ensures.0)
+returns-in-Transport c = rw c.in-Transport.is (c.transport_text.ensures ∙ ap transport_of c.number_of-in-Transport.ensures.0)
 
-pub returns-in-14 : goal.returns-in-14
+pub returns-in-Uuid : goal.returns-in-Uuid
 unfolding field_text
-returns-in-14 c = rw c.in-14.is c.uuid.ensures
+returns-in-Uuid c = rw c.in-Uuid.is c.uuid.ensures
 
-pub returns-in-15 : goal.returns-in-15
+pub returns-in-Hex : goal.returns-in-Hex
 unfolding field_text
-returns-in-15 c = rw c.in-15.is c.hexes.ensures
+returns-in-Hex c = rw c.in-Hex.is c.hexes.ensures
 
-pub returns-in-16 : goal.returns-in-16
+pub returns-in-Address : goal.returns-in-Address
 unfolding field_text
-returns-in-16 c = rw c.in-16.is c.address.ensures
+returns-in-Address c = rw c.in-Address.is c.address.ensures
 
-pub returns-in-17 : goal.returns-in-17
+pub returns-in-Server : goal.returns-in-Server
 unfolding field_text
-returns-in-17 c = rw c.in-17.is c.server_text.ensures
+returns-in-Server c = rw c.in-Server.is c.server_text.ensures
 
-pub returns-in-18 : goal.returns-in-18
+pub returns-in-Mac : goal.returns-in-Mac
 unfolding field_text
-returns-in-18 c = rw c.in-18.is c.mac.ensures
+returns-in-Mac c = rw c.in-Mac.is c.mac.ensures
 
-pub returns-in-19 : goal.returns-in-19
+pub returns-in-ShortPci : goal.returns-in-ShortPci
 unfolding field_text
-returns-in-19 c = rw c.in-19.is (c.short_pci.ensures ∙ ap short_pci_of c.number_of-in-19.ensures.0)
+returns-in-ShortPci c = rw c.in-ShortPci.is (c.short_pci.ensures ∙ ap short_pci_of c.number_of-in-ShortPci.ensures.0)
 
-pub returns-in-20 : goal.returns-in-20
+pub returns-in-Pci : goal.returns-in-Pci
 unfolding field_text
-returns-in-20 c = rw c.in-20.is (c.pci.ensures ∙ ap pci_of c.number_of-in-20.ensures.0)
+returns-in-Pci c = rw c.in-Pci.is (c.pci.ensures ∙ ap pci_of c.number_of-in-Pci.ensures.0)
 
-pub returns-in-21 : goal.returns-in-21
+pub returns-in-NotIndicated : goal.returns-in-NotIndicated
 unfolding field_text
-returns-in-21 c = rw c.in-21.is c.not_indicated_text.ensures
+returns-in-NotIndicated c = rw c.in-NotIndicated.is c.not_indicated_text.ensures
 
-pub returns-in-22 : goal.returns-in-22
+pub returns-in-NidType : goal.returns-in-NidType
 unfolding field_text
-returns-in-22 c = rw c.in-22.is (c.nid_type_text.ensures ∙ ap nid_type_of c.number_of-in-22.ensures.0)
+returns-in-NidType c = rw c.in-NidType.is (c.nid_type_text.ensures ∙ ap nid_type_of c.number_of-in-NidType.ensures.0)
 
-pub returns-in-23 : goal.returns-in-23
+pub returns-in-Nid : goal.returns-in-Nid
 unfolding field_text
-returns-in-23 c =
+returns-in-Nid c =
     let x = c.args.x.now in
-    rw c.in-23.is (c.nid_text.ensures ∙ ap (λ (n : ℕ). nid_of n x) c.number_of-in-23.ensures.0)
+    rw c.in-Nid.is (c.nid_text.ensures ∙ ap (λ (n : ℕ). nid_of n x) c.number_of-in-Nid.ensures.0)
 
-pub returns-in-24 : goal.returns-in-24
+pub returns-in-NumberIf : goal.returns-in-NumberIf
 unfolding field_text
-returns-in-24 c = rw c.in-24.is c.number_if_text.ensures
+returns-in-NumberIf c = rw c.in-NumberIf.is c.number_if_text.ensures
 
 pub returns-in_default : goal.returns-in_default
-unfolding field_text
-returns-in_default c = search (ne_eqb, c.decimal-in_default.ensures.1 ∙ ap numeral c.number_of-in_default.ensures.0)
+returns-in_default c =
+    let x = c.args.x.now in
+    let o = c.in_default in
+    c.decimal-in_default.ensures.1 ∙ ap numeral c.number_of-in_default.ensures.0 ∙ sym (field_text-other c.args.form c.args.weight x c.args.y.now
+    o.not-Signed o.not-Flag o.not-IsTwo o.not-Primary o.not-Availability o.not-Wanted o.not-Chosen o.not-Transport o.not-Uuid o.not-Hex
+    o.not-Address o.not-Server o.not-Mac o.not-ShortPci o.not-Pci o.not-NotIndicated o.not-NidType o.not-Nid o.not-NumberIf)

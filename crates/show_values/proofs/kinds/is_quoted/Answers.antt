@@ -1,48 +1,17 @@
-use Rattle.show_values.specs.Values.{quoted}
-use mathlib.Core.Path.{refl}
-use Rattle.table.proofs.Rules.{picks}
+use mathlib.Core.Path.{ap, sym, ◌∙◌}
+use mathlib.Core.Bool.{not}
+use Rattle.show_values.proofs.FormLaws.{quoted-number, quoted-other}
 use Rattle.show_values.proofs.kinds.is_quoted.Goals as goal
+use Rattle.show_values.proofs.kinds.is_quoted.Goals.{in-Position, in_default}
 
-pub returns-in-4 : goal.returns-in-4
-unfolding quoted
-returns-in-4 c = rw c.in-4.is refl
-
-pub returns-in-5 : goal.returns-in-5
-unfolding quoted
-returns-in-5 c = rw c.in-5.is refl
-
-pub returns-in-6 : goal.returns-in-6
-unfolding quoted
-returns-in-6 c = rw c.in-6.is refl
-
-pub returns-in-7 : goal.returns-in-7
-unfolding quoted
-returns-in-7 c = rw c.in-7.is refl
-
-pub returns-in-8 : goal.returns-in-8
-unfolding quoted
-returns-in-8 c = rw c.in-8.is refl
-
-pub returns-in-24 : goal.returns-in-24
-unfolding quoted
-returns-in-24 c = rw c.in-24.is refl
-
-pub returns-in-26 : goal.returns-in-26
-unfolding quoted
-returns-in-26 c = rw c.in-26.is refl
-
-pub returns-in-27 : goal.returns-in-27
-unfolding quoted
-returns-in-27 c = rw c.in-27.is refl
-
-pub returns-in-28 : goal.returns-in-28
-unfolding quoted
-returns-in-28 c = rw c.in-28.is refl
-
-pub returns-in-35 : goal.returns-in-35
-unfolding quoted
-returns-in-35 c = rw c.in-35.is refl
-
-pub returns-in_default : goal.returns-in_default
-unfolding quoted
-returns-in_default c = search picks
+pub returns : goal.returns
+returns c =
+    let m = c.match-matches in
+    let f = c.args.form in
+    elim m.branch [
+      | in-Position w ↦ ap not w.matches-is ∙ sym (quoted-number f w.in-Position.is)
+      | in_default w ↦
+          let o = w.in_default in
+          ap not w.matches-is
+          ∙ sym (quoted-other f o.not-Position o.not-Number o.not-Signed o.not-Flag o.not-IsTwo o.not-NumberIf o.not-OrNull o.not-OrOut o.not-IfThere o.not-HfiCount)
+    ]
