@@ -25,7 +25,7 @@ use Rattle.reads_seats.proofs.ReferenceLaws.{offset-is, plain-each}
 use Rattle.layout_images.proofs.Laws.{Other, by_kind, other-layout}
 use Rattle.reader_frame.specs.Bounds.{LaidOut, ListIn}
 use Rattle.reads_seats.specs.declared.seats.Seat.{Seat}
-use Rattle.reads_seats.specs.declared.seats.Seat.TheVariants.{Nowhere, At}
+use Rattle.std.specs.Prelude.{Option, Some, None}
 use Rattle.reads_seats.specs.Seats.{as_seat, heap_record, nest_at}
 use Rattle.reads_seats.specs.Told.{inner_kind}
 use Rattle.reads_seats.proofs.Laws.{heap-record-is, list-past, list-there}
@@ -35,17 +35,17 @@ use Rattle.closer_sites.specs.Walk.{entered, first_of, len_at, list_of, named, n
 -- ---- a heap record's length
 
 -- of a record that stands there n
-abbrev pub len_of : Seat → ℕ → ℕ
-len_of Nowhere n = 0
-len_of (At a u) n = n
+abbrev pub len_of : Option Seat → ℕ → ℕ
+len_of None n = 0
+len_of (Some s) n = n
 
 abbrev len_in : reads.Seat → ℕ → ℕ
 len_in reads.nowhere n = 0
 len_in (reads.seat l a u) n = n
 
-same_len : (l : Layout) (s : Seat) (n : ℕ) → len_of s n ≡ len_in (as_seat l s) n
-same_len l Nowhere n = refl
-same_len l (At a u) n = refl
+same_len : (l : Layout) (s : Option Seat) (n : ℕ) → len_of s n ≡ len_in (as_seat l s) n
+same_len l None n = refl
+same_len l (Some s) n = refl
 
 len-under : (l : Layout) (o n : ℕ) (need : Need) → len_in (under need reads.nowhere (pick (eqb n 0) reads.nowhere (reads.seat l o true))) n ≡ under need 0 n
 len-under l o n Ignored = refl
@@ -138,19 +138,19 @@ list-in t x k l m =
     (omega arith) (omega arith) l
 
 -- the walk goes on at a seat, or to the list behind
-abbrev pub seat_walk : Walk → Seat → Walk
-seat_walk w Nowhere = walk (w.list + 1) 0 w.kind w.at w.next
-seat_walk w (At a u) = walk w.list (w.position + 1) w.list a (first_of w.list u)
+abbrev pub seat_walk : Walk → Option Seat → Walk
+seat_walk w None = walk (w.list + 1) 0 w.kind w.at w.next
+seat_walk w (Some s) = walk w.list (w.position + 1) w.list s.at (first_of w.list s.used)
 
 abbrev def_walk : Walk → reads.Seat → Walk
 def_walk w reads.nowhere = walk (w.list + 1) 0 w.kind w.at w.next
 def_walk w (reads.seat l a u) = walk w.list (w.position + 1) w.list a (first_of w.list u)
 
-same-walk : (w : Walk) (l : Layout) (s : Seat) → seat_walk w s ≡ def_walk w (as_seat l s)
-same-walk w l Nowhere = refl
-same-walk w l (At a u) = refl
+same-walk : (w : Walk) (l : Layout) (s : Option Seat) → seat_walk w s ≡ def_walk w (as_seat l s)
+same-walk w l None = refl
+same-walk w l (Some s) = refl
 
-pub list-to : (t : List ℕ) (w : Walk) (s : Seat) → as_seat (layout_of w.list) s ≡ list_seat (layout_of w.list) t (56 + 8 * w.list) (w.position + 1) → seat_walk w s ≡ list_of t w
+pub list-to : (t : List ℕ) (w : Walk) (s : Option Seat) → as_seat (layout_of w.list) s ≡ list_seat (layout_of w.list) t (56 + 8 * w.list) (w.position + 1) → seat_walk w s ≡ list_of t w
 unfolding list_of
 list-to t w s e = same-walk w l s ∙ ap (def_walk w) e ∙ go (dec_le (get_or t (c + 7) 0) n)
   where

@@ -21,7 +21,7 @@ use Rattle.layout_kinds.specs.References.{object_refs}
 use Rattle.layout_images.proofs.Laws.{by_kind, Other, other-layout}
 use Rattle.reader.specs.Accepted.{Accepted}
 use Rattle.reads_seats.specs.declared.seats.Seat as code
-use Rattle.reads_seats.specs.declared.seats.Seat.TheVariants.{Nowhere, At}
+use Rattle.std.specs.Prelude.{Option, Some, None}
 use Rattle.reads_seats.specs.Seats.{Good, Held, Seated, as_seat, heap_record, nest_at}
 use Rattle.reads_seats.specs.Told.{depth, inner_kind}
 use Rattle.reads_seats.proofs.Laws.{heap-record-is, list-there}
@@ -385,9 +385,9 @@ abbrev is_seat : Seat → Bool
 is_seat nowhere = false
 is_seat (seat l a on) = true
 
-held-seated : (t : List ℕ) (m b : ℕ) (s : code.Seat) → Held t m s → as_seat (layout_of m) s ≡ seat (layout_of m) b true → Seated t (layout_of m) b true
-held-seated t m b Nowhere h e = absurd (true≢false (sym (ap is_seat e)))
-held-seated t m b (At at used) h e = subst (λ (x : ℕ). Seated t (layout_of m) x true) (ap place_of e) h
+held-seated : (t : List ℕ) (m b : ℕ) (s : Option code.Seat) → Held t m s → as_seat (layout_of m) s ≡ seat (layout_of m) b true → Seated t (layout_of m) b true
+held-seated t m b None h e = absurd (true≢false (sym (ap is_seat e)))
+held-seated t m b (Some s) h e = subst (λ (x : ℕ). Seated t (layout_of m) x true) (ap place_of e) h
 
 -- a reference with a length names a seat
 named-there : (n : Need) (len : ℕ) (s : Seat) → eqb (under n 0 len) 0 ≡ false → under n nowhere (pick (eqb len 0) nowhere s) ≡ s

@@ -12,7 +12,7 @@ ghost use Rattle.closer_sites.specs.Walk.{walk, begun, ref_count, len_at, named_
 
 use reads_by_seat::objects::object_len;
 use reads_seats::lent::part_of;
-use reads_seats::seats::{Seat, heap_record, is_used, list_seat};
+use reads_seats::seats::{heap_record, is_used, list_seat};
 use table::{Control, Extended, Header, Hfi, HfiExtended, Host, Info};
 
 // Past the last list.
@@ -81,8 +81,8 @@ fn held_len(t: &[u8], kind: u8, at: usize, offset: usize) -> usize
     ensures { (result ≡ len_at t.now kind at offset) × (result < 65536) }
 {
     match heap_record(t, kind, at) {
-        Seat::Nowhere => 0,
-        Seat::At { .. } => bytes_wire::reference_at(t, at + offset).len,
+        None => 0,
+        Some(_) => bytes_wire::reference_at(t, at + offset).len,
     }
 }
 
@@ -154,13 +154,13 @@ fn to_listed(t: &[u8], w: Walk) -> Walk
     let entry = 56 + 8 * bytes_wire::wide(w.list);
     let seat = list_seat(t, w.list, entry, w.position + 1);
     match seat {
-        Seat::Nowhere => walk_of(w.list + 1, 0, w.kind, w.at, w.next),
-        Seat::At { at, used } => walk_of(
+        None => walk_of(w.list + 1, 0, w.kind, w.at, w.next),
+        Some(there) => walk_of(
             w.list,
             w.position + 1,
             w.list,
-            at,
-            first_of(w.list, used),
+            there.at,
+            first_of(w.list, there.used),
         ),
     }
 }

@@ -7,7 +7,7 @@ ghost use Rattle.table.specs.Reads.{seat, seat_of, shown, refused_field, field_a
 ghost use Rattle.reader.specs.Accepted.{Accepted};
 
 use reads_seats::lent::record_at;
-use reads_seats::seats::{Seat, seat_of};
+use reads_seats::seats::seat_of;
 use table::{Answer, Field};
 
 fn refused_field(a: Answer) -> Field
@@ -56,8 +56,8 @@ pub fn field_in(t: &[u8], kind: u8, position: usize, off: usize) -> Field
     ensures { result ≡ field_at t.now off (seat_of t.now kind position) }
 {
     match seat_of(t, kind, position) {
-        Seat::Nowhere => refused_field(table::refuse(16, 0, 0)),
-        Seat::At { at, used } => field_of(record_at(t, kind, at), kind, used, off),
+        None => refused_field(table::refuse(16, 0, 0)),
+        Some(seat) => field_of(record_at(t, kind, seat.at), kind, seat.used, off),
     }
 }
 

@@ -8,7 +8,7 @@ ghost use Rattle.reads_seats.specs.Objects.{object_in, handed_len, handed_place,
 
 use reads_seats::lent::{heap_part, part_of, record_at};
 use reads_seats::objects::{no_place, object_of};
-use reads_seats::seats::{Seat, seat_of};
+use reads_seats::seats::seat_of;
 use table::Place;
 
 // The whole object, with the byte that ends it where it is text: of the record of a kind whose bytes are `x`.
@@ -28,8 +28,8 @@ fn whole_in(t: &[u8], kind: u8, position: usize, off: usize) -> Place
     ensures { result ≡ whole_at t.now off (seat_of t.now kind position) }
 {
     match seat_of(t, kind, position) {
-        Seat::Nowhere => no_place(table::refuse(16, 0, 0)),
-        Seat::At { at, used } => whole_of(record_at(t, kind, at), kind, used, off),
+        None => no_place(table::refuse(16, 0, 0)),
+        Some(seat) => whole_of(record_at(t, kind, seat.at), kind, seat.used, off),
     }
 }
 

@@ -7,7 +7,7 @@ ghost use Rattle.table.specs.Reads.{seat, seat_of, shown, refused_image, image_a
 ghost use Rattle.reader.specs.Accepted.{Accepted};
 
 use reads_seats::lent::record_at;
-use reads_seats::seats::{Seat, seat_of};
+use reads_seats::seats::seat_of;
 use table::{Answer, Image};
 
 fn refused_image(a: Answer) -> Image
@@ -53,8 +53,8 @@ pub fn record_in(t: &[u8], kind: u8, position: usize) -> Image
     ensures { result ≡ image_at t.now (seat_of t.now kind position) }
 {
     match seat_of(t, kind, position) {
-        Seat::Nowhere => refused_image(table::refuse(16, 0, 0)),
-        Seat::At { at, used } => image_of(record_at(t, kind, at), kind, used),
+        None => refused_image(table::refuse(16, 0, 0)),
+        Some(seat) => image_of(record_at(t, kind, seat.at), kind, seat.used),
     }
 }
 

@@ -15,8 +15,8 @@ use Rattle.table.specs.Reads.{Seat, nowhere, seat, seat_of, list_seat, heap_seat
 use Rattle.laws.specs.Fields.{Bytes, image_in, whole}
 use Rattle.layout_images.proofs.Laws.{by_kind, Other, other-layout}
 use Rattle.reads_seats.specs.declared.seats.Seat as code
-use Rattle.reads_seats.specs.declared.seats.Seat.TheVariants.{Nowhere, At}
-use Rattle.reads_seats.specs.Seats.{as_seat, single_at, heap_at, extended_at, identity_at, heap_record, owned_of, nest_at, is_owner}
+use Rattle.std.specs.Prelude.{Option, Some, None}
+use Rattle.reads_seats.specs.Seats.{found, as_seat, single_at, heap_at, extended_at, identity_at, heap_record, owned_of, nest_at, is_owner}
 use Rattle.reads_seats.specs.Told.{inner_kind}
 
 -- ---- the lists
@@ -47,14 +47,14 @@ module _ (k : ℕ) (t : List ℕ) (c n : ℕ) where
 pub single-is : (l : Layout) (n at : ℕ) → as_seat l (single_at n at) ≡ pick (eqb n 0) (seat l at true) nowhere
 unfolding single_at
 single-is l n at = go (eqb n 0) where
-  go : (c : Bool) → as_seat l (pick c (At at true) Nowhere) ≡ pick c (seat l at true) nowhere
+  go : (c : Bool) → as_seat l (pick c (found at true) None) ≡ pick c (seat l at true) nowhere
   go true = refl
   go false = refl
 
 heap_is : (l : Layout) (t : List ℕ) (r : ℕ) → as_seat l (heap_at t r) ≡ pick (eqb (num t (r + 4) 2) 0) nowhere (seat l (num t r 4) true)
 unfolding heap_at
 heap_is l t r = go (eqb (num t (r + 4) 2) 0) where
-  go : (c : Bool) → as_seat l (pick c Nowhere (At (num t r 4) true)) ≡ pick c nowhere (seat l (num t r 4) true)
+  go : (c : Bool) → as_seat l (pick c None (found (num t r 4) true)) ≡ pick c nowhere (seat l (num t r 4) true)
   go true = refl
   go false = refl
 
@@ -63,7 +63,7 @@ heap_is l t r = go (eqb (num t (r + 4) 2) 0) where
 extended-is : (t : List ℕ) (a : ℕ) → as_seat extended (extended_at t a) ≡ heap_seat extended 60 t (seat ssns a true)
 unfolding extended_at ssns image_in
 extended-is t a = go (eqb (num (image ssns.shape.keep (drop a t)) 3 2 / 16 % 2) 0) where
-  go : (c : Bool) → as_seat extended (pick c Nowhere (heap_at t (a + 60)))
+  go : (c : Bool) → as_seat extended (pick c None (heap_at t (a + 60)))
       ≡ under (pick c Ignored Required) nowhere (pick (eqb (num t (a + 60 + 4) 2) 0) nowhere (seat extended (num t (a + 60) 4) true))
   go true = refl
   go false = heap_is extended t (a + 60)
@@ -76,7 +76,7 @@ version-is x b = whole info.shape.keep x 0 3 tt refl (b 3)
 identity-is : (t : List ℕ) (a : ℕ) → as_seat hfi_extended (identity_at t a) ≡ heap_seat hfi_extended 110 t (seat info a true)
 unfolding identity_at info image_in
 identity-is t a = go (eqb (get_or (image info.shape.keep (drop a t)) 3 0) 2) where
-  go : (c : Bool) → as_seat hfi_extended (pick c (heap_at t (a + 110)) Nowhere)
+  go : (c : Bool) → as_seat hfi_extended (pick c (heap_at t (a + 110)) None)
       ≡ under (pick c Optional Ignored) nowhere (pick (eqb (num t (a + 110 + 4) 2) 0) nowhere (seat hfi_extended (num t (a + 110) 4) true))
   go true = heap_is hfi_extended t (a + 110)
   go false = refl
@@ -111,8 +111,10 @@ heap-record-of t n a =
     (λ k o e s. absurd (true≢false (sym (rw (o.not3, o.not4, o.not7) at e))))
 
 -- by an owner's seat
-pub owned-is : (t : List ℕ) (k : ℕ) (s : code.Seat) → as_seat (layout_of (inner_kind k)) (owned_of t k s) ≡ heap_seat (layout_of (inner_kind k)) (nest_at k) t (as_seat (layout_of k) s)
+pub owned-is : (t : List ℕ) (k : ℕ) (s : Option code.Seat) → as_seat (layout_of (inner_kind k)) (owned_of t k s) ≡ heap_seat (layout_of (inner_kind k)) (nest_at k) t (as_seat (layout_of k) s)
 unfolding owned_of
-owned-is t k Nowhere = refl
-owned-is t k (At at true) = heap-record-is t at k
-owned-is t k (At at false) = refl
+owned-is t k None = refl
+owned-is t k (Some s) = go s.used where
+  go : (c : Bool) → as_seat (layout_of (inner_kind k)) (pick c (heap_record t k s.at) None) ≡ heap_seat (layout_of (inner_kind k)) (nest_at k) t (seat (layout_of k) s.at c)
+  go true = heap-record-is t s.at k
+  go false = refl

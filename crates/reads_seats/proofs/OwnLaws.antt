@@ -18,8 +18,8 @@ use Rattle.table.specs.Reads.{seat, shown, image_at, width_at, refused_field, fi
 use Rattle.laws.specs.Fields.{image_in, num-part}
 use Rattle.layout_images.proofs.Laws.{by_kind, image-own, part-long}
 use Rattle.reads_seats.specs.declared.seats.Seat.{Seat}
-use Rattle.reads_seats.specs.declared.seats.Seat.TheVariants.{Nowhere, At}
-use Rattle.reads_seats.specs.Seats.{heap_at, extended_at, identity_at, heap_record}
+use Rattle.std.specs.Prelude.{Option, None}
+use Rattle.reads_seats.specs.Seats.{found, heap_at, extended_at, identity_at, heap_record}
 use Rattle.reads_seats.proofs.ObjectLaws.{plain_fits}
 
 -- the reference at r of the bytes from a on
@@ -66,17 +66,17 @@ module _ (k : ℕ) (t : List ℕ) (a : ℕ) where
 
 heap_at-own : (t : List ℕ) (a n r : ℕ) → r + 6 ≤ n → heap_at (part t a n) r ≡ heap_at t (a + r)
 unfolding heap_at
-heap_at-own t a n r h = ap (λ (x : Region). pick (eqb x.len 0) Nowhere (At x.at true)) (reference-own t a n r h)
+heap_at-own t a n r h = ap (λ (x : Region). pick (eqb x.len 0) None (found x.at true)) (reference-own t a n r h)
 
 extended-own : (t : List ℕ) (a : ℕ) → extended_at (part t a (base_of (layout_of 4))) 0 ≡ extended_at t a
 unfolding extended_at layout_of
 extended-own t a =
-    ap₂ (λ (i : List ℕ) (s : Seat). pick (eqb (num i 3 2 / 16 % 2) 0) Nowhere s) (image-own 4 t a) (heap_at-own t a (base_of ssns) 60 (unfold ssns in lit≤ tt))
+    ap₂ (λ (i : List ℕ) (s : Option Seat). pick (eqb (num i 3 2 / 16 % 2) 0) None s) (image-own 4 t a) (heap_at-own t a (base_of ssns) 60 (unfold ssns in lit≤ tt))
 
 identity-own : (t : List ℕ) (a : ℕ) → identity_at (part t a (base_of (layout_of 7))) 0 ≡ identity_at t a
 unfolding identity_at layout_of
 identity-own t a =
-    ap₂ (λ (i : List ℕ) (s : Seat). pick (eqb (get_or i 3 0) 2) s Nowhere) (image-own 7 t a) (heap_at-own t a (base_of info) 110 (unfold info in lit≤ tt))
+    ap₂ (λ (i : List ℕ) (s : Option Seat). pick (eqb (get_or i 3 0) 2) s None) (image-own 7 t a) (heap_at-own t a (base_of info) 110 (unfold info in lit≤ tt))
 
 pub heap-record-own : (t : List ℕ) (a k : ℕ) → heap_record (part t a (base_of (layout_of k))) k 0 ≡ heap_record t k a
 unfolding heap_record

@@ -28,9 +28,9 @@ use Rattle.reader_indexes.specs.Indexes.{refs_fault}
 use Rattle.reader_lists.proofs.Laws.{flags-stand}
 use Rattle.reader.proofs.AcceptedLaws.{laid, driver-passes, host-passes, lists-pass, record-passes, record-in, used-passes, used-parts, required-in, optional-in}
 use Rattle.layout_images.proofs.Laws.{by_kind, Other, other-layout}
-use Rattle.reads_seats.specs.Seats.{as_seat, InTable, Seated, Standing, Listed, Good, Held, is_heaped, heap_at, extended_at, identity_at, heap_record}
+use Rattle.reads_seats.specs.Seats.{found, as_seat, InTable, Seated, Standing, Listed, Good, Held, is_heaped, heap_at, extended_at, identity_at, heap_record}
 use Rattle.reads_seats.specs.declared.seats.Seat as code
-use Rattle.reads_seats.specs.declared.seats.Seat.TheVariants.{Nowhere, At}
+use Rattle.std.specs.Prelude.{Option, Some, None}
 use Rattle.reads_seats.specs.Told.{inner_kind}
 
 -- a record that is seated stands there
@@ -250,12 +250,12 @@ module _ (t : List ℕ) (ok : Accepted t) where
       infos = info-good (leb 1 n && leb n (get_or t 87 0)) _ _ lists.0
 
   -- a good seat lies in the table
-  pub good-in : (k : ℕ) (s : code.Seat) → Good t k (as_seat (layout_of k) s) → InTable t (base_of (layout_of k)) s
-  good-in k Nowhere g = omega arith
-  good-in k (At at used) g = g.1.within
+  pub good-in : (k : ℕ) (s : Option code.Seat) → Good t k (as_seat (layout_of k) s) → InTable t (base_of (layout_of k)) s
+  good-in k None g = omega arith
+  good-in k (Some s) g = g.1.within
 
   -- the heap record of a record that passes
-  held_of : (m at : ℕ) (n : Need) (c : Bool) → Good t m (under n nowhere (pick c nowhere (seat (layout_of m) at true))) → Held t m (under n Nowhere (pick c Nowhere (At at true)))
+  held_of : (m at : ℕ) (n : Need) (c : Bool) → Good t m (under n nowhere (pick c nowhere (seat (layout_of m) at true))) → Held t m (under n None (pick c None (found at true)))
   held_of m at Ignored c g = omega arith
   held_of m at Optional true g = omega arith
   held_of m at Optional false g = g.1
@@ -270,7 +270,7 @@ module _ (t : List ℕ) (ok : Accepted t) where
   unfolding layout_of ssns heap_at extended_at image_in
   extended-held a g = go (eqb (num (image ssns.shape.keep (drop a t)) 3 2 / 16 % 2) 0) (extended-good true true a g) where
     go : (c : Bool) → Good t 9 (under (pick c Ignored Required) nowhere (pick (eqb (num t (a + 60 + 4) 2) 0) nowhere (seat extended (num t (a + 60) 4) true)))
-        → Held t 9 (pick c Nowhere (pick (eqb (num t (a + 60 + 4) 2) 0) Nowhere (At (num t (a + 60) 4) true)))
+        → Held t 9 (pick c None (pick (eqb (num t (a + 60 + 4) 2) 0) None (found (num t (a + 60) 4) true)))
     go true h = omega arith
     go false h = held_of 9 (num t (a + 60) 4) Required (eqb (num t (a + 60 + 4) 2) 0) h
 
@@ -278,7 +278,7 @@ module _ (t : List ℕ) (ok : Accepted t) where
   unfolding layout_of info heap_at identity_at image_in
   identity-held a g = go (eqb (get_or (image info.shape.keep (drop a t)) 3 0) 2) (identity-good (seat info a true) g) where
     go : (c : Bool) → Good t 10 (under (pick c Optional Ignored) nowhere (pick (eqb (num t (a + 110 + 4) 2) 0) nowhere (seat hfi_extended (num t (a + 110) 4) true)))
-        → Held t 10 (pick c (pick (eqb (num t (a + 110 + 4) 2) 0) Nowhere (At (num t (a + 110) 4) true)) Nowhere)
+        → Held t 10 (pick c (pick (eqb (num t (a + 110 + 4) 2) 0) None (found (num t (a + 110) 4) true)) None)
     go true h = held_of 10 (num t (a + 110) 4) Optional (eqb (num t (a + 110 + 4) 2) 0) h
     go false h = omega arith
 

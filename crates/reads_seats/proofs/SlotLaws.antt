@@ -16,8 +16,8 @@ use Rattle.table.specs.Reads.{seat, has_plain, need_at, whole_at}
 use Rattle.laws.specs.Fields.{image_in}
 use Rattle.layout_images.proofs.Laws.{by_kind, other-layout}
 use Rattle.reads_seats.specs.declared.seats.Seat.{Seat}
-use Rattle.reads_seats.specs.declared.seats.Seat.TheVariants.{Nowhere, At}
-use Rattle.reads_seats.specs.Seats.{heap_at, extended_at, identity_at, heap_record}
+use Rattle.std.specs.Prelude.{Option, Some, None}
+use Rattle.reads_seats.specs.Seats.{found, heap_at, extended_at, identity_at, heap_record}
 use Rattle.reads_seats.proofs.MeaningLaws.{place_is}
 
 -- the object that the reference at p of the used record of kind k at a names
@@ -25,11 +25,11 @@ abbrev pub object_at : List ℕ → ℕ → ℕ → ℕ → List ℕ
 object_at t k a p = part t (whole_at t p (seat (layout_of k) a true)).at (whole_at t p (seat (layout_of k) a true)).len
 
 -- the heap record at a seat, or none, before the slots x
-abbrev pub held_slot : {p : ℕ} {need : List ℕ → Need} {shape : Shape} {own rest : Refs} → List ℕ → Seat → Slots rest → Slots (nest p need shape own rest)
-held_slot t Nowhere x = gone x
-held_slot {shape = shape} {own = own} t (At b on) x =
-    let y = image shape.keep (drop b t) in
-    rec y (read_slots t b y own) x
+abbrev pub held_slot : {p : ℕ} {need : List ℕ → Need} {shape : Shape} {own rest : Refs} → List ℕ → Option Seat → Slots rest → Slots (nest p need shape own rest)
+held_slot t None x = gone x
+held_slot {shape = shape} {own = own} t (Some s) x =
+    let y = image shape.keep (drop s.at t) in
+    rec y (read_slots t s.at y own) x
 
 -- what the references rs of the used record of kind k at a give
 unfoldable pub slots_at : List ℕ → ℕ → ℕ → (rs : Refs) → Slots rs
@@ -70,7 +70,7 @@ module _ (t : List ℕ) (a : ℕ) where
   unfolding heap_at
   named-slot r p need shape own rest x = go (eqb (reference_at t r).len 0) where
     go : (c : Bool) → let y = image shape.keep (drop (reference_at t r).at t) in
-        ◌≡◌ {A = Slots (nest p need shape own rest)} (pick c (gone x) (rec y (read_slots t (reference_at t r).at y own) x)) (held_slot t (pick c Nowhere (At (reference_at t r).at true)) x)
+        ◌≡◌ {A = Slots (nest p need shape own rest)} (pick c (gone x) (rec y (read_slots t (reference_at t r).at y own) x)) (held_slot t (pick c None (found (reference_at t r).at true)) x)
     go true = refl
     go false = refl
 
@@ -85,7 +85,7 @@ module _ (t : List ℕ) (a : ℕ) where
         let y = image extended.shape.keep (drop r.at t) in
         ◌≡◌ {A = Slots (nest 60 (when_set 3 2 4 4) extended.shape extended.refs none)}
         (under (pick c Ignored Required) (gone x) (pick (eqb r.len 0) (gone x) (rec y (read_slots t r.at y extended.refs) x)))
-        (held_slot t (pick c Nowhere (heap_at t (a + 60))) x)
+        (held_slot t (pick c None (heap_at t (a + 60))) x)
     go true = refl
     go false = named-slot (a + 60) 60 (when_set 3 2 4 4) extended.shape extended.refs none x
 
@@ -96,7 +96,7 @@ module _ (t : List ℕ) (a : ℕ) where
         let y = image hfi_extended.shape.keep (drop r.at t) in
         ◌≡◌ {A = Slots (nest 110 (when_is 3 2) hfi_extended.shape hfi_extended.refs none)}
         (under (pick c Optional Ignored) (gone x) (pick (eqb r.len 0) (gone x) (rec y (read_slots t r.at y hfi_extended.refs) x)))
-        (held_slot t (pick c (heap_at t (a + 110)) Nowhere) x)
+        (held_slot t (pick c (heap_at t (a + 110)) None) x)
     go true = named-slot (a + 110) 110 (when_is 3 2) hfi_extended.shape hfi_extended.refs none x
     go false = refl
 

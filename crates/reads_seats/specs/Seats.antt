@@ -1,5 +1,5 @@
 -- Where a record stands, as code hands it on. Definitions only.
-use Rattle.std.specs.Prelude.{◌≡◌, Bool, true, false, List, ℕ, ◌+◌, ◌/◌, ◌%◌, ◌≤◌, length, get_or, eqb}
+use Rattle.std.specs.Prelude.{◌≡◌, Bool, true, false, Option, Some, None, List, ℕ, ◌+◌, ◌/◌, ◌%◌, ◌≤◌, length, get_or, eqb}
 use Rattle.table.specs.Bytes.{pick, num}
 use Rattle.table.specs.Layout.{Layout, Env, base_of, reference_at}
 use Rattle.table.specs.FixedLayouts.{layout_of, ssns, info}
@@ -10,39 +10,42 @@ use Rattle.laws.specs.Fields.{image_in}
 use Rattle.reader_frame.specs.Bounds.{ListIn}
 use Rattle.reader_lists.specs.Lists.{list_fault}
 use Rattle.reads_seats.specs.declared.seats.Seat.{Seat}
-use Rattle.reads_seats.specs.declared.seats.Seat.TheVariants.{Nowhere, At}
+
+-- a record at a place, used or not
+abbrev pub found : ℕ → Bool → Option Seat
+found at used = Some (record { at = at; used = used })
 
 -- the definitions' seat of a record of layout l
-abbrev pub as_seat : Layout → Seat → reads.Seat
-as_seat l Nowhere = reads.nowhere
-as_seat l (At at used) = reads.seat l at used
+abbrev pub as_seat : Layout → Option Seat → reads.Seat
+as_seat l None = reads.nowhere
+as_seat l (Some s) = reads.seat l s.at s.used
 
 -- a record of n bytes at that place lies in the table
-abbrev pub InTable : List ℕ → ℕ → Seat → Type 0
-InTable t n Nowhere = 0 ≤ n
-InTable t n (At at used) = at + n ≤ length t
+abbrev pub InTable : List ℕ → ℕ → Option Seat → Type 0
+InTable t n None = 0 ≤ n
+InTable t n (Some s) = s.at + n ≤ length t
 
-unfoldable pub single_at : ℕ → ℕ → Seat
-single_at n at = pick (eqb n 0) (At at true) Nowhere
+unfoldable pub single_at : ℕ → ℕ → Option Seat
+single_at n at = pick (eqb n 0) (found at true) None
 
 -- what the reference at r names
-unfoldable pub heap_at : List ℕ → ℕ → Seat
-heap_at t r = pick (eqb (reference_at t r).len 0) Nowhere (At (reference_at t r).at true)
+unfoldable pub heap_at : List ℕ → ℕ → Option Seat
+heap_at t r = pick (eqb (reference_at t r).len 0) None (found (reference_at t r).at true)
 
-unfoldable pub extended_at : List ℕ → ℕ → Seat
-extended_at t a = pick (eqb (num (image_in ssns t a) 3 2 / 16 % 2) 0) Nowhere (heap_at t (a + 60))
+unfoldable pub extended_at : List ℕ → ℕ → Option Seat
+extended_at t a = pick (eqb (num (image_in ssns t a) 3 2 / 16 % 2) 0) None (heap_at t (a + 60))
 
-unfoldable pub identity_at : List ℕ → ℕ → Seat
-identity_at t a = pick (eqb (get_or (image_in info t a) 3 0) 2) (heap_at t (a + 110)) Nowhere
+unfoldable pub identity_at : List ℕ → ℕ → Option Seat
+identity_at t a = pick (eqb (get_or (image_in info t a) 3 0) 2) (heap_at t (a + 110)) None
 
 -- the heap record of the record of kind k at a
-unfoldable pub heap_record : List ℕ → ℕ → ℕ → Seat
-heap_record t k a = pick (eqb k 3) (heap_at t (a + 16)) (pick (eqb k 4) (extended_at t a) (pick (eqb k 7) (identity_at t a) Nowhere))
+unfoldable pub heap_record : List ℕ → ℕ → ℕ → Option Seat
+heap_record t k a = pick (eqb k 3) (heap_at t (a + 16)) (pick (eqb k 4) (extended_at t a) (pick (eqb k 7) (identity_at t a) None))
 
 -- and of one of kind k at an owner's seat
-unfoldable pub owned_of : List ℕ → ℕ → Seat → Seat
-owned_of t k Nowhere = Nowhere
-owned_of t k (At at used) = pick used (heap_record t k at) Nowhere
+unfoldable pub owned_of : List ℕ → ℕ → Option Seat → Option Seat
+owned_of t k None = None
+owned_of t k (Some s) = pick s.used (heap_record t k s.at) None
 
 -- the kinds whose records refer to a heap record
 abbrev pub is_owner : ℕ → Bool
@@ -78,9 +81,9 @@ Good t k reads.nowhere = 0 ≤ k
 Good t k (reads.seat l a on) = (l ≡ layout_of k) × Seated t l a on
 
 -- a heap record of kind k that is there stands so
-abbrev pub Held : List ℕ → ℕ → Seat → Type 0
-Held t k Nowhere = 0 ≤ k
-Held t k (At at used) = Seated t (layout_of k) at true
+abbrev pub Held : List ℕ → ℕ → Option Seat → Type 0
+Held t k None = 0 ≤ k
+Held t k (Some s) = Seated t (layout_of k) s.at true
 
 -- a list of kind k whose entry in the control record stands at c
 pub record Listed (t : List ℕ) (k c : ℕ) : Type 0 where

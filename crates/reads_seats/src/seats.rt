@@ -12,11 +12,11 @@ use crate::lent::part_of;
 use layout_flags::ssns_flags;
 use table::{Control, Discovery, Extended, Header, Hfi, HfiExtended, Host, Info, Security, Ssns};
 
-// Nowhere, or at a place, where it is used or not.
+// The place of a record, and whether it is used.
 #[derive(Clone, Copy)]
-pub enum Seat {
-    Nowhere,
-    At { at: usize, used: bool },
+pub struct Seat {
+    pub at: usize,
+    pub used: bool,
 }
 
 // Whether the record of a kind with these bytes is used.
@@ -29,15 +29,15 @@ pub fn is_used(bytes: &[u8], kind: u8) -> bool
 }
 
 // A position of the list whose entry in the control record stands at `list`. Its records may be longer than their kind.
-pub fn list_seat(t: &[u8], kind: u8, list: usize, position: usize) -> Seat
+pub fn list_seat(t: &[u8], kind: u8, list: usize, position: usize) -> Option<Seat>
     requires { (2 ≤ kind) × (kind ≤ 6) × (list + 8 ≤ length t.now) × ListIn t.now list (base_of (layout_of kind)) }
     ensures { (as_seat (layout_of kind) result ≡ list_seat (layout_of kind) t.now list position) × InTable t.now (base_of (layout_of kind)) result }
 {
     if position == 0 {
-        return Seat::Nowhere;
+        return None;
     }
     if bytes_wire::wide(t[list + 7]) < position {
-        return Seat::Nowhere;
+        return None;
     }
     let index = position - 1;
     let base = layout_kinds::base_size(kind);
@@ -45,11 +45,11 @@ pub fn list_seat(t: &[u8], kind: u8, list: usize, position: usize) -> Seat
     let distance = index * step;
     let at = bytes_wire::u32_at(t, list) + distance;
     let used = is_used(part_of(t, at, base), kind);
-    Seat::At { at, used }
+    Some(Seat { at, used })
 }
 
 // The heap record that a reference of the record with these bytes names, if it names one.
-fn heap_seat(bytes: &[u8], offset: usize) -> Seat
+fn heap_seat(bytes: &[u8], offset: usize) -> Option<Seat>
     requires { offset + 6 ≤ length bytes.now }
     ensures { result ≡ heap_at bytes.now offset }
 {
@@ -57,35 +57,35 @@ fn heap_seat(bytes: &[u8], offset: usize) -> Seat
     let at = named.at;
     let len = named.len;
     if len == 0 {
-        return Seat::Nowhere;
+        return None;
     }
-    Seat::At { at, used: true }
+    Some(Seat { at, used: true })
 }
 
 // The extended info of an SSNS: flag 4 says whether there is one.
-fn extended_seat(bytes: &[u8]) -> Seat
+fn extended_seat(bytes: &[u8]) -> Option<Seat>
     requires { 128 ≤ length bytes.now }
     ensures { result ≡ extended_at bytes.now 0 }
 {
     if ssns_flags(bytes, 0) / 16 % 2 == 0 {
-        return Seat::Nowhere;
+        return None;
     }
     heap_seat(bytes, 60)
 }
 
 // The HFI extended info of an info: version 2 may name one.
-fn identity_seat(bytes: &[u8]) -> Seat
+fn identity_seat(bytes: &[u8]) -> Option<Seat>
     requires { 128 ≤ length bytes.now }
     ensures { result ≡ identity_at bytes.now 0 }
 {
     if bytes[3] != 2 {
-        return Seat::Nowhere;
+        return None;
     }
     heap_seat(bytes, 110)
 }
 
 // The heap record of the record of a kind with these bytes.
-fn inner_seat(bytes: &[u8], kind: u8) -> Seat
+fn inner_seat(bytes: &[u8], kind: u8) -> Option<Seat>
     requires { base_of (layout_of kind) ≤ length bytes.now }
     ensures { result ≡ heap_record bytes.now kind 0 }
 {
@@ -93,12 +93,12 @@ fn inner_seat(bytes: &[u8], kind: u8) -> Seat
         Hfi::ID => heap_seat(bytes, 16),
         Ssns::ID => extended_seat(bytes),
         Info::ID => identity_seat(bytes),
-        _ => Seat::Nowhere,
+        _ => None,
     }
 }
 
 // The same of the record at a place, which is used. It is the seat that the definitions have: `heap-record-is` and `heap-record-of` in proofs/Laws.antt.
-pub fn heap_record(t: &[u8], kind: u8, at: usize) -> Seat
+pub fn heap_record(t: &[u8], kind: u8, at: usize) -> Option<Seat>
     requires { at + base_of (layout_of kind) ≤ length t.now }
     ensures { result ≡ heap_record t.now kind at }
 {
@@ -106,31 +106,27 @@ pub fn heap_record(t: &[u8], kind: u8, at: usize) -> Seat
 }
 
 // The heap record of an owner of a kind.
-fn owned_seat(t: &[u8], kind: u8, owner: Seat) -> Seat
+fn owned_seat(t: &[u8], kind: u8, owner: Option<Seat>) -> Option<Seat>
     requires { InTable t.now (base_of (layout_of kind)) owner }
     ensures { result ≡ owned_of t.now kind owner }
 {
     match owner {
-        Seat::Nowhere => Seat::Nowhere,
-        Seat::At { at, used } => if used {
-            heap_record(t, kind, at)
-        } else {
-            Seat::Nowhere
-        },
+        None => None,
+        Some(Seat { at, used }) => if used { heap_record(t, kind, at) } else { None },
     }
 }
 
-fn single_seat(position: usize, at: usize) -> Seat
+fn single_seat(position: usize, at: usize) -> Option<Seat>
     ensures { result ≡ single_at position at }
 {
     if position != 0 {
-        return Seat::Nowhere;
+        return None;
     }
-    Seat::At { at, used: true }
+    Some(Seat { at, used: true })
 }
 
 // The info of the HFI at a position.
-fn info_seat(t: &[u8], position: usize) -> Seat
+fn info_seat(t: &[u8], position: usize) -> Option<Seat>
     requires { Accepted t.now }
     ensures { (as_seat info result ≡ seat_of t.now 7 position) × InTable t.now (base_of info) result }
 {
@@ -139,7 +135,7 @@ fn info_seat(t: &[u8], position: usize) -> Seat
 }
 
 // Where the record of a kind and position stands.
-pub fn seat_of(t: &[u8], kind: u8, position: usize) -> Seat
+pub fn seat_of(t: &[u8], kind: u8, position: usize) -> Option<Seat>
     requires { Accepted t.now }
     ensures { as_seat (layout_of kind) result ≡ seat_of t.now kind position }
 {
@@ -158,6 +154,6 @@ pub fn seat_of(t: &[u8], kind: u8, position: usize) -> Seat
             list_seat(t, Ssns::ID, Control::SSNS_LIST, position),
         ),
         HfiExtended::ID => owned_seat(t, Info::ID, info_seat(t, position)),
-        _ => Seat::Nowhere,
+        _ => None,
     }
 }

@@ -8,7 +8,7 @@ ghost use Rattle.reads_whole.specs.Whole.{entry_after, entries_of, kinds_to, ref
 use crate::Records;
 use crate::entries::put_entry;
 use crate::lists::{first_of, left_of, put_kinds};
-use reads_seats::seats::{Seat, seat_of};
+use reads_seats::seats::seat_of;
 use table::Answer;
 
 // The record of a kind and position.
@@ -17,8 +17,8 @@ fn record_in(t: &[u8], kind: u8, position: usize, out: &mut [u8]) -> Answer
     ensures { (result ≡ (image_at t.now (seat_of t.now kind position)).answer) × (out.new ≡ entry_after t.now kind position result out.old) }
 {
     match seat_of(t, kind, position) {
-        Seat::Nowhere => table::refuse(16, 0, 0),
-        Seat::At { .. } => {
+        None => table::refuse(16, 0, 0),
+        Some(_) => {
             put_entry(out, t, kind, position);
             table::done()
         }

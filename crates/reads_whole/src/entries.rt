@@ -10,7 +10,7 @@ ghost use Rattle.reads_whole.specs.Whole.{place_bytes, places_of, entry_of, entr
 use bytes_writer::stores::{copy_into, fill_zero, low, put_ref, put_u8};
 use reads::objects::place_of;
 use reads_seats::lent::record_at;
-use reads_seats::seats::{Seat, seat_of};
+use reads_seats::seats::seat_of;
 use table::Place;
 
 // A flag as the byte that an entry has for it.
@@ -86,7 +86,7 @@ pub fn put_entry(part: &mut [u8], t: &[u8], kind: u8, position: usize)
     ensures { part.new ≡ entry_at t.now kind position }
 {
     match seat_of(t, kind, position) {
-        Seat::Nowhere => put_none(part, t, kind, position),
-        Seat::At { at, used } => put_found(part, record_at(t, kind, at), kind, position, used),
+        None => put_none(part, t, kind, position),
+        Some(seat) => put_found(part, record_at(t, kind, seat.at), kind, position, seat.used),
     }
 }

@@ -20,8 +20,7 @@ use Rattle.bytes_writer.specs.Stores.{ref_num}
 use Rattle.bytes_writer.proofs.StoreLaws.{splice-join, splice-none, splice-swap, splice-inside}
 use Rattle.bytes_writer.proofs.RecordLaws.{length-ref}
 use Rattle.reader.specs.Accepted.{Accepted}
-use Rattle.reads_seats.specs.declared.seats.Seat.TheVariants.{At}
-use Rattle.reads_seats.specs.Seats.{Seated, heap_record}
+use Rattle.reads_seats.specs.Seats.{Seated, found, heap_record}
 use Rattle.reads_seats.specs.Told.{inner_kind}
 use Rattle.reads_seats.proofs.SlotLaws.{object_at}
 use Rattle.rewriter_sizes.specs.Parts.{Part, refs_of, objects_of, held_of, slots_in, part_at, record_part, bytes_at, record_bytes, spans_over, stores_over, objects_over}
@@ -257,7 +256,7 @@ module _ (t : List ℕ) (ok : Accepted t) (k a : ℕ) (s : Seated t (layout_of k
   pub held-laid : (x z : List ℕ) (r h : ℕ) → let b = base_of (layout_of k) in
       r + 6 ≤ h → h + (b + size_of (slots_in (layout_of k) t a)) ≤ length x
       → z ≡ named (splice (splice x r (ref_num h b)) h (image_in (layout_of k) t a)) h (h + b) (slots_in (layout_of k) t a)
-      → z ≡ laid x r (ref_num h (record_part t k (At a true)).len) h (record_bytes t k h (At a true))
+      → z ≡ laid x r (ref_num h (record_part t k (found a true)).len) h (record_bytes t k h (found a true))
   unfolding record_part record_bytes
   held-laid x z r h low room ez =
       let b : ℕ = base_of (layout_of k) in

@@ -10,8 +10,7 @@ ghost use Rattle.table.specs.Reads.{has_plain};
 ghost use Rattle.laws.specs.Fields.{image_in};
 ghost use Rattle.bytes_writer.specs.Stores.{ref_num};
 ghost use Rattle.reader.specs.Accepted.{Accepted};
-ghost use Rattle.reads_seats.specs.declared.seats.Seat.TheVariants.{At};
-ghost use Rattle.reads_seats.specs.Seats.{Seated, Held};
+ghost use Rattle.reads_seats.specs.Seats.{Seated, Held, found};
 ghost use Rattle.rewriter_sizes.specs.Parts.{objects_of, held_of, record_part, part_at, record_bytes, bytes_at, spans_over};
 ghost use Rattle.rewriter_objects.specs.Laid.{laid, laid_over};
 
@@ -77,8 +76,8 @@ pub fn lay_objects(
 // A heap record that names objects alone, with these right behind it, and the reference to it at `slot` of the output.
 fn lay_flat(out: &mut [u8], slot: usize, next: usize, t: &[u8], kind: u8, source: usize) -> usize
     requires accepted { Accepted t.now × Seated t.now (layout_of kind) source true × (held_of kind ≡ []) }
-    requires slot_bound { (slot + 6 ≤ next) × (next + (record_part t.now kind (At source true)).span ≤ length out.old) }
-    ensures { (result ≡ next + (record_part t.now kind (At source true)).span) × (out.new ≡ laid out.old slot (ref_num next (record_part t.now kind (At source true)).len) next (record_bytes t.now kind next (At source true))) }
+    requires slot_bound { (slot + 6 ≤ next) × (next + (record_part t.now kind (found source true)).span ≤ length out.old) }
+    ensures { (result ≡ next + (record_part t.now kind (found source true)).span) × (out.new ≡ laid out.old slot (ref_num next (record_part t.now kind (found source true)).len) next (record_bytes t.now kind next (found source true))) }
 {
     let size = layout_kinds::base_size(kind);
     put_slot(out, slot, next, size);
@@ -93,18 +92,18 @@ fn lay_flat_record(
     next: usize,
     t: &[u8],
     kind: u8,
-    seat: Seat,
+    seat: Option<Seat>,
 ) -> usize
     requires accepted { Accepted t.now × Held t.now kind seat × (held_of kind ≡ []) }
     requires slot_bound { (slot + 6 ≤ next) × (next + (record_part t.now kind seat).span ≤ length out.old) }
     ensures { (result ≡ next + (record_part t.now kind seat).span) × (out.new ≡ laid out.old slot (ref_num next (record_part t.now kind seat).len) next (record_bytes t.now kind next seat)) }
 {
     match seat {
-        Seat::Nowhere => {
+        None => {
             put_slot(out, slot, next, 0);
             next
         }
-        Seat::At { at, .. } => lay_flat(out, slot, next, t, kind, at),
+        Some(held) => lay_flat(out, slot, next, t, kind, held.at),
     }
 }
 
@@ -121,8 +120,8 @@ fn lay_identity(out: &mut [u8], place: usize, next: usize, t: &[u8], source: usi
 // An info, with what it names right behind it, and the reference to it at `slot` of the output.
 fn lay_info(out: &mut [u8], slot: usize, next: usize, t: &[u8], source: usize) -> usize
     requires accepted { Accepted t.now × Seated t.now (layout_of 7) source true }
-    requires slot_bound { (slot + 6 ≤ next) × (next + (record_part t.now 7 (At source true)).span ≤ length out.old) }
-    ensures { (result ≡ next + (record_part t.now 7 (At source true)).span) × (out.new ≡ laid out.old slot (ref_num next (record_part t.now 7 (At source true)).len) next (record_bytes t.now 7 next (At source true))) }
+    requires slot_bound { (slot + 6 ≤ next) × (next + (record_part t.now 7 (found source true)).span ≤ length out.old) }
+    ensures { (result ≡ next + (record_part t.now 7 (found source true)).span) × (out.new ≡ laid out.old slot (ref_num next (record_part t.now 7 (found source true)).len) next (record_bytes t.now 7 next (found source true))) }
 {
     put_slot(out, slot, next, Info::SIZE);
     put_record(out, next, t, Info::ID, source);
@@ -131,17 +130,17 @@ fn lay_info(out: &mut [u8], slot: usize, next: usize, t: &[u8], source: usize) -
 }
 
 // The same where there may be none.
-fn lay_info_record(out: &mut [u8], slot: usize, next: usize, t: &[u8], seat: Seat) -> usize
+fn lay_info_record(out: &mut [u8], slot: usize, next: usize, t: &[u8], seat: Option<Seat>) -> usize
     requires accepted { Accepted t.now × Held t.now 7 seat }
     requires slot_bound { (slot + 6 ≤ next) × (next + (record_part t.now 7 seat).span ≤ length out.old) }
     ensures { (result ≡ next + (record_part t.now 7 seat).span) × (out.new ≡ laid out.old slot (ref_num next (record_part t.now 7 seat).len) next (record_bytes t.now 7 next seat)) }
 {
     match seat {
-        Seat::Nowhere => {
+        None => {
             put_slot(out, slot, next, 0);
             next
         }
-        Seat::At { at, .. } => lay_info(out, slot, next, t, at),
+        Some(held) => lay_info(out, slot, next, t, held.at),
     }
 }
 

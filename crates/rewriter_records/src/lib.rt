@@ -14,7 +14,7 @@ ghost use Rattle.rewriter_sizes.specs.Parts.{objects_of, held_of, slots_in, span
 ghost use Rattle.rewriter_objects.specs.Laid.{laid, laid_over};
 
 use bytes_writer::stores::fill_zero;
-use reads_seats::seats::{Seat, seat_of};
+use reads_seats::seats::seat_of;
 use rewriter_objects::{lay_held, lay_objects, put_record};
 
 // A used record, and what it names.
@@ -52,9 +52,9 @@ pub fn lay_entry(
     ensures { (result ≡ next + size_entry (told_entry (layout_of kind) t.now kind position)) × (out.new ≡ laid out.old place (rec_entry next (told_entry (layout_of kind) t.now kind position)) next (heap_entry next (told_entry (layout_of kind) t.now kind position))) }
 {
     match seat_of(t, kind, position) {
-        Seat::Nowhere => lay_unused(out, place, next, kind),
-        Seat::At { at, used } => if used {
-            lay_used(out, place, next, t, kind, at)
+        None => lay_unused(out, place, next, kind),
+        Some(seat) => if seat.used {
+            lay_used(out, place, next, t, kind, seat.at)
         } else {
             lay_unused(out, place, next, kind)
         },
@@ -125,9 +125,9 @@ pub fn lay_position(
     ensures { (result ≡ next + size_entry (told_entry (layout_of kind) t.now kind position)) × (out.new ≡ laid out.old place (rec_entry next (told_entry (layout_of kind) t.now kind position)) next (heap_entry next (told_entry (layout_of kind) t.now kind position))) }
 {
     match seat_of(t, kind, position) {
-        Seat::Nowhere => lay_unused(out, place, next, kind),
-        Seat::At { at, used } => if used {
-            lay_listed(out, place, next, t, kind, at)
+        None => lay_unused(out, place, next, kind),
+        Some(seat) => if seat.used {
+            lay_listed(out, place, next, t, kind, seat.at)
         } else {
             lay_unused(out, place, next, kind)
         },

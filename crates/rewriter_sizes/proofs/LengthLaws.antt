@@ -17,7 +17,7 @@ use Rattle.laws.specs.Fields.{image_in, length-image_in}
 use Rattle.laws.specs.ListWalk.{by_layout}
 use Rattle.reader.specs.Accepted.{Accepted}
 use Rattle.reads_seats.specs.declared.seats.Seat.{Seat}
-use Rattle.reads_seats.specs.declared.seats.Seat.TheVariants.{Nowhere, At}
+use Rattle.std.specs.Prelude.{Option, Some, None}
 use Rattle.reads_seats.specs.Seats.{Seated, Good, Held, heap_record}
 use Rattle.reads_seats.specs.Told.{inner_kind, told_entry}
 use Rattle.reads_seats.proofs.SeatLaws.{seats-good, record-held}
@@ -64,10 +64,11 @@ module _ (t : List ℕ) (ok : Accepted t) (k a : ℕ) (s : Seated t (layout_of k
 abbrev Sized : List ℕ → ℕ → ℕ → Type 0
 Sized t k a = (h : ℕ) → length (heap_of h (slots_in (layout_of k) t a)) ≡ size_of (slots_in (layout_of k) t a)
 
-record-long : (t : List ℕ) (k h : ℕ) (s : Seat) → Held t k s → ((a : ℕ) → Seated t (layout_of k) a true → Sized t k a) → length (record_bytes t k h s) ≡ (record_part t k s).span
+record-long : (t : List ℕ) (k h : ℕ) (s : Option Seat) → Held t k s → ((a : ℕ) → Seated t (layout_of k) a true → Sized t k a) → length (record_bytes t k h s) ≡ (record_part t k s).span
 unfolding record_bytes record_part
-record-long t k h Nowhere g f = refl
-record-long t k h (At b on) g f =
+record-long t k h None g f = refl
+record-long t k h (Some s) g f =
+    let b : ℕ = s.at in
     let h₁ : ℕ = h + base_of (layout_of k) in
     length-append (patched h₁ (image_in (layout_of k) t b) (slots_in (layout_of k) t b)) (heap_of h₁ (slots_in (layout_of k) t b))
     ∙ ap₂ ◌+◌ (patched-long t k b h₁) (f b g h₁)

@@ -24,7 +24,7 @@ use Rattle.layout_kinds.specs.References.{held_refs}
 use Rattle.bytes_writer.proofs.RecordLaws.{ref-num, ref-for}
 use Rattle.reader.specs.Accepted.{Accepted}
 use Rattle.reads_seats.specs.declared.seats.Seat.{Seat}
-use Rattle.reads_seats.specs.declared.seats.Seat.TheVariants.{Nowhere, At}
+use Rattle.std.specs.Prelude.{Option, Some, None}
 use Rattle.reads_seats.specs.Seats.{Seated, heap_record}
 use Rattle.reads_seats.specs.Told.{inner_kind, image_of, told_entry, told_list, count_of, told}
 use Rattle.reads_seats.proofs.ReferenceLaws as references
@@ -36,22 +36,22 @@ use Rattle.rewriter_sizes.specs.Parts.{Part, refs_of, objects_of, held_of, slots
 -- ---- a heap record, or none
 
 -- what is laid for the heap record s of kind m: S stands for it and, behind it, x
-pub record Laid (t : List ℕ) (m : ℕ) (s : Seat) (p : ℕ) (need : List ℕ → Need) (shape : Shape) (own rest : Refs) (x : Slots rest) (S : Slots (nest p need shape own rest)) : Type 0 where
+pub record Laid (t : List ℕ) (m : ℕ) (s : Option Seat) (p : ℕ) (need : List ℕ → Need) (shape : Shape) (own rest : Refs) (x : Slots rest) (S : Slots (nest p need shape own rest)) : Type 0 where
   pub sized : size_of S ≡ (record_part t m s).span + size_of x
   pub stored : (h : ℕ) → stores h S ≡ edit p (ref_num h (record_part t m s).len) ∷ stores (h + (record_part t m s).span) x
   pub in_heap : (h : ℕ) → heap_of h S ≡ record_bytes t m h s ++ heap_of (h + (record_part t m s).span) x
 
 module _ (t : List ℕ) (m : ℕ) (some : 0 < base_of (layout_of m)) (p : ℕ) (need : List ℕ → Need) (rest : Refs) (x : Slots rest) where
-  slot-laid : (s : Seat) → Laid t m s p need (layout_of m).shape (layout_of m).refs rest x (held_slot t s x)
+  slot-laid : (s : Option Seat) → Laid t m s p need (layout_of m).shape (layout_of m).refs rest x (held_slot t s x)
   unfolding size_of stores heap_of record_part record_bytes slots_in image_in
-  slot-laid Nowhere = record {
+  slot-laid None = record {
     sized = sym (zero-add (size_of x));
     stored = λ h. ap (λ (i : ℕ). edit p (ref6 0 0) ∷ stores i x) (sym (add-zero h));
     in_heap = λ h. ap (λ (i : ℕ). heap_of i x) (sym (add-zero h));
   }
-  slot-laid (At b on) = record {
+  slot-laid (Some s) = record {
     sized = refl;
-    stored = λ h. ap (λ (r : List ℕ). edit p r ∷ stores (h + (base_of (layout_of m) + size_of (slots_in (layout_of m) t b))) x) (sym (ref-num h (base_of (layout_of m)) some));
+    stored = λ h. ap (λ (r : List ℕ). edit p r ∷ stores (h + (base_of (layout_of m) + size_of (slots_in (layout_of m) t s.at))) x) (sym (ref-num h (base_of (layout_of m)) some));
     in_heap = λ h. refl;
   }
 

@@ -1,5 +1,5 @@
 -- What the references of a record name, as it is to be laid in a heap: where it stands, its length, and the bytes it takes. Definitions only.
-use Rattle.std.specs.Prelude.{true, List, [], ◌∷◌, ◌++◌, ℕ, ◌+◌, ◌-◌}
+use Rattle.std.specs.Prelude.{Option, Some, None, true, List, [], ◌∷◌, ◌++◌, ℕ, ◌+◌, ◌-◌}
 use Rattle.table.specs.declared.Place.{Place}
 use Rattle.table.specs.Bytes.{pick, part, Edit, edit}
 use Rattle.table.specs.Layout.{Layout, Slots, Entry, base_of, offsets}
@@ -10,7 +10,6 @@ use Rattle.laws.specs.Fields.{image_in}
 use Rattle.layout_kinds.specs.References.{object_refs, held_refs}
 use Rattle.bytes_writer.specs.Stores.{ref_num}
 use Rattle.reads_seats.specs.declared.seats.Seat.{Seat}
-use Rattle.reads_seats.specs.declared.seats.Seat.TheVariants.{Nowhere, At}
 use Rattle.reads_seats.specs.Seats.{heap_record}
 use Rattle.reads_seats.specs.Told.{inner_kind, told_list, count_of}
 
@@ -47,9 +46,9 @@ abbrev pub object_part : Place → Part
 object_part q = record { at = q.at; len = q.len; span = q.len }
 
 -- a heap record of kind k takes its base size and what its own objects take
-unfoldable pub record_part : List ℕ → ℕ → Seat → Part
-record_part t k Nowhere = record { at = 0; len = 0; span = 0 }
-record_part t k (At b on) = record { at = b; len = base_of (layout_of k); span = base_of (layout_of k) + size_of (slots_in (layout_of k) t b) }
+unfoldable pub record_part : List ℕ → ℕ → Option Seat → Part
+record_part t k None = record { at = 0; len = 0; span = 0 }
+record_part t k (Some s) = record { at = s.at; len = base_of (layout_of k); span = base_of (layout_of k) + size_of (slots_in (layout_of k) t s.at) }
 
 -- the reference at p of the record of kind k at a
 unfoldable pub part_at : List ℕ → ℕ → ℕ → ℕ → Part
@@ -57,12 +56,12 @@ part_at t k a p =
     pick (has_plain p (layout_of k).refs) (object_part (whole_at t p (seat (layout_of k) a true))) (record_part t (inner_kind k) (heap_record t k a))
 
 -- the bytes of a heap record of kind k that is laid at h, its own objects behind it
-unfoldable pub record_bytes : List ℕ → ℕ → ℕ → Seat → List ℕ
-record_bytes t k h Nowhere = []
-record_bytes t k h (At b on) =
+unfoldable pub record_bytes : List ℕ → ℕ → ℕ → Option Seat → List ℕ
+record_bytes t k h None = []
+record_bytes t k h (Some s) =
     let l = layout_of k in
     let h₁ = h + base_of l in
-    patched h₁ (image_in l t b) (slots_in l t b) ++ heap_of h₁ (slots_in l t b)
+    patched h₁ (image_in l t s.at) (slots_in l t s.at) ++ heap_of h₁ (slots_in l t s.at)
 
 -- the bytes of what the reference at p names, laid at h
 unfoldable pub bytes_at : List ℕ → ℕ → ℕ → ℕ → ℕ → List ℕ

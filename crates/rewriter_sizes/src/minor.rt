@@ -8,7 +8,7 @@ ghost use Rattle.reads_seats.specs.Told.{told_entry};
 
 use reads_by_seat::counts::count_of;
 use reads_by_seat::versions::info_version;
-use reads_seats::seats::{Seat, seat_of};
+use reads_seats::seats::seat_of;
 use table::{Hfi, Info};
 
 // Whether the HFI at a position asks for minor 1; an unused one has no info.
@@ -17,8 +17,8 @@ fn is_newer(t: &[u8], position: usize) -> bool
     ensures { result ≡ newer_entry (told_entry (layout_of 3) t.now 3 position) }
 {
     match seat_of(t, Info::ID, position) {
-        Seat::Nowhere => false,
-        Seat::At { at, .. } => info_version(t, at) == 2,
+        None => false,
+        Some(seat) => info_version(t, seat.at) == 2,
     }
 }
 

@@ -24,15 +24,15 @@ fn objects_size(t: &[u8], kind: u8, at: usize) -> usize
 }
 
 // A heap record that names objects alone, with these, which are laid behind it.
-fn flat_span(t: &[u8], kind: u8, seat: Seat) -> usize
+fn flat_span(t: &[u8], kind: u8, seat: Option<Seat>) -> usize
     requires { Accepted t.now × Held t.now kind seat × (held_of kind ≡ []) }
     ensures { (result ≡ (record_part t.now kind seat).span) × (result ≤ 400000) }
 {
     match seat {
-        Seat::Nowhere => 0,
-        Seat::At { at, .. } => {
+        None => 0,
+        Some(held) => {
             let size = layout_kinds::base_size(kind);
-            let len = objects_size(t, kind, at);
+            let len = objects_size(t, kind, held.at);
             size + len
         }
     }
@@ -47,15 +47,15 @@ fn identity_span(t: &[u8], at: usize) -> usize
 }
 
 // An info with all that it names.
-fn info_span(t: &[u8], seat: Seat) -> usize
+fn info_span(t: &[u8], seat: Option<Seat>) -> usize
     requires { Accepted t.now × Held t.now 7 seat }
     ensures { (result ≡ (record_part t.now 7 seat).span) × (result ≤ 800000) }
 {
     match seat {
-        Seat::Nowhere => 0,
-        Seat::At { at, .. } => {
-            let objects = objects_size(t, Info::ID, at);
-            let identity = identity_span(t, at);
+        None => 0,
+        Some(held) => {
+            let objects = objects_size(t, Info::ID, held.at);
+            let identity = identity_span(t, held.at);
             Info::SIZE + objects + identity
         }
     }

@@ -10,7 +10,7 @@ ghost use Rattle.rewriter_sizes.specs.Parts.{list_of};
 
 use crate::references::named_size;
 use reads_by_seat::counts::count_of;
-use reads_seats::seats::{Seat, seat_of};
+use reads_seats::seats::seat_of;
 use table::{Discovery, Header, Hfi, Host, Security, Ssns};
 
 // The heap bytes of the record of a kind and position; an unused one takes none.
@@ -19,8 +19,12 @@ pub fn entry_size(t: &[u8], kind: u8, position: usize) -> usize
     ensures { (result ≡ size_entry (told_entry (layout_of kind) t.now kind position)) × (result ≤ 1200000) }
 {
     match seat_of(t, kind, position) {
-        Seat::Nowhere => 0,
-        Seat::At { at, used } => if used { named_size(t, kind, at) } else { 0 },
+        None => 0,
+        Some(seat) => if seat.used {
+            named_size(t, kind, seat.at)
+        } else {
+            0
+        },
     }
 }
 

@@ -4,6 +4,7 @@ use native.Mathlib.Nat.{add-zero}
 use native.Mathlib.Omega.{arith}
 use Rattle.table.specs.FixedLayouts.{layout_of, hfi, ssns, extended}
 use Rattle.bytes_writer.specs.Stores.{ref_num}
+use Rattle.std.specs.Prelude.{Option}
 use Rattle.reads_seats.specs.declared.seats.Seat.{Seat}
 use Rattle.reads_seats.proofs.SeatLaws.{record-held}
 use Rattle.rewriter_sizes.specs.Parts.{record_part, record_bytes, spans_over}
@@ -50,8 +51,8 @@ returns-in-3 c =
     let f = c.lay_info_record in
     let e = c.heap_record-info.ensures in
     rw c.in-3.is (over-held t p.accepted.0 3 a.source p.accepted.1 16 refl x f.new.out a.place h f.result
-    (f.ensures.0 ∙ ap (λ (w : Seat). h + (record_part t 7 w).span) e)
-    (f.ensures.1 ∙ ap (λ (w : Seat). laid x (a.place + 16) (ref_num h (record_part t 7 w).len) h (record_bytes t 7 h w)) e))
+    (f.ensures.0 ∙ ap (λ (w : Option Seat). h + (record_part t 7 w).span) e)
+    (f.ensures.1 ∙ ap (λ (w : Option Seat). laid x (a.place + 16) (ref_num h (record_part t 7 w).len) h (record_bytes t 7 h w)) e))
 
 pub returns-in-4 : goal.returns-in-4
 unfolding layout_of ssns
@@ -64,8 +65,8 @@ returns-in-4 c =
     let f = c.lay_flat_record in
     let e = c.heap_record-extended.ensures in
     rw c.in-4.is (over-held t p.accepted.0 4 a.source p.accepted.1 60 refl x f.new.out a.place h f.result
-    (f.ensures.0 ∙ ap (λ (w : Seat). h + (record_part t 9 w).span) e)
-    (f.ensures.1 ∙ ap (λ (w : Seat). laid x (a.place + 60) (ref_num h (record_part t 9 w).len) h (record_bytes t 9 h w)) e))
+    (f.ensures.0 ∙ ap (λ (w : Option Seat). h + (record_part t 9 w).span) e)
+    (f.ensures.1 ∙ ap (λ (w : Option Seat). laid x (a.place + 60) (ref_num h (record_part t 9 w).len) h (record_bytes t 9 h w)) e))
 
 pub returns-in-7 : goal.returns-in-7
 returns-in-7 c = rw c.in-7.is c.lay_identity.ensures

@@ -3,6 +3,7 @@ use Prim.Native.Nat.{◌+◌}
 use native.Mathlib.Omega.{arith}
 use Rattle.table.specs.FixedLayouts.{layout_of, info, hfi_extended}
 use Rattle.bytes_writer.specs.Stores.{ref_num}
+use Rattle.std.specs.Prelude.{Option}
 use Rattle.reads_seats.specs.declared.seats.Seat.{Seat}
 use Rattle.reads_seats.proofs.SeatLaws.{record-held}
 use Rattle.rewriter_sizes.specs.Parts.{record_part, record_bytes}
@@ -31,5 +32,5 @@ returns c =
     let f = c.lay_flat_record in
     let e = c.heap_record-seat.ensures in
     over-held t c.requires.accepted.0 7 a.source c.requires.accepted.1 110 refl x f.new.out a.place h f.result
-    (f.ensures.0 ∙ ap (λ (w : Seat). h + (record_part t 10 w).span) e)
-    (f.ensures.1 ∙ ap (λ (w : Seat). laid x (a.place + 110) (ref_num h (record_part t 10 w).len) h (record_bytes t 10 h w)) e)
+    (f.ensures.0 ∙ ap (λ (w : Option Seat). h + (record_part t 10 w).span) e)
+    (f.ensures.1 ∙ ap (λ (w : Option Seat). laid x (a.place + 110) (ref_num h (record_part t 10 w).len) h (record_bytes t 10 h w)) e)

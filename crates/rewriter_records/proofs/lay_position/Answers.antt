@@ -21,43 +21,45 @@ lay_listed-requires c =
     let t = a.t.now in
     let k = a.kind in
     let e = (sym c.seat_of.ensures
-    ∙ ap (as_seat (layout_of k)) c.in-At.is
-    ∙ ap (seat (layout_of k) c.in-At.at) c.if-used.true) in
-    let z = ap size_entry (entry-on t k a.position c.in-At.at e) in record { accepted = (c.requires.accepted, seated-at t c.requires.accepted k a.position c.in-At.at true e); kind_bound = (c.requires.kind_bound.0, omega (arith, z, c.requires.kind_bound)) }
+    ∙ ap (as_seat (layout_of k)) c.in-Some.is
+    ∙ ap (seat (layout_of k) c.in-Some.seat.at) c.if-seat.true) in
+    let z = ap size_entry (entry-on t k a.position c.in-Some.seat.at e) in
+    let on = seated-at t c.requires.accepted k a.position c.in-Some.seat.at true e in
+    record { accepted = (c.requires.accepted, on); kind_bound = (c.requires.kind_bound.0, omega (arith, z, c.requires.kind_bound)) }
 
-pub returns-in-Nowhere : goal.returns-in-Nowhere
+pub returns-in-None : goal.returns-in-None
 unfolding size_entry rec_entry heap_entry
-returns-in-Nowhere c =
+returns-in-None c =
     let a = c.args in
     let t = a.t.now in
     let k = a.kind in
     rw (entry-nowhere t k a.position
-    (sym c.seat_of.ensures ∙ ap (as_seat (layout_of k)) c.in-Nowhere.is)) (
+    (sym c.seat_of.ensures ∙ ap (as_seat (layout_of k)) c.in-None.is)) (
       c.lay_unused.ensures.0 ∙ sym (add-zero a.next),
       c.lay_unused.ensures.1
           ∙ splice-none (splice a.out.now a.place (replicate (base_of (layout_of k)) 0)) a.next,
     )
 
-pub returns-then-used : goal.returns-then-used
+pub returns-then-seat : goal.returns-then-seat
 unfolding size_entry rec_entry heap_entry slots_in
-returns-then-used c =
+returns-then-seat c =
     let a = c.args in
     let t = a.t.now in
     let k = a.kind in
-    rw (entry-on t k a.position c.in-At.at (sym c.seat_of.ensures
-    ∙ ap (as_seat (layout_of k)) c.in-At.is
-    ∙ ap (seat (layout_of k) c.in-At.at) c.if-used.true)) c.lay_listed.ensures
+    rw (entry-on t k a.position c.in-Some.seat.at (sym c.seat_of.ensures
+    ∙ ap (as_seat (layout_of k)) c.in-Some.is
+    ∙ ap (seat (layout_of k) c.in-Some.seat.at) c.if-seat.true)) c.lay_listed.ensures
 
-pub returns-else-used : goal.returns-else-used
+pub returns-else-seat : goal.returns-else-seat
 unfolding size_entry rec_entry heap_entry
-returns-else-used c =
+returns-else-seat c =
     let a = c.args in
     let t = a.t.now in
     let k = a.kind in
-    rw (entry-off t k a.position c.in-At.at (sym c.seat_of.ensures
-    ∙ ap (as_seat (layout_of k)) c.in-At.is
-    ∙ ap (seat (layout_of k) c.in-At.at) c.if-used.false)) (
-      c.lay_unused-else-used.ensures.0 ∙ sym (add-zero a.next),
-      c.lay_unused-else-used.ensures.1
+    rw (entry-off t k a.position c.in-Some.seat.at (sym c.seat_of.ensures
+    ∙ ap (as_seat (layout_of k)) c.in-Some.is
+    ∙ ap (seat (layout_of k) c.in-Some.seat.at) c.if-seat.false)) (
+      c.lay_unused-else-seat.ensures.0 ∙ sym (add-zero a.next),
+      c.lay_unused-else-seat.ensures.1
           ∙ splice-none (splice a.out.now a.place (replicate (base_of (layout_of k)) 0)) a.next,
     )

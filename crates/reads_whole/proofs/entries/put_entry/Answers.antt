@@ -11,45 +11,45 @@ use native.Mathlib.Omega.{arith}
 use Prim.Native.Nat.{ℕ}
 use mathlib.Core.List.{List}
 use mathlib.Core.Path.{sym, ap, ◌∙◌}
-use Rattle.reads_whole.proofs.entries.put_entry.Goals.{In-At}
+use Rattle.reads_whole.proofs.entries.put_entry.Goals.{In-Some}
 use Rattle.reads_whole.proofs.entries.put_entry.Goals as goal
 
 -- the record that was found stands in the table
-seated : (c : In-At) →
-    Seated c.args.t.now (layout_of c.args.kind) c.in-At.at
-    c.in-At.used
+seated : (c : In-Some) →
+    Seated c.args.t.now (layout_of c.args.kind) c.in-Some.seat.at
+    c.in-Some.seat.used
 seated c =
     let a = c.args in
-    seated-at a.t.now c.requires.0 a.kind a.position c.in-At.at
-    c.in-At.used
-    (sym c.seat_of.ensures ∙ ap (as_seat (layout_of a.kind)) c.in-At.is)
+    seated-at a.t.now c.requires.0 a.kind a.position c.in-Some.seat.at
+    c.in-Some.seat.used
+    (sym c.seat_of.ensures ∙ ap (as_seat (layout_of a.kind)) c.in-Some.is)
 
 pub record_at-requires : goal.record_at-requires
 record_at-requires c = (
   c.requires.0,
-  standing c.args.t.now (layout_of c.args.kind) c.in-At.at c.in-At.used
-      (seated (goal.at.record_at-requires c).In-At),
+  standing c.args.t.now (layout_of c.args.kind) c.in-Some.seat.at c.in-Some.seat.used
+      (seated (goal.at.record_at-requires c).In-Some),
 )
 
 pub put_found-requires : goal.put_found-requires
 put_found-requires c =
     let a = c.args in (
       c.requires.1,
-      omega (arith, ap length c.record_at.ensures, own-long a.kind a.t.now c.in-At.at (seated (goal.at.put_found-requires c).In-At).within),
+      omega (arith, ap length c.record_at.ensures, own-long a.kind a.t.now c.in-Some.seat.at (seated (goal.at.put_found-requires c).In-Some).within),
     )
 
-pub returns-in-Nowhere : goal.returns-in-Nowhere
+pub returns-in-None : goal.returns-in-None
 unfolding entry_at
-returns-in-Nowhere c =
-    rw (← c.seat_of.ensures, c.in-Nowhere.is) c.put_none.ensures
+returns-in-None c =
+    rw (← c.seat_of.ensures, c.in-None.is) c.put_none.ensures
 
-pub returns-in-At : goal.returns-in-At
+pub returns-in-Some : goal.returns-in-Some
 unfolding entry_at
-returns-in-At c =
+returns-in-Some c =
     let a = c.args in
-    let at = c.in-At.at in
-    let used = c.in-At.used in
-    rw (← c.seat_of.ensures, c.in-At.is) (c.put_found.ensures
+    let at = c.in-Some.seat.at in
+    let used = c.in-Some.seat.used in
+    rw (← c.seat_of.ensures, c.in-Some.is) (c.put_found.ensures
     ∙ ap (λ (x : List ℕ). entry_of x a.kind a.position (seat (layout_of a.kind) 0 used))
     c.record_at.ensures
     ∙ entry-own a.kind a.t.now at a.position used)

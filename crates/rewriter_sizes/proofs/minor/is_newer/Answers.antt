@@ -12,16 +12,16 @@ use Rattle.rewriter_sizes.proofs.minor.is_newer.Goals as goal
 pub info_version-requires : goal.info_version-requires
 info_version-requires c =
     let t = c.args.t.now in
-    let stands : seat_of t 7 c.args.position ≡ seat (layout_of 7) c.in-At.at c.in-At.used = sym c.seat_of.ensures ∙ ap (as_seat (layout_of 7)) c.in-At.is in
-    (c.requires, standing t (layout_of 7) c.in-At.at c.in-At.used (seated-at t c.requires 7 c.args.position c.in-At.at c.in-At.used stands))
+    let stands : seat_of t 7 c.args.position ≡ seat (layout_of 7) c.in-Some.seat.at c.in-Some.seat.used = sym c.seat_of.ensures ∙ ap (as_seat (layout_of 7)) c.in-Some.is in
+    (c.requires, standing t (layout_of 7) c.in-Some.seat.at c.in-Some.seat.used (seated-at t c.requires 7 c.args.position c.in-Some.seat.at c.in-Some.seat.used stands))
 
-pub returns-in-Nowhere : goal.returns-in-Nowhere
-returns-in-Nowhere c =
+pub returns-in-None : goal.returns-in-None
+returns-in-None c =
     let t = c.args.t.now in
-    sym (newer-is t c.requires c.args.position ∙ ap (newer_at t) (sym c.seat_of.ensures ∙ ap (as_seat (layout_of 7)) c.in-Nowhere.is))
+    sym (newer-is t c.requires c.args.position ∙ ap (newer_at t) (sym c.seat_of.ensures ∙ ap (as_seat (layout_of 7)) c.in-None.is))
 
-pub returns-in-At : goal.returns-in-At
-returns-in-At c =
+pub returns-in-Some : goal.returns-in-Some
+returns-in-Some c =
     let t = c.args.t.now in
-    let stands : seat_of t 7 c.args.position ≡ seat (layout_of 7) c.in-At.at c.in-At.used = sym c.seat_of.ensures ∙ ap (as_seat (layout_of 7)) c.in-At.is in
+    let stands : seat_of t 7 c.args.position ≡ seat (layout_of 7) c.in-Some.seat.at c.in-Some.seat.used = sym c.seat_of.ensures ∙ ap (as_seat (layout_of 7)) c.in-Some.is in
     ap (λ (n : ℕ). eqb n 2) c.info_version.ensures ∙ sym (newer-is t c.requires c.args.position ∙ ap (newer_at t) stands)

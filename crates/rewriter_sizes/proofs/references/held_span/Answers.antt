@@ -2,6 +2,7 @@ use mathlib.Core.Path.{refl, sym, ap, ◌∙◌}
 use native.Mathlib.Omega.{arith}
 use lib.Dec.{lit≤}
 use Rattle.table.specs.FixedLayouts.{layout_of, hfi, ssns, extended}
+use Rattle.std.specs.Prelude.{Option}
 use Rattle.reads_seats.specs.declared.seats.Seat.{Seat}
 use Rattle.reads_seats.proofs.SeatLaws.{record-held}
 use Rattle.rewriter_sizes.specs.Parts.{record_part, spans_over}
@@ -38,7 +39,7 @@ returns-in-3 c =
     let o = c.info_span.ensures in
     rw c.in-3.is (
       o.0
-          ∙ ap (λ (w : Seat). (record_part a.t.now 7 w).span) c.heap_record.ensures
+          ∙ ap (λ (w : Option Seat). (record_part a.t.now 7 w).span) c.heap_record.ensures
           ∙ sym (spans-held a.t.now p.0 3 a.at p.1 16 refl),
       o.1,
     )
@@ -51,7 +52,7 @@ returns-in-4 c =
     let o = c.flat_span.ensures in
     rw c.in-4.is (
       o.0
-          ∙ ap (λ (w : Seat). (record_part a.t.now 9 w).span) c.heap_record-in-4.ensures
+          ∙ ap (λ (w : Option Seat). (record_part a.t.now 9 w).span) c.heap_record-in-4.ensures
           ∙ sym (spans-held a.t.now p.0 4 a.at p.1 60 refl),
       omega (arith, o.1),
     )

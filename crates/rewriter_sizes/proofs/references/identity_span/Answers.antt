@@ -1,5 +1,6 @@
 use mathlib.Core.Path.{refl, sym, ap, ◌∙◌}
 use Rattle.table.specs.FixedLayouts.{layout_of, info, hfi_extended}
+use Rattle.std.specs.Prelude.{Option}
 use Rattle.reads_seats.specs.declared.seats.Seat.{Seat}
 use Rattle.reads_seats.proofs.SeatLaws.{record-held}
 use Rattle.rewriter_sizes.specs.Parts.{record_part}
@@ -18,7 +19,7 @@ returns c =
     let a = c.args in
     let o = c.flat_span.ensures in (
       o.0
-          ∙ ap (λ (w : Seat). (record_part a.t.now 10 w).span) c.heap_record.ensures
+          ∙ ap (λ (w : Option Seat). (record_part a.t.now 10 w).span) c.heap_record.ensures
           ∙ sym (spans-held a.t.now c.requires.0 7 a.at c.requires.1 110 refl),
       o.1,
     )
