@@ -34,8 +34,5 @@ pub fn judged(state: State, kind: u8, told: &[u8], own: u8, objects: u8) -> Answ
 pub fn refused(answer: Answer, state: State) -> Step
     ensures { (result.answer ≡ answer) × (result.state ≡ state) }
 {
-    Step {
-        answer,
-        state,
-    }
+    Step { answer, state }
 }

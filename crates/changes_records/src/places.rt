@@ -24,10 +24,7 @@ pub struct Walk {
 fn walk_of(list: u8, position: usize) -> Walk
     ensures { result ≡ walk list position }
 {
-    Walk {
-        list,
-        position,
-    }
+    Walk { list, position }
 }
 
 pub fn first() -> Walk

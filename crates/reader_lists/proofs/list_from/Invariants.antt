@@ -9,7 +9,7 @@ abbrev pub invariant-loop-i : goal.invariant-loop-i
 invariant-loop-i l =
     (l.base ≡ l.at + l.i * l.step)
     × (list_from l.kind (region l.heap.from (length l.heap.bytes.now)) l.t l.step (l.i + 1) l.base (l.count - l.i)
-        ≡ list_from l.kind (region l.heap.from (length l.heap.bytes.now)) l.t l.step 1 l.at l.count)
+    ≡ list_from l.kind (region l.heap.from (length l.heap.bytes.now)) l.t l.step 1 l.at l.count)
     × (l.looks + from_looks l.kind (region l.heap.from (length l.heap.bytes.now)) l.t l.step (l.i + 1) l.base (l.count - l.i)
-        ≡ from_looks l.kind (region l.heap.from (length l.heap.bytes.now)) l.t l.step 1 l.at l.count)
+    ≡ from_looks l.kind (region l.heap.from (length l.heap.bytes.now)) l.t l.step 1 l.at l.count)
     × (l.looks ≤ l.i * 8589934596)
