@@ -26,6 +26,7 @@ pub fn mark_sites(t: &[u8], map: &mut [u8])
 {
     let start = bytes_wire::u32_at(t, 36);
     let mut w = first();
+    // From state to state: no index is counted.
     while w.list != END {
         let s = step(t, w);
         mark_found(map, s.named, start);

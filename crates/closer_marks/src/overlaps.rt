@@ -68,6 +68,7 @@ pub fn is_overlapped(t: &[u8]) -> bool
 {
     let mut w = first();
     let mut i: usize = 0;
+    // From state to state; `i` is how many steps lie behind.
     while w.list != END {
         let s = step(t, w);
         if is_shared(t, s.named, i, s.walk) {

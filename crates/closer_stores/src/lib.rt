@@ -31,6 +31,7 @@ pub fn store_sites(t: &mut [u8], map: &[u8])
 {
     let start = bytes_wire::u32_at(t, 36);
     let mut w = first();
+    // From state to state: no index is counted.
     while w.list != END {
         let s = step(t, w);
         w = s.walk;

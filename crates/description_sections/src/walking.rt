@@ -19,16 +19,7 @@ impl Walk {
     fn start() -> Walk {
         Walk {
             line: 1,
-            state: State {
-                turn: 0,
-                position: 0,
-                hfi: 0,
-                ssns: 0,
-                security: 0,
-                discovery: 0,
-                used: 0,
-                minor: 0,
-            },
+            state: State::EMPTY,
             draft: None,
         }
     }

@@ -32,6 +32,7 @@ fn print_changes(t: &[u8], u: &[u8])
 {
     let mut out = io::large_buffer();
     let mut w = first();
+    // From state to state: no index is counted.
     while w.list != END {
         let n = lines_at(t, u, w, &mut out);
         tool::print_bytes(&out[..n]);
