@@ -81,11 +81,13 @@ test: proofs
 proofs:
 	@.ci/proofs $(PROOFS)
 
-# What `rt ci` has just built: the programs, and the library made of what it left.
+# What `rt ci` has just built: the programs, and the library made of what it left, which asks for no name but those that nbft.h tells of.
 built:
 	@mkdir -p target/bin target/staticlib
 	.ci/library
 	@install -m 644 crates/nbft/out/libnbft.a target/staticlib
+	@asked=$$(nm -u target/staticlib/libnbft.a | awk '$$1 == "U" && $$2 != "memset" && $$2 != "memcpy" { print $$2 }'); \
+	    [ -z "$$asked" ] || { echo "libnbft.a asks for names that nbft.h does not tell of:" $$asked >&2; exit 1; }
 	@for each in $(PROGRAMS); do install crates/$$each/out/$$each target/bin || exit 1; done
 
 # Each target prints when it is done, so that its lines stay together.

@@ -42,12 +42,14 @@ pub fn put_ref(part: &mut [u8], at: usize, target: usize, len: usize)
     put_u16(part, at + 4, len);
 }
 
-// Compiles to one copy of memory.
+// By an index: `copy_from_slice` compiles to a call of `memmove`, which firmware that links the library need not have.
 pub fn copy_into(out: &mut [u8], at: usize, src: &[u8])
     requires { at + length src.now ≤ length out.old }
     ensures { out.new ≡ splice out.old at src.now }
 {
-    out[at..at + src.len()].copy_from_slice(src);
+    for i in 0..src.len() {
+        out[at + i] = src[i];
+    }
 }
 
 // Compiles to one fill of memory.
