@@ -11,7 +11,7 @@ ghost use Rattle.reader_heap_records.specs.HeapRecords.{sound_by, info_right, id
 use layout_fields::texts::holds_text;
 use layout_kinds::TCP;
 use layout_needs::{identity_need, plain_need};
-use reader_references::{Heap, part_at, plain_fault, text_fault};
+use reader_references::{Heap, part_at, text_fault};
 use table::{Extended, HfiExtended, Info, Need};
 
 // Valid, with the right ID, version, type and index, by what was read, and what else its kind asks for. For a kind without type the right one is
@@ -90,7 +90,7 @@ fn own_ref(x: &[u8], kind: u8, off: usize, heap: Heap<'_>) -> u8
     if holds_text(kind, off) {
         return text_fault(x, off, need, heap);
     }
-    plain_fault(x, off, need, heap)
+    heap.plain_fault(x, off, need)
 }
 
 // The first fault of its references, by ascending field offset.
@@ -141,7 +141,7 @@ fn identity_ref(x: &[u8], position: usize, heap: Heap<'_>) -> u8
     if x[3] != 2 {
         return 0;
     }
-    let fault = plain_fault(x, 110, Need::Optional, heap);
+    let fault = heap.plain_fault(x, 110, Need::Optional);
     if fault != 0 {
         return fault;
     }
@@ -164,7 +164,7 @@ fn info_ref(x: &[u8], position: usize, off: usize, heap: Heap<'_>) -> u8
     if holds_text(Info::ID, off) {
         return text_fault(x, off, need, heap);
     }
-    plain_fault(x, off, need, heap)
+    heap.plain_fault(x, off, need)
 }
 
 // The first fault of them, by ascending field offset.

@@ -53,6 +53,10 @@ pub ref-in : (from n off len : ℕ) → (off ≡ 0 → ⊥) → (len ≡ 0 → �
 unfolding ref_of
 ref-in from n off len x y l h = rw (ne_eqb off 0 x, ne_eqb len 0 y, le-leb from off l, le-leb (off + len) (from + n) h)
 
+-- what is judged by where the heap lies is judged by the heap
+pub of-bounds : (f g n m off len : ℕ) (r : Ref) → f ≡ g → n ≡ m → r ≡ ref_of (region f n) off len → r ≡ ref_of (region g m) off len
+of-bounds f g n m off len r e h k = k ∙ rw (e, h) refl
+
 -- ---- what a reference is
 
 pub ref-part : (heap : Region) (off len at n : ℕ) → ref_of heap off len ≡ Part at n → (reaches heap off len ≡ true) × (at ≡ off) × (n ≡ len)

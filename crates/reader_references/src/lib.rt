@@ -11,6 +11,23 @@ use bytes_positions::are_positions;
 use bytes_text::is_text;
 use table::Need;
 
+// Where the heap lies in the table: to judge a reference its bytes need not be there. No sum with its end wraps.
+#[derive(Clone, Copy)]
+pub struct Bounds {
+    pub from: usize,
+    pub len: usize,
+    pub ghost fits: { from + len < 8589934592 },
+}
+
+impl Bounds {
+    // Where it ends in the table.
+    fn end(self) -> usize
+        ensures { result ≡ self.from + self.len }
+    {
+        self.from + self.len
+    }
+}
+
 // The heap, lent as the part of the table that it is, and where it starts there. No sum with its end wraps.
 #[derive(Clone, Copy)]
 pub struct Heap<'a> {
@@ -20,11 +37,14 @@ pub struct Heap<'a> {
 }
 
 impl<'a> Heap<'a> {
-    // Where it ends in the table.
-    fn end(self) -> usize
-        ensures { result ≡ self.entry.from + length self.entry.bytes.now }
+    // Where it lies, without its bytes.
+    fn bounds(self) -> Bounds
+        ensures { (result.from ≡ self.entry.from) × (result.len ≡ length self.entry.bytes.now) }
     {
-        self.from + self.bytes.len()
+        Bounds {
+            from: self.from,
+            len: self.bytes.len(),
+        }
     }
 
     // The `len` bytes of it that stand at `at` in the table.
@@ -35,6 +55,14 @@ impl<'a> Heap<'a> {
         let start = at - self.from;
         let end = start + len;
         &self.bytes[start..end]
+    }
+
+    // The reference at `r` to an object of plain bytes in it, under a need.
+    pub fn plain_fault(self, t: &[u8], r: usize, need: Need) -> u8
+        requires { r + 6 ≤ length t.now }
+        ensures { result ≡ ref_rule (region self.entry.from (length self.entry.bytes.now)) need (reference_at t.now r).at (reference_at t.now r).len }
+    {
+        plain_fault(t, r, need, self.bounds())
     }
 }
 
@@ -48,9 +76,9 @@ pub enum Ref {
 
 // By its two halves: both zero, one zero, or an object that lies wholly in the heap or not. No sum wraps.
 #[tactic(auto, using(table::proofs::Rules::picks), unfolding(crate::specs::References::ref_of))]
-pub fn ref_of(off: usize, len: usize, heap: Heap<'_>) -> Ref
+pub fn ref_of(off: usize, len: usize, heap: Bounds) -> Ref
     requires { (off < 4294967296) × (len < 65536) }
-    ensures { result ≡ ref_of (region heap.entry.from (length heap.entry.bytes.now)) off len }
+    ensures { result ≡ ref_of (region heap.from heap.len) off len }
 {
     if off == 0 && len == 0 {
         Ref::Absent
@@ -62,9 +90,9 @@ pub fn ref_of(off: usize, len: usize, heap: Heap<'_>) -> Ref
 }
 
 // The reference that stands at `r`.
-pub fn ref_at(t: &[u8], r: usize, heap: Heap<'_>) -> Ref
+pub fn ref_at(t: &[u8], r: usize, heap: Bounds) -> Ref
     requires { r + 6 ≤ length t.now }
-    ensures { result ≡ ref_of (region heap.entry.from (length heap.entry.bytes.now)) (reference_at t.now r).at (reference_at t.now r).len }
+    ensures { result ≡ ref_of (region heap.from heap.len) (reference_at t.now r).at (reference_at t.now r).len }
 {
     let x = bytes_wire::reference_at(t, r);
     ref_of(x.at, x.len, heap)
@@ -75,7 +103,7 @@ pub fn part_at<'a>(t: &[u8], r: usize, heap: Heap<'a>) -> &'a [u8]
     requires { r + 6 ≤ length t.now }
     ensures { result.now ≡ part_in heap.entry.bytes.now heap.entry.from (reference_at t.now r).at (reference_at t.now r).len }
 {
-    match ref_at(t, r, heap) {
+    match ref_at(t, r, heap.bounds()) {
         Ref::Part { at, len } => heap.part(at, len),
         _ => &heap.bytes[..0],
     }
@@ -92,10 +120,10 @@ pub fn ref_number(need: Need, r: Ref) -> u8
     }
 }
 
-// The reference at `r` to an object of plain bytes, under a need.
-pub fn plain_fault(t: &[u8], r: usize, need: Need, heap: Heap<'_>) -> u8
+// The reference at `r` to an object of plain bytes, under a need, by where the heap lies.
+pub fn plain_fault(t: &[u8], r: usize, need: Need, heap: Bounds) -> u8
     requires { r + 6 ≤ length t.now }
-    ensures { result ≡ ref_rule (region heap.entry.from (length heap.entry.bytes.now)) need (reference_at t.now r).at (reference_at t.now r).len }
+    ensures { result ≡ ref_rule (region heap.from heap.len) need (reference_at t.now r).at (reference_at t.now r).len }
 {
     ref_number(need, ref_at(t, r, heap))
 }
@@ -113,7 +141,7 @@ pub fn text_fault(t: &[u8], r: usize, need: Need, heap: Heap<'_>) -> u8
     requires { r + 6 ≤ length t.now }
     ensures { result ≡ object_rule need true heap.entry.bytes.now heap.entry.from (reference_at t.now r) }
 {
-    match (need, ref_at(t, r, heap)) {
+    match (need, ref_at(t, r, heap.bounds())) {
         (Need::Ignored, _) => 0,
         (_, Ref::Part { at, len }) => text_number(heap, at, len),
         (_, missing) => ref_number(need, missing),
@@ -137,7 +165,7 @@ pub fn positions_fault(t: &[u8], r: usize, most: usize, heap: Heap<'_>) -> u8
     requires { r + 6 ≤ length t.now }
     ensures { result ≡ asked_rule Need.Optional (positions_rule most) heap.entry.bytes.now heap.entry.from (reference_at t.now r) }
 {
-    match ref_at(t, r, heap) {
+    match ref_at(t, r, heap.bounds()) {
         Ref::Part { at, len } => positions_number(heap, at, len, most),
         missing => ref_number(Need::Optional, missing),
     }

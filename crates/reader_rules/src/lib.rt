@@ -14,7 +14,7 @@ use bytes_wire::wide;
 use layout_fields::texts::holds_text;
 use layout_flags::ssns_flags;
 use layout_needs::{plain_need, security_need, ssns_need};
-use reader_references::{Heap, part_at, plain_fault, positions_fault, text_fault};
+use reader_references::{Heap, part_at, positions_fault, text_fault};
 use table::{Control, Discovery, Hfi, Host, Need, Security, Ssns};
 
 // The heap record that the reference names is handed on as the part of the heap that it is. It is required: none is a fault.
@@ -76,7 +76,7 @@ fn ssns_ref(t: &[u8], a: usize, position: usize, off: usize, heap: Heap<'_>) -> 
     if holds_text(Ssns::ID, off) {
         return text_fault(t, a + off, need, heap);
     }
-    plain_fault(t, a + off, need, heap)
+    heap.plain_fault(t, a + off, need)
 }
 
 // The reference at a field offset of the record at `a`, with its heap record and that one's own reference: 0, 11, 12, 18 or 20.
@@ -87,10 +87,10 @@ pub fn ref_fault(t: &[u8], kind: u8, a: usize, position: usize, off: usize, heap
     match kind {
         Hfi::ID => hfi_ref(t, a, position, off, heap),
         Ssns::ID => ssns_ref(t, a, position, off, heap),
-        Security::ID => plain_fault(t, a + off, security_need(t, a, off), heap),
+        Security::ID => heap.plain_fault(t, a + off, security_need(t, a, off)),
         // All that a host or a discovery controller names is text.
         Host::ID => text_fault(t, a + off, plain_need(Host::ID, off), heap),
         Discovery::ID => text_fault(t, a + off, plain_need(Discovery::ID, off), heap),
-        _ => plain_fault(t, a + off, plain_need(kind, off), heap),
+        _ => heap.plain_fault(t, a + off, plain_need(kind, off)),
     }
 }

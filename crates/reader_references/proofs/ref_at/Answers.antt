@@ -1,5 +1,4 @@
 use Rattle.reader_references.specs.References.{ref_of}
-use lib.ListN.{length}
 use Rattle.table.specs.Layout.{region}
 use Rattle.table.specs.declared.Region.{Region}
 use mathlib.Core.Path.{ap, ◌∙◌}
@@ -8,5 +7,5 @@ use Rattle.reader_references.proofs.ref_at.Goals as goal
 pub returns : goal.returns
 returns c =
     c.ref_of.ensures
-    ∙ ap (λ (x : Region). ref_of (region c.args.heap.from (length c.args.heap.bytes.now)) x.at x.len)
+    ∙ ap (λ (x : Region). ref_of (region c.args.heap.from c.args.heap.len) x.at x.len)
     c.reference_at-x.ensures.0
