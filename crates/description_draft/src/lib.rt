@@ -4,7 +4,7 @@
 pub mod lines; // lines, words and sections
 pub mod wrongs; // what may be wrong with a description
 
-ghost use Rattle.std.specs.Prelude.{◌<◌, ◌≤◌, length, IfSome};
+ghost use Rattle.std.specs.Prelude.{◌≡◌, ◌<◌, ◌≤◌, length, IfSome, IfErr};
 ghost use Rattle.description_words.specs.Placed.{Placed};
 
 use crate::lines::Section;
@@ -74,9 +74,10 @@ impl Draft {
         }
     }
 
-    // A value fills its field; a text alone may leave the end zero, as it was.
+    // A value fills its field; a text alone may leave the end zero. It is read into a cell, so that a wrong one leaves the draft as it was.
     fn tell_field(&mut self, place: Place, value: &[u8]) -> Result<(), Wrong>
         requires { Placed place }
+        ensures { IfErr result (λ _. self.new ≡ self.old) }
     {
         let Place {
             form,
@@ -84,9 +85,12 @@ impl Draft {
             width,
             ..
         } = place;
-        let len = value_into(form, value, &mut self.fields[at..at + width]);
-        match len {
-            Some(len) if len == width || form == Form::Text => Ok(()),
+        let mut cell = [0; 16];
+        match value_into(form, value, &mut cell[..width]) {
+            Some(len) if len == width || form == Form::Text => {
+                self.fields[at..at + width].copy_from_slice(&cell[..width]);
+                Ok(())
+            }
             _ => Err(Wrong::Value(form)),
         }
     }
@@ -94,6 +98,7 @@ impl Draft {
     // It goes behind the objects that were told before, if the room has place for it.
     fn tell_object(&mut self, place: Place, value: &[u8], room: &mut [u8]) -> Result<(), Wrong>
         requires { Placed place }
+        ensures { IfErr result (λ _. self.new ≡ self.old) }
     {
         let wrong = Wrong::Value(place.form);
         let start = self.taken;
@@ -104,14 +109,16 @@ impl Draft {
         Ok(())
     }
 
-    // One line more.
+    // One line more. A wrong one says nothing: the draft is as it was.
     pub fn tell(
         &mut self,
         word: &[u8],
         value: &[u8],
         line: usize,
         room: &mut [u8],
-    ) -> Result<(), Wrong> {
+    ) -> Result<(), Wrong>
+        ensures { IfErr result (λ _. self.new ≡ self.old) }
+    {
         let place = place_of(self.kind, word).ok_or(Wrong::NoField)?;
         if value.is_empty() {
             return Err(Wrong::NoValue);
