@@ -4,7 +4,7 @@
 
 pub mod decimals; // numbers
 
-ghost use Rattle.std.specs.Prelude.{◌≡◌, [], ◌∷◌, ◌++◌, ◌+◌, ◌<◌, ◌≤◌, List, ℕ, length, take};
+ghost use Rattle.std.specs.Prelude.{◌≡◌, [], ◌∷◌, ◌++◌, ◌+◌, ◌<◌, ◌≤◌, length};
 
 pub use decimals::{decimal, numbers_line, signed_decimal};
 use std::marker::Model;
@@ -13,18 +13,29 @@ use std::marker::Model;
 const ROOM: usize = 128;
 
 // A text in memory of its own, since nothing here allocates. Contracts see its bytes.
-#[derive(Drop)]
+#[derive(Clone, Copy)]
 pub struct Text {
     bytes: [u8; ROOM],
     len: usize,
 }
 
 impl Model for Text {
+    ghost use Rattle.std.specs.Prelude.{◌≡◌, ◌-◌, ◌≤◌, List, ℕ, length, take, drop, replicate};
+    ghost use Rattle.text.specs.Room.{filled, filled-front, length-front};
+
     ghost Value = { List ℕ };
 
     ghost view = { λ t. take t.len t.bytes };
 
-    ghost invariant = { λ t. t.len ≤ 128 };
+    // Zeros behind the text, so that its bytes alone give the fields back, as `Copy` asks for.
+    ghost invariant = { λ t. (t.len ≤ 128) × (length t.bytes ≡ 128) × (drop t.len t.bytes ≡ replicate (128 - t.len) 0) };
+
+    ghost inverse = { λ d. record { bytes = filled d; len = length d } };
+
+    ghost inverse_ok = { λ t h i. record {
+      bytes = filled-front t.len t.bytes h.0 h.1 h.2 i;
+      len = length-front t.len t.bytes h.0 h.1 i;
+    } };
 }
 
 impl Text {
