@@ -36,7 +36,7 @@ quoted-other HfiCount _ _ _ _ _ _ _ _ _ other = absurd (other refl)
 quoted-other f _ _ _ _ _ _ _ _ _ _ = refl
 
 pub quoted-number : (f : Form)
-    → ((f ≡ Position) ⊎ ((f ≡ Number) ⊎ ((f ≡ Signed) ⊎ ((f ≡ Flag) ⊎ ((f ≡ IsTwo) ⊎ ((f ≡ NumberIf) ⊎ ((f ≡ OrNull) ⊎ ((f ≡ OrOut) ⊎ ((f ≡ IfThere) ⊎ (f ≡ HfiCount))))))))))
+    → ((f ≡ Position) ⊎ ((f ≡ Number) ⊎ ((f ≡ Signed) ⊎ ((f ≡ Flag) ⊎ ((f ≡ IsTwo) ⊎ ((f ≡ NumberIf) ⊎ ((f ≡ OrNull) ⊎ ((f ≡ OrOut) ⊎ (f ≡ IfThere)))))))))
     → quoted f ≡ false
 unfolding quoted
 quoted-number f (inl e) = ap quoted e
@@ -47,8 +47,7 @@ quoted-number f (inr (inr (inr (inr (inl e))))) = ap quoted e
 quoted-number f (inr (inr (inr (inr (inr (inl e)))))) = ap quoted e
 quoted-number f (inr (inr (inr (inr (inr (inr (inl e))))))) = ap quoted e
 quoted-number f (inr (inr (inr (inr (inr (inr (inr (inl e)))))))) = ap quoted e
-quoted-number f (inr (inr (inr (inr (inr (inr (inr (inr (inl e))))))))) = ap quoted e
-quoted-number f (inr (inr (inr (inr (inr (inr (inr (inr (inr e))))))))) = ap quoted e
+quoted-number f (inr (inr (inr (inr (inr (inr (inr (inr e)))))))) = ap quoted e
 
 pub field_text-other : (f : Form) (w : ℕ) (x y : List ℕ)
     → (f ≡ Signed → ⊥) → (f ≡ Flag → ⊥) → (f ≡ IsTwo → ⊥) → (f ≡ Primary → ⊥) → (f ≡ Availability → ⊥) → (f ≡ Wanted → ⊥) → (f ≡ Chosen → ⊥) → (f ≡ Transport → ⊥) → (f ≡ Uuid → ⊥) → (f ≡ Hex → ⊥)

@@ -7,19 +7,19 @@ use show_table::forms::Form;
 pub fn is_quoted(form: Form) -> bool
     ensures { result ≡ quoted form }
 {
-    !matches!(
-        form,
+    match form {
         Form::Position
-            | Form::Number
-            | Form::Signed
-            | Form::Flag
-            | Form::IsTwo
-            | Form::NumberIf
-            | Form::OrNull
-            | Form::OrOut
-            | Form::IfThere
-            | Form::HfiCount
-    )
+        | Form::Number
+        | Form::Signed
+        | Form::Flag
+        | Form::IsTwo
+        | Form::NumberIf
+        | Form::OrNull
+        | Form::OrOut
+        | Form::IfThere => false,
+        Form::HfiCount => false,
+        _ => true,
+    }
 }
 
 // Whether a number is the type of a namespace identifier that has a name.

@@ -1,17 +1,16 @@
-use mathlib.Core.Path.{ap, sym, ◌∙◌}
-use mathlib.Core.Bool.{not}
+use Rattle.show_values.specs.Values.{quoted}
+use mathlib.Core.Path.{refl, sym}
 use Rattle.show_values.proofs.FormLaws.{quoted-number, quoted-other}
 use Rattle.show_values.proofs.kinds.is_quoted.Goals as goal
-use Rattle.show_values.proofs.kinds.is_quoted.Goals.{in-Position, in_default}
 
-pub returns : goal.returns
-returns c =
-    let m = c.match-matches in
-    let f = c.args.form in
-    elim m.branch [
-      | in-Position w ↦ ap not w.matches-is ∙ sym (quoted-number f w.in-Position.is)
-      | in_default w ↦
-          let o = w.in_default in
-          ap not w.matches-is
-          ∙ sym (quoted-other f o.not-Position o.not-Number o.not-Signed o.not-Flag o.not-IsTwo o.not-NumberIf o.not-OrNull o.not-OrOut o.not-IfThere o.not-HfiCount)
-    ]
+pub returns-in-Position : goal.returns-in-Position
+returns-in-Position c = sym (quoted-number c.args.form c.in-Position.is)
+
+pub returns-in-HfiCount : goal.returns-in-HfiCount
+unfolding quoted
+returns-in-HfiCount c = rw c.in-HfiCount.is refl
+
+pub returns-in_default : goal.returns-in_default
+returns-in_default c =
+    let o = c.in_default in
+    sym (quoted-other c.args.form o.not-Position o.not-Number o.not-Signed o.not-Flag o.not-IsTwo o.not-NumberIf o.not-OrNull o.not-OrOut o.not-IfThere o.not-HfiCount)
