@@ -1,4 +1,7 @@
 // What may be wrong with a description, in words.
+ghost use Rattle.std.specs.Prelude.{◌≡◌};
+ghost use Rattle.description_draft.specs.Numbered.{wrong_of};
+
 use description_words::Form;
 use table::Answer;
 
@@ -31,6 +34,47 @@ impl Wrong {
     // The same as a fault of a line.
     pub fn at(self, line: usize) -> Fault {
         Fault { line, wrong: self }
+    }
+}
+
+// What is wrong, in the order of the numbers. That of a refusal says nothing of what the builder answered.
+static NUMBERED: [Wrong; 19] = [
+    Wrong::Value(Form::List),
+    Wrong::Value(Form::Number),
+    Wrong::Value(Form::Text),
+    Wrong::Value(Form::Digits),
+    Wrong::Value(Form::Interface),
+    Wrong::Value(Form::Function),
+    Wrong::Value(Form::Address),
+    Wrong::Value(Form::List),
+    Wrong::NoField,
+    Wrong::NoValue,
+    Wrong::NoSection,
+    Wrong::BeforeSections,
+    Wrong::ToldTwice,
+    Wrong::ToldUnused,
+    Wrong::NotCounted,
+    Wrong::OutOfTurn,
+    Wrong::TooMany,
+    Wrong::Refused(Answer {
+        number: 0,
+        kind: 0,
+        position: 0,
+    }),
+    Wrong::Incomplete,
+];
+
+// Who has the number of what is wrong gets its words too. A number that is none of theirs has the words of a list.
+impl From<u8> for Wrong {
+    ghost from_gives = { λ number wrong. wrong ≡ wrong_of number };
+
+    fn from(number: u8) -> Wrong
+        ensures { result ≡ wrong_of number }
+    {
+        if 19 <= number {
+            return Wrong::Value(Form::List);
+        }
+        NUMBERED[number as usize]
     }
 }
 

@@ -1,5 +1,6 @@
 // Bytes of any number, printed sixteen at a time. What is printed has its width returned, and where nothing is to be printed, the width alone.
-ghost use Rattle.std.specs.Prelude.{◌+◌, ◌≤◌, ◌<◌, length};
+ghost use Rattle.std.specs.Prelude.{◌≡◌, ◌+◌, ◌≤◌, ◌<◌, length};
+ghost use Rattle.show.specs.Numbered.{style_of};
 
 use text::Text;
 use tool::print;
@@ -10,6 +11,21 @@ pub enum Style {
     Digits,
     Characters,
     Quoted,
+}
+
+// The style of a number; what is none of theirs is the style of a JSON string.
+impl From<u8> for Style {
+    ghost from_gives = { λ number style. style ≡ style_of number };
+
+    fn from(number: u8) -> Style
+        ensures { result ≡ style_of number }
+    {
+        match number {
+            0 => Style::Digits,
+            1 => Style::Characters,
+            _ => Style::Quoted,
+        }
+    }
 }
 
 // No column is wider than a thousand; the sum stays far from its end.

@@ -1,3 +1,4 @@
 pub mod Shown
 pub mod Names
 pub mod Coverage
+pub mod Numbered

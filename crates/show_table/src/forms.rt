@@ -1,4 +1,6 @@
 // The ways in which a value is made from what a row reads, and where people see it. `Values` (show_values) says what each way gives.
+ghost use Rattle.std.specs.Prelude.{◌≡◌};
+ghost use Rattle.show_table.specs.Numbered.{form_of};
 
 #[derive(Clone, Copy, PartialEq, Eq)]
 pub enum Form {
@@ -76,6 +78,61 @@ pub enum Form {
     HfiCount,
     // the positions that an object lists
     Positions,
+}
+
+// The ways in the order of their numbers.
+static NUMBERED: [Form; 37] = [
+    Form::Nothing,
+    Form::Single,
+    Form::Listed,
+    Form::Unused,
+    Form::Position,
+    Form::Number,
+    Form::Signed,
+    Form::Flag,
+    Form::IsTwo,
+    Form::Primary,
+    Form::Availability,
+    Form::Wanted,
+    Form::Chosen,
+    Form::Transport,
+    Form::Uuid,
+    Form::Hex,
+    Form::Address,
+    Form::Server,
+    Form::Mac,
+    Form::ShortPci,
+    Form::Pci,
+    Form::NotIndicated,
+    Form::NidType,
+    Form::Nid,
+    Form::NumberIf,
+    Form::Name,
+    Form::OrNull,
+    Form::OrOut,
+    Form::IfThere,
+    Form::Text,
+    Form::BytesText,
+    Form::Reached,
+    Form::Service,
+    Form::Bytes,
+    Form::Hfis,
+    Form::HfiCount,
+    Form::Positions,
+];
+
+// Who has the number of a way gets the way. A number that is none of theirs reads nothing, and is printed as one that has no way of its own.
+impl From<u64> for Form {
+    ghost from_gives = { λ number form. form ≡ form_of number };
+
+    fn from(number: u64) -> Form
+        ensures { result ≡ form_of number }
+    {
+        if 37 <= number {
+            return Form::Nothing;
+        }
+        NUMBERED[number as usize]
+    }
 }
 
 #[derive(Clone, Copy, PartialEq, Eq)]
