@@ -57,11 +57,14 @@ fn all_outside(lo: usize, hi: usize, spans: &[Span]) -> usize
     count
 }
 
-// How many of the others share a byte with one of them.
+// How many of the others share a byte with one of them. A region that is none, as most lists are in a small table, is held to no other.
 fn overlaps_of(one: Span, others: &[Span]) -> usize
     requires { Ends one × All Ends others.now }
     ensures { (result ≡ overlaps_of one others.now) × (result ≤ length others.now) }
 {
+    if one.present == 0 {
+        return 0;
+    }
     let mut count = 0;
     for other in others {
         count += one_overlap(one, *other);
