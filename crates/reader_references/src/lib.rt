@@ -128,7 +128,8 @@ pub fn plain_fault(t: &[u8], r: usize, need: Need, heap: Bounds) -> u8
     ref_number(need, ref_at(t, r, heap))
 }
 
-// 0 or 18 by the `len` bytes that stand at `at`: text ends in its only zero byte.
+// 0 or 18 by the `len` bytes that stand at `at`: text ends in its only zero byte. The walk over blocks stands here, and not in what calls it.
+#[inline(never)]
 fn text_number(heap: Heap<'_>, at: usize, len: usize) -> u8
     requires { (heap.from ≤ at) × (at + len ≤ heap.from + length heap.bytes.now) }
     ensures { result ≡ pick (is_text (part heap.entry.bytes.now (at - heap.entry.from) len)) 0 18 }
