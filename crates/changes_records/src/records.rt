@@ -79,6 +79,30 @@ pub fn put_text(out: &mut [u8], at: usize, text: &Text) -> usize
     end
 }
 
+// What begins at an offset, behind the first `at` bytes of `out`. At most offsets nothing does, and no text is made for these.
+fn put_offset(
+    t: &[u8],
+    u: &[u8],
+    kind: u8,
+    position: usize,
+    offset: usize,
+    one: &[u8],
+    other: &[u8],
+    out: &mut [u8],
+    at: usize,
+) -> usize
+    requires { Accepted t.now × Accepted u.now × (position < 65536) × (offset < 256) × (base_of (layout_of kind) ≤ length one.now) × (base_of (layout_of kind) ≤ length other.now) × (at + 128 ≤ length out.old) }
+    ensures { (at ≤ result) × (result ≤ at + 128) × (take result out.new ≡ take at out.old ++ texts_of (offset_lines kind position (layout_of kind).shape.fields one.now other.now (plain_lines t.now u.now kind position) offset)) × (length out.new ≡ length out.old) }
+{
+    let width = layout_fields::field_width(kind, offset);
+    let has_object = layout_fields::has_object(kind, offset);
+    if width == 0 && !has_object {
+        return at;
+    }
+    let text = offset_text(t, u, kind, position, offset, one, other);
+    put_text(out, at, &text)
+}
+
 // Fields and objects of two records by their images, behind the first `from` bytes of `out`.
 fn image_lines(
     t: &[u8],
@@ -95,8 +119,7 @@ fn image_lines(
 {
     let mut at = from;
     for offset in 0..one.len() {
-        let text = offset_text(t, u, kind, position, offset, one, other);
-        at = put_text(out, at, &text);
+        at = put_offset(t, u, kind, position, offset, one, other, out, at);
     }
     at
 }

@@ -12,25 +12,29 @@ use Rattle.changes_records.proofs.records.image_lines.Goals as goal
 pub loop-offset-init : goal.loop-offset-init
 loop-offset-init c = (omega arith, omega arith, sym (append-nil _), refl)
 
-pub offset_text-text-requires : goal.offset_text-text-requires
-offset_text-text-requires c =
+pub put_offset-at-requires : goal.put_offset-at-requires
+put_offset-at-requires c =
     let p = c.requires in
-    (p.0, p.1, p.2, omega (arith, c.loop-offset-test.true, p.3, base-most c.args.kind), omega (arith, p.3), omega (arith, p.4))
-
-pub put_text-at-requires : goal.put_text-at-requires
-put_text-at-requires c =
     let inv = c.loop-offset.invariant in
-    omega (arith, inv.1, inv.3, c.loop-offset-test.true, c.requires.3, c.requires.5, base-most c.args.kind)
+    let most = base-most c.args.kind in (
+      p.0,
+      p.1,
+      p.2,
+      omega (arith, c.loop-offset-test.true, p.3, most),
+      omega (arith, p.3),
+      omega (arith, p.4),
+      omega (arith, inv.1, inv.3, c.loop-offset-test.true, p.3, p.5, most),
+    )
 
 pub loop-offset-preserved : goal.loop-offset-preserved
 loop-offset-preserved c =
-    let put = c.put_text-at.ensures in
+    let put = c.put_offset-at.ensures in
     let a = c.args in
     let inv = c.loop-offset.invariant in
     let offsets = offset_lines a.kind a.position (layout_of a.kind).shape.fields a.one.now a.other.now (plain_lines a.t.now a.u.now a.kind a.position) in (
       omega (arith, inv.0, put.0),
       omega (arith, inv.1, put.1),
-      grown (take a.from a.out.now) offsets c.loop-offset.offset inv.2 c.offset_text-text.ensures put.2,
+      grown (take a.from a.out.now) offsets c.loop-offset.offset inv.2 refl put.2,
       put.3 ∙ inv.3,
     )
 
