@@ -86,7 +86,8 @@ built:
 	@mkdir -p target/bin target/staticlib
 	.ci/library
 	@install -m 644 crates/nbft/out/libnbft.a target/staticlib
-	@asked=$$(nm -u target/staticlib/libnbft.a | awk '$$1 == "U" && $$2 != "memset" && $$2 != "memcpy" { print $$2 }'); \
+	@names=$$(nm -u target/staticlib/libnbft.a) || exit 1; \
+	    asked=$$(echo "$$names" | awk '$$1 == "U" && $$2 != "memset" && $$2 != "memcpy" { print $$2 }'); \
 	    [ -z "$$asked" ] || { echo "libnbft.a asks for names that nbft.h does not tell of:" $$asked >&2; exit 1; }
 	@for each in $(PROGRAMS); do install crates/$$each/out/$$each target/bin || exit 1; done
 
