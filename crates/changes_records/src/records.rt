@@ -39,36 +39,6 @@ fn object_text(t: &[u8], u: &[u8], kind: u8, position: usize, offset: usize) -> 
     object_line(kind, position, offset, one.len(), other.len(), at)
 }
 
-// What begins at an offset of two records whose images are `one` and `other`: a field, an object, or nothing that is told here.
-fn offset_text(
-    t: &[u8],
-    u: &[u8],
-    kind: u8,
-    position: usize,
-    offset: usize,
-    one: &[u8],
-    other: &[u8],
-) -> Text
-    requires { Accepted t.now × Accepted u.now × (position < 65536) × (offset < 256) × (base_of (layout_of kind) ≤ length one.now) × (base_of (layout_of kind) ≤ length other.now) }
-    ensures { result ≡ texts_of (offset_lines kind position (layout_of kind).shape.fields one.now other.now (plain_lines t.now u.now kind position) offset) }
-{
-    let width = layout_fields::field_width(kind, offset);
-    if width != 0 {
-        let end = offset + width;
-        return field_text(
-            kind,
-            position,
-            offset,
-            &one[offset..end],
-            &other[offset..end],
-        );
-    }
-    if layout_fields::has_object(kind, offset) {
-        return object_text(t, u, kind, position, offset);
-    }
-    Text::new()
-}
-
 // A text behind the first `at` bytes of `out`; how many are then taken.
 pub fn put_text(out: &mut [u8], at: usize, text: &Text) -> usize
     requires { at + 128 ≤ length out.old }
@@ -79,7 +49,8 @@ pub fn put_text(out: &mut [u8], at: usize, text: &Text) -> usize
     end
 }
 
-// What begins at an offset, behind the first `at` bytes of `out`. At most offsets nothing does, and no text is made for these.
+// What begins at an offset of two records whose images are `one` and `other`, behind the first `at` bytes of `out`: a field, an object, or, at most
+// offsets, nothing that is told here; no text is made for these.
 fn put_offset(
     t: &[u8],
     u: &[u8],
@@ -95,12 +66,21 @@ fn put_offset(
     ensures { (at ≤ result) × (result ≤ at + 128) × (take result out.new ≡ take at out.old ++ texts_of (offset_lines kind position (layout_of kind).shape.fields one.now other.now (plain_lines t.now u.now kind position) offset)) × (length out.new ≡ length out.old) }
 {
     let width = layout_fields::field_width(kind, offset);
-    let has_object = layout_fields::has_object(kind, offset);
-    if width == 0 && !has_object {
-        return at;
+    if width != 0 {
+        let end = offset + width;
+        let text = field_text(
+            kind,
+            position,
+            offset,
+            &one[offset..end],
+            &other[offset..end],
+        );
+        return put_text(out, at, &text);
     }
-    let text = offset_text(t, u, kind, position, offset, one, other);
-    put_text(out, at, &text)
+    if layout_fields::has_object(kind, offset) {
+        return put_text(out, at, &object_text(t, u, kind, position, offset));
+    }
+    at
 }
 
 // Fields and objects of two records by their images, behind the first `from` bytes of `out`.

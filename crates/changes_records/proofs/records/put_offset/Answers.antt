@@ -1,6 +1,6 @@
 use mathlib.Core.Path.{◌≡◌, refl, sym, ap, ◌∙◌}
 use mathlib.Core.Bool.{Bool, true, false}
-use mathlib.Core.List.{List, []}
+use mathlib.Core.List.{List, [], ◌++◌, append-nil}
 use Prim.Native.Nat.{ℕ, ◌+◌, ◌-◌, ◌≤◌}
 use native.Mathlib.Omega.{arith}
 use lib.ListN.{take, drop, length-take}
@@ -14,8 +14,8 @@ use Rattle.reads_seats.specs.Objects.{object_in}
 use Rattle.reads_seats.proofs.ReadLaws.{width_fits}
 use Rattle.changes.specs.Changes.{field_line, object_line, offset_lines, texts_of}
 use Rattle.changes_records.specs.Told.{plain_lines}
-use Rattle.changes_records.proofs.records.offset_text.Goals.{After-field_width-width}
-use Rattle.changes_records.proofs.records.offset_text.Goals as goal
+use Rattle.changes_records.proofs.records.put_offset.Goals.{After-field_width-width}
+use Rattle.changes_records.proofs.records.put_offset.Goals as goal
 
 -- a field lies in the record, and is no longer than an address
 module _ (f : After-field_width-width) where
@@ -46,11 +46,11 @@ slice_bounds-field_text-end c = omega (arith, (within (goal.at.slice_bounds-fiel
 pub slice_bounds-field_text-end-then-width-ne0 : goal.slice_bounds-field_text-end-then-width-ne0
 slice_bounds-field_text-end-then-width-ne0 c = omega (arith, (within (goal.at.slice_bounds-field_text-end-then-width-ne0 c).After-field_width-width c.if-width-ne0.true).0, c.requires.5)
 
-pub field_text-requires : goal.field_text-requires
-field_text-requires c =
+pub field_text-text-requires : goal.field_text-text-requires
+field_text-text-requires c =
     let s = c in
     let a = s.args in
-    let w = (within (goal.at.field_text-requires c).After-field_width-width c.if-width-ne0.true).1 in
+    let w = (within (goal.at.field_text-text-requires c).After-field_width-width c.if-width-ne0.true).1 in
     let m : ℕ = a.offset + c.field_width-width.result - a.offset in (
       c.requires.2,
       c.requires.3,
@@ -66,21 +66,26 @@ returns-then-width-ne0 c =
     let x : List ℕ = a.one.now in
     let z : List ℕ = a.other.now in
     let w : ℕ = width_at a.offset (layout_of a.kind).shape.fields in
-    let e : a.offset + c.field_width-width.result - a.offset ≡ w = omega (arith, c.field_width-width.ensures) in
+    let m : a.offset + c.field_width-width.result - a.offset ≡ w = omega (arith, c.field_width-width.ensures) in
     let told = plain_lines t u a.kind a.position a.offset in
     let some : eqb w 0 ≡ false = ne_eqb w 0 (λ o. c.if-width-ne0.true (c.field_width-width.ensures ∙ o)) in
-    c.field_text.ensures
-    ∙ ap (λ (m : ℕ). texts_of (field_line a.kind a.position a.offset (take m (drop a.offset x)) (take m (drop a.offset z)))) e
-    ∙ ap (λ (b : Bool). texts_of (pick b told (field_line a.kind a.position a.offset (part x a.offset w) (part z a.offset w)))) (sym some)
+    let put = c.put_text.ensures in
+    let e = c.field_text-text.ensures
+    ∙ ap (λ (l : ℕ). texts_of (field_line a.kind a.position a.offset (take l (drop a.offset x)) (take l (drop a.offset z)))) m
+    ∙ ap (λ (b : Bool). texts_of (pick b told (field_line a.kind a.position a.offset (part x a.offset w) (part z a.offset w)))) (sym some) in
+    (omega (arith, put.0), put.1, put.2 ∙ ap (λ (y : List ℕ). take a.at a.out.now ++ y) e, put.3)
 
 pub returns-then-has_object : goal.returns-then-has_object
 returns-then-has_object c =
     let a = c.args in
+    let put = c.put_text-then-has_object.ensures in
     let has = sym c.has_object.ensures ∙ c.if-has_object.true in
-    c.object_text.ensures ∙ sym (told-object (goal.at.returns-then-has_object c).After-field_width-width c.if-width-ne0.false true has)
+    let e = c.object_text.ensures ∙ sym (told-object (goal.at.returns-then-has_object c).After-field_width-width c.if-width-ne0.false true has) in
+    (omega (arith, put.0), put.1, put.2 ∙ ap (λ (y : List ℕ). take a.at a.out.now ++ y) e, put.3)
 
 pub returns : goal.returns
 returns c =
     let a = c.args in
     let has = sym c.has_object.ensures ∙ c.if-has_object.false in
-    c.new.ensures ∙ sym (told-object (goal.at.returns c).After-field_width-width c.if-width-ne0.false false has)
+    let e = told-object (goal.at.returns c).After-field_width-width c.if-width-ne0.false false has in
+    (omega arith, omega arith, sym (append-nil _) ∙ ap (λ (y : List ℕ). take a.at a.out.now ++ y) (sym e), refl)
