@@ -35,19 +35,34 @@ quoted-other IfThere _ _ _ _ _ _ _ _ other _ = absurd (other refl)
 quoted-other HfiCount _ _ _ _ _ _ _ _ _ other = absurd (other refl)
 quoted-other f _ _ _ _ _ _ _ _ _ _ = refl
 
+-- eight ways whose values are numbers, before the rest P
+quoted-eight : {P : Type 0} (f : Form)
+    → ((f ≡ Position) ⊎ ((f ≡ Number) ⊎ ((f ≡ Signed) ⊎ ((f ≡ Flag) ⊎ ((f ≡ IsTwo) ⊎ ((f ≡ NumberIf) ⊎ ((f ≡ OrNull) ⊎ ((f ≡ OrOut) ⊎ P))))))))
+    → (P → quoted f ≡ false) → quoted f ≡ false
+unfolding quoted
+quoted-eight f (inl e) rest = ap quoted e
+quoted-eight f (inr (inl e)) rest = ap quoted e
+quoted-eight f (inr (inr (inl e))) rest = ap quoted e
+quoted-eight f (inr (inr (inr (inl e)))) rest = ap quoted e
+quoted-eight f (inr (inr (inr (inr (inl e))))) rest = ap quoted e
+quoted-eight f (inr (inr (inr (inr (inr (inl e)))))) rest = ap quoted e
+quoted-eight f (inr (inr (inr (inr (inr (inr (inl e))))))) rest = ap quoted e
+quoted-eight f (inr (inr (inr (inr (inr (inr (inr (inl e)))))))) rest = ap quoted e
+quoted-eight f (inr (inr (inr (inr (inr (inr (inr (inr p)))))))) rest = rest p
+
+-- numbers stand without quotation marks
 pub quoted-number : (f : Form)
+    → ((f ≡ Position) ⊎ ((f ≡ Number) ⊎ ((f ≡ Signed) ⊎ ((f ≡ Flag) ⊎ ((f ≡ IsTwo) ⊎ ((f ≡ NumberIf) ⊎ ((f ≡ OrNull) ⊎ ((f ≡ OrOut) ⊎ ((f ≡ IfThere) ⊎ (f ≡ HfiCount))))))))))
+    → quoted f ≡ false
+unfolding quoted
+quoted-number f among = quoted-eight f among (λ last. elim last [ inl e ↦ ap quoted e | inr e ↦ ap quoted e ])
+
+-- all of them but the count of HFIs
+pub quoted-uncounted : (f : Form)
     → ((f ≡ Position) ⊎ ((f ≡ Number) ⊎ ((f ≡ Signed) ⊎ ((f ≡ Flag) ⊎ ((f ≡ IsTwo) ⊎ ((f ≡ NumberIf) ⊎ ((f ≡ OrNull) ⊎ ((f ≡ OrOut) ⊎ (f ≡ IfThere)))))))))
     → quoted f ≡ false
 unfolding quoted
-quoted-number f (inl e) = ap quoted e
-quoted-number f (inr (inl e)) = ap quoted e
-quoted-number f (inr (inr (inl e))) = ap quoted e
-quoted-number f (inr (inr (inr (inl e)))) = ap quoted e
-quoted-number f (inr (inr (inr (inr (inl e))))) = ap quoted e
-quoted-number f (inr (inr (inr (inr (inr (inl e)))))) = ap quoted e
-quoted-number f (inr (inr (inr (inr (inr (inr (inl e))))))) = ap quoted e
-quoted-number f (inr (inr (inr (inr (inr (inr (inr (inl e)))))))) = ap quoted e
-quoted-number f (inr (inr (inr (inr (inr (inr (inr (inr e)))))))) = ap quoted e
+quoted-uncounted f among = quoted-eight f among (ap quoted)
 
 pub field_text-other : (f : Form) (w : ℕ) (x y : List ℕ)
     → (f ≡ Signed → ⊥) → (f ≡ Flag → ⊥) → (f ≡ IsTwo → ⊥) → (f ≡ Primary → ⊥) → (f ≡ Availability → ⊥) → (f ≡ Wanted → ⊥) → (f ≡ Chosen → ⊥) → (f ≡ Transport → ⊥) → (f ≡ Uuid → ⊥) → (f ≡ Hex → ⊥)

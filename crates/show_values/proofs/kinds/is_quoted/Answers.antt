@@ -1,10 +1,10 @@
 use Rattle.show_values.specs.Values.{quoted}
 use mathlib.Core.Path.{refl, sym}
-use Rattle.show_values.proofs.FormLaws.{quoted-number, quoted-other}
+use Rattle.show_values.proofs.FormLaws.{quoted-uncounted, quoted-other}
 use Rattle.show_values.proofs.kinds.is_quoted.Goals as goal
 
 pub returns-in-Position : goal.returns-in-Position
-returns-in-Position c = sym (quoted-number c.args.form c.in-Position.is)
+returns-in-Position c = sym (quoted-uncounted c.args.form c.in-Position.is)
 
 pub returns-in-HfiCount : goal.returns-in-HfiCount
 unfolding quoted
